@@ -1,0 +1,10 @@
+pub mod Sums
+pub mod Sorting
+pub mod Hypergraph
+pub mod Partition
+pub mod Cost
+pub mod LeastLoaded
+pub mod Moves
+pub mod Replay
+pub mod Contraction
+pub mod Placement
