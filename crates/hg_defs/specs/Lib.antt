@@ -7,4 +7,5 @@ pub mod LeastLoaded
 pub mod Moves
 pub mod Replay
 pub mod Contraction
+pub mod Clustering
 pub mod Placement
