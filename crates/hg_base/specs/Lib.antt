@@ -1,0 +1,1 @@
+pub use Rattle.hg_defs.specs.Hypergraph
