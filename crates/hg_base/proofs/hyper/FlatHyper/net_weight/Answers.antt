@@ -1,0 +1,21 @@
+use Rattle.std.proofs.Common.{◌∙◌, ap, sym, arith}
+use Rattle.std.proofs.lemmas.List.{get_or_read}
+use Rattle.hg_defs.specs.Hypergraph.{Net, Hyper}
+use Rattle.hg_base.proofs.FlatLaws.{below_nets, net_of-flat}
+use Rattle.hg_base.proofs.hyper.FlatHyper.net_weight.Goals as goal
+
+pub index-requires : goal.index-requires
+index-requires c =
+    let h = c.self.inside in
+    let is = ap (λ (x : Hyper). x.nets) c.self.view_is in
+    let below = below_nets c.args.self.now h.starts.items h.net_weights.items h.pins.items is c.args.e c.requires in
+    omega arith
+
+pub returns : goal.returns
+returns c =
+    let h = c.self.inside in
+    let x = c.args.self.now in
+    let is = ap (λ (x : Hyper). x.nets) c.self.view_is in
+    let below = below_nets x h.starts.items h.net_weights.items h.pins.items is c.args.e c.requires in
+    let net = net_of-flat x h.starts.items h.net_weights.items h.pins.items is c.args.e c.requires in
+    get_or_read h.net_weights.items _ _ below c.index.ensures 0 ∙ sym (ap (λ (n : Net). n.weight) net)

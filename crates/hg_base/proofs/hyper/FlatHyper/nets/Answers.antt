@@ -1,0 +1,17 @@
+use Rattle.std.proofs.Common.{arith, ap, ◌∙◌, ◌≤◌, ◌^◌, subst, sym, refl, ◌≡◌, length}
+use Rattle.hg_defs.specs.Hypergraph.{net_count}
+use Rattle.hg_base.proofs.FlatLaws.{length-nets_at}
+use Rattle.hg_base.proofs.hyper.FlatHyper.nets.Goals as goal
+
+pub overflow_cast-result : goal.overflow_cast-result
+overflow_cast-result c =
+    let h = c.self.inside in
+    let same = length-nets_at h.starts.items h.net_weights.items h.pins.items in
+    let most = c.self.invariant.1.bounds.nets in
+    omega arith
+
+pub returns : goal.returns
+returns c =
+    let h = c.self.inside in
+    let same = length-nets_at h.starts.items h.net_weights.items h.pins.items in
+    rw (← c.self.view_is) (omega arith)

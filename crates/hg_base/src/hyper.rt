@@ -1,0 +1,182 @@
+//! The hypergraph as flat arrays.
+
+ghost use Rattle.std.specs.Prelude.{◌≡◌, ℕ, ◌+◌, ◌*◌, ◌^◌, ◌<◌, ◌≤◌, [], ◌∷◌, ◌++◌, replicate, IsTrue, ◌↔◌, IfOk, OnOk, OnErr, slice_set};
+ghost use Rattle.hg_defs.specs.Hypergraph.{vertex_count, net_count, pin_count, weight_of, total_weight, net_of, fix_of, IsHypergraph, IsWithinLimits, IsFixedWithin, Suits};
+
+use hg_defs::{FREE, NoMemory, Objective};
+use std::alloc::Global;
+use std::marker::Model;
+
+/// The greatest number of counts that the blocks of all vertices and nets may have together.
+const MOST_COUNTS: u64 = 1 << 26;
+
+/// A weighted hypergraph. Its nets stand in flat arrays.
+///
+/// It has at most 2^22 vertices, 2^22 nets and 2^25 pins; all vertices weigh less than 2^54
+/// together, all nets too, and each net's weight times its pins comes to less than 2^57 together.
+#[derive(Debug, Drop)]
+pub struct FlatHyper {
+    vertex_weights: Vec<u64>,
+    fixes: Vec<u16>,
+    net_weights: Vec<u64>,
+    starts: Vec<u32>,
+    pins: Vec<u32>,
+    total: u64,
+    objective: Objective,
+}
+
+impl Model for FlatHyper {
+    ghost use Rattle.std.specs.Prelude.{length};
+    ghost use Rattle.hg_defs.specs.Hypergraph.{Hyper};
+    ghost use Rattle.hg_base.specs.Flat.{nets_at, IsLaidOut, IsKept};
+
+    ghost Value = { Hyper };
+
+    ghost view = { λ h. record {
+      weights = h.vertex_weights.items;
+      nets = nets_at h.starts.items h.net_weights.items h.pins.items;
+      objective = h.objective;
+      fixes = h.fixes.items;
+    } };
+
+    ghost invariant = { λ h.
+      IsLaidOut h.starts.items h.net_weights.items h.pins.items
+      × IsKept (record {
+        weights = h.vertex_weights.items;
+        nets = nets_at h.starts.items h.net_weights.items h.pins.items;
+        objective = h.objective;
+        fixes = h.fixes.items;
+      }) (length h.pins.items) h.total };
+}
+
+impl FlatHyper {
+    /// Makes a hypergraph of vertices of weight 1, all free, without nets; at most 2^22 vertices.
+    pub fn start(alloc: Global, vertices: u32) -> Result<Self, NoMemory>
+        requires { vertices ≤ 2 ^ 22 }
+        ensures { IfOk result (λ h. h ≡ record {
+          weights = replicate vertices 1;
+          nets = [];
+          objective = Objective.Connectivity;
+          fixes = replicate vertices FREE;
+        }) }
+    {
+        let count = vertices as usize;
+        Ok(FlatHyper {
+            vertex_weights: vec![in alloc; 1u64; count]?,
+            fixes: vec![in alloc; FREE as u16; count]?,
+            net_weights: Vec::new(alloc),
+            starts: vec![in alloc; 0u32]?,
+            pins: Vec::new(alloc),
+            total: u64::from(vertices),
+            objective: Objective::Connectivity,
+        })
+    }
+
+    /// How many vertices there are.
+    pub fn vertices(&self) -> u32
+        ensures count { result ≡ vertex_count self.now }
+        ensures sound { IsHypergraph self.now }
+        ensures bounds { IsWithinLimits self.now }
+    {
+        self.vertex_weights.len() as u32
+    }
+
+    /// How many nets there are.
+    pub fn nets(&self) -> u32
+        ensures { result ≡ net_count self.now }
+    {
+        self.net_weights.len() as u32
+    }
+
+    /// The pins of a net, in strictly rising order.
+    pub fn pins(&self, e: u32) -> &[u32]
+        requires { e < net_count self.now }
+        ensures { result.now ≡ (net_of self.now e).pins }
+    {
+        let start = self.starts[e as usize] as usize;
+        let end = self.starts[e as usize + 1] as usize;
+        &self.pins[start..end]
+    }
+
+    /// The weight of a net.
+    pub fn net_weight(&self, e: u32) -> u64
+        requires { e < net_count self.now }
+        ensures { result ≡ (net_of self.now e).weight }
+    {
+        self.net_weights[e as usize]
+    }
+
+    /// The weight of a vertex.
+    pub fn vertex_weight(&self, v: u32) -> u64
+        requires { v < vertex_count self.now }
+        ensures { result ≡ weight_of self.now v }
+    {
+        self.vertex_weights[v as usize]
+    }
+
+    /// The weight of all vertices together.
+    pub fn total_weight(&self) -> u64
+        ensures { result ≡ total_weight self.now }
+    {
+        self.total
+    }
+
+    /// Whether the counts of `k` blocks for all vertices and nets are at most 2^26.
+    pub fn suits(&self, k: u32) -> bool
+        requires { k ≤ 256 }
+        ensures { IsTrue result ↔ Suits self.now k }
+    {
+        (u64::from(self.vertices()) + u64::from(self.nets())) * u64::from(k) <= MOST_COUNTS
+    }
+
+    /// Sets the weight of a vertex. All vertices must weigh less than 2^54 together afterwards.
+    pub fn set_vertex_weight(&mut self, v: u32, weight: u64)
+        requires vertex { v < vertex_count self.old }
+        requires fits { total_weight self.old + weight < 2 ^ 54 + weight_of self.old v }
+        ensures { self.new ≡ record self.old { weights = slice_set self.old.weights v weight } }
+    {
+        self.total = self.total - self.vertex_weights[v as usize] + weight;
+        self.vertex_weights[v as usize] = weight;
+    }
+
+    /// The cost that partitions are to keep low.
+    pub fn objective(&self) -> Objective
+        ensures { result ≡ self.now.objective }
+    {
+        self.objective
+    }
+
+    /// Sets the cost that partitions are to keep low.
+    pub fn set_objective(&mut self, objective: Objective)
+        ensures { self.new ≡ record self.old { objective = objective } }
+    {
+        self.objective = objective;
+    }
+
+    /// The block to which a vertex is fixed, or `FREE`.
+    pub fn fix(&self, v: u32) -> u32
+        requires { v < vertex_count self.now }
+        ensures value { result ≡ fix_of self.now v }
+        ensures bound { result ≤ FREE }
+    {
+        u32::from(self.fixes[v as usize])
+    }
+
+    /// Fixes a vertex to a block below 256, or frees it by `FREE`.
+    pub fn set_fix(&mut self, v: u32, fix: u32)
+        requires vertex { v < vertex_count self.old }
+        requires fix { fix ≤ FREE }
+        ensures { self.new ≡ record self.old { fixes = slice_set self.old.fixes v fix } }
+    {
+        self.fixes[v as usize] = fix as u16;
+    }
+
+    /// Whether each fix is `FREE` or a block below `k`.
+    pub fn fixed_within(&self, k: u32) -> bool
+        ensures { IsTrue result ↔ IsFixedWithin self.now k }
+    {
+        self.fixes
+            .iter()
+            .all(|fix| u32::from(*fix) == FREE || u32::from(*fix) < k)
+    }
+}
