@@ -1,0 +1,4 @@
+pub mod Faults
+pub mod MemSink
+pub mod MemSource
+pub mod Transfers

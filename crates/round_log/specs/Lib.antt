@@ -1,0 +1,3 @@
+pub mod Rounds
+pub mod Passes
+pub mod Trace

@@ -1,0 +1,22 @@
+ghost use Rattle.std.specs.Prelude.{◌<◌, IfOk, All, AllPairs, ◌≢◌, length};
+ghost use Rattle.round_log.specs.Rounds.{IsOrder};
+
+use hg_base::{Items, Verts};
+use hg_defs::{Move, NoMemory};
+use std::alloc::Global;
+
+/// For each of `n` vertices, one more than the place of its move, or 0 where it doesn't move.
+pub fn order_of(alloc: Global, n: u32, moves: &[Move]) -> Result<Verts, NoMemory>
+    requires vertices { All (λ m. m.vertex < n) moves.now }
+    requires distinct { AllPairs (λ a b. a.vertex ≢ b.vertex) moves.now }
+    requires few { length moves.now < 4294967295 }
+    ensures { IfOk result (IsOrder n moves.now) }
+{
+    let mut order = vec![in alloc; 0u32; n as usize]?;
+    let mut next = 1;
+    for step in moves {
+        order[step.vertex as usize] = next;
+        next += 1;
+    }
+    Ok(Items::from_vec(order))
+}
