@@ -1,0 +1,153 @@
+ghost use Rattle.std.specs.Prelude.{◌≡◌, ℕ, ◌^◌, ◌≤◌, length, [], ◌∷◌, MatchOption};
+ghost use Rattle.hg_text.specs.Kept.{reading, lines, fields};
+ghost use Rattle.hg_text.specs.Cut.{IsTrimmed};
+
+use std::marker::Model;
+
+use crate::cut::{skip_blanks, split_field, split_line, trim_return};
+
+/// The kept lines of a text, one after another.
+///
+/// A line is kept where it has a field and the first one doesn't begin with a percent sign.
+#[derive(Drop)]
+pub struct Lines<'a> {
+    rest: &'a [u8],
+    passed: u32,
+}
+
+impl<'a> Model for Lines<'a> {
+    ghost use Rattle.std.specs.Prelude.{◌+◌, ◌^◌, ◌≤◌, length};
+    ghost use Rattle.hg_text.specs.Kept.{Reading, lines, kept_from};
+
+    ghost Value = { Reading };
+
+    ghost view = { λ l. record {
+        kept = kept_from (l.passed + 1) l.rest.now;
+        count = l.passed + length (lines l.rest.now);
+    } };
+
+    ghost invariant = { λ l. l.passed + length l.rest.now ≤ 2 ^ 29 };
+}
+
+impl<'a> Lines<'a> {
+    /// Reads a text of at most 2^29 bytes.
+    pub fn over(bytes: &'a [u8]) -> Self
+        requires { length bytes.now ≤ 2 ^ 29 }
+        ensures { result ≡ reading bytes.now }
+    {
+        Lines {
+            rest: bytes,
+            passed: 0,
+        }
+    }
+
+    /// The next kept line, or None where none is left.
+    pub fn next_kept(&mut self) -> Option<Kept<'a>>
+        ensures kept {
+            MatchOption result (self.old.kept ≡ []) (λ line. self.old.kept ≡ line ∷ self.new.kept)
+        }
+        ensures count { self.new.count ≡ self.old.count }
+    {
+        while !self.rest.is_empty() {
+            let (line, rest) = split_line(self.rest);
+            self.rest = rest;
+            self.passed += 1;
+            let rest = skip_blanks(trim_return(line));
+            if !rest.is_empty() && rest[0] != b'%' {
+                return Some(Kept {
+                    number: self.passed,
+                    rest,
+                });
+            }
+        }
+        None
+    }
+
+    /// The number of lines of the text, those that aren't kept included.
+    pub fn count(&self) -> u32
+        ensures { result ≡ self.now.count }
+    {
+        self.passed + lines_of(self.rest)
+    }
+}
+
+// The number of lines.
+fn lines_of(text: &[u8]) -> u32
+    requires { length text.now ≤ 2 ^ 29 }
+    ensures count { result ≡ length (lines text.now) }
+    ensures part { result ≤ length text.now }
+{
+    let mut rest = text;
+    let mut count = 0;
+    while !rest.is_empty() {
+        rest = split_line(rest).1;
+        count += 1;
+    }
+    count
+}
+
+/// A kept line, whose fields are taken one after another.
+#[derive(Drop)]
+pub struct Kept<'a> {
+    number: u32,
+    rest: &'a [u8],
+}
+
+impl<'a> Model for Kept<'a> {
+    ghost use Rattle.std.specs.Prelude.{◌^◌, ◌≤◌, length};
+    ghost use Rattle.hg_text.specs.Kept.{Line, fields};
+    ghost use Rattle.hg_text.specs.Cut.{IsTrimmed};
+
+    ghost Value = { Line };
+
+    ghost view = { λ k. record { number = k.number; fields = fields k.rest.now } };
+
+    ghost invariant = { λ k. IsTrimmed k.rest.now × (length k.rest.now ≤ 2 ^ 29) };
+}
+
+impl<'a> Kept<'a> {
+    /// The number of the line in its text, from 1.
+    pub fn line(&self) -> u32
+        ensures { result ≡ self.now.number }
+    {
+        self.number
+    }
+
+    /// The number of fields that weren't taken yet, which are all of the line's at first. It reads
+    /// them.
+    pub fn fields(&self) -> u32
+        ensures { result ≡ length self.now.fields }
+    {
+        fields_of(self.rest)
+    }
+
+    /// The next field, or None where none is left. A field isn't empty.
+    pub fn next_field(&mut self) -> Option<&'a [u8]>
+        ensures field {
+            MatchOption result (self.old.fields ≡ []) (λ field. self.old.fields ≡ field.now ∷ self.new.fields)
+        }
+        ensures line { self.new.number ≡ self.old.number }
+    {
+        if self.rest.is_empty() {
+            return None;
+        }
+        let (field, rest) = split_field(self.rest);
+        self.rest = skip_blanks(rest);
+        Some(field)
+    }
+}
+
+// The number of fields.
+fn fields_of(line: &[u8]) -> u32
+    requires trimmed { IsTrimmed line.now }
+    requires short { length line.now ≤ 2 ^ 29 }
+    ensures { result ≡ length (fields line.now) }
+{
+    let mut rest = line;
+    let mut count = 0;
+    while !rest.is_empty() {
+        rest = skip_blanks(split_field(rest).1);
+        count += 1;
+    }
+    count
+}

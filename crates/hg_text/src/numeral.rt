@@ -1,0 +1,55 @@
+ghost use Rattle.std.specs.Prelude.{◌≡◌, ℕ, ◌^◌, ◌≤◌, length, take, nat_lt, if◌then◌else◌, Some, None};
+ghost use Rattle.std.specs.List.{prefix_len};
+ghost use Rattle.std.specs.Char.{is_ascii_digit};
+ghost use Rattle.std.specs.Str.Parse.{digits_value};
+ghost use Rattle.hg_text.specs.Kept.{number_of};
+
+/// Why a field spells no number.
+#[derive(Clone, Copy, Debug, PartialEq, Eq)]
+pub enum BadNumber {
+    /// The field is empty or has another byte than a digit.
+    NotDigits,
+    /// The digits stand for 2^64 or more.
+    TooBig,
+}
+
+// How many digits the text begins with, and the number that they spell, where it is below 2^64.
+#[inline]
+pub(crate) fn leading_digits(text: &[u8]) -> (usize, Option<u64>)
+    ensures count { result.0 ≡ prefix_len is_ascii_digit text.now }
+    ensures value {
+        let value = digits_value 10 (take result.0 text.now) in
+        result.1 ≡ (if nat_lt value (2 ^ 64) then Some value else None)
+    }
+{
+    let mut value: u64 = 0;
+    let mut count: usize = 0;
+    while count < text.len() && text[count].is_ascii_digit() {
+        let digit = u64::from(text[count] - b'0');
+        if value > (u64::MAX - digit) / 10 {
+            return (count + digits_len(&text[count..]), None);
+        }
+        value = value * 10 + digit;
+        count += 1;
+    }
+    (count, Some(value))
+}
+
+// How many digits the text begins with.
+fn digits_len(text: &[u8]) -> usize
+    ensures count { result ≡ prefix_len is_ascii_digit text.now }
+    ensures part { result ≤ length text.now }
+{
+    text.iter().take_while(|byte| byte.is_ascii_digit()).count()
+}
+
+/// The number that a field spells in decimal digits; leading zeros are allowed.
+pub fn number(field: &[u8]) -> Result<u64, BadNumber>
+    ensures { result ≡ number_of field.now }
+{
+    let (count, value) = leading_digits(field);
+    if count == 0 || count < field.len() {
+        return Err(BadNumber::NotDigits);
+    }
+    value.ok_or(BadNumber::TooBig)
+}
