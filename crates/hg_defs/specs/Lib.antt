@@ -3,6 +3,7 @@ pub mod Sorting
 pub mod Hypergraph
 pub mod Partition
 pub mod Cost
+pub mod Pins
 pub mod LeastLoaded
 pub mod Moves
 pub mod Replay
