@@ -9,3 +9,4 @@ pub mod Moves
 pub mod Replay
 pub mod Contraction
 pub mod Placement
+pub mod PlacementLaws
