@@ -1,22 +1,26 @@
 -- Laws of least loaded placement.
-use Rattle.std.proofs.Common.{◌≡◌, ◌≢◌, ℕ, zero, suc, ◌+◌, ◌<◌, ◌≤◌, ◌⊎◌, inl, inr, Bool, true, false, not, if◌then◌else◌, nat_eq, nat_le, List, [], ◌∷◌, ◌++◌, map, filter, length, get_or, set, take, replicate, slice_index, slice_set, All, AllPairs, Contains, IsPermutation, Option, Some, None, refl, sym, ap, ap₂, cond, ◌∙◌, subst, arith, append_assoc, append-nil, add-one, length-set, get_or-set_same, get_or-set_other, true≢false, ◌&&◌}
-use Rattle.std.proofs.lemmas.List.{length-replicate, get_or-replicate, get_or_past, get_or_default, ext_get_or, take_all, get_or-take, length-take, take_more}
-use Rattle.std.proofs.lemmas.List.Elements.{Contains-get_or, All-head, All-tail, All-cons, All-set, All-replicate, All-weaker, All-contains, All-append, Contains-push_cases, Contains-append_left, Contains-append_cases, Contains-push}
+use Rattle.std.proofs.Common.{◌≡◌, ◌≢◌, ℕ, zero, suc, ◌+◌, ◌<◌, ◌≤◌, ◌⊎◌, inl, inr, Bool, true, false, not, if◌then◌else◌, nat_eq, nat_le, List, [], ◌∷◌, ◌++◌, map, filter, length, get_or, take, slice_index, slice_set, All, Contains, IsPermutation, Some, None, refl, sym, ap, ap₂, cond, ◌∙◌, subst, subst₂, Ordering, Less, Equal, Greater, is_lt, nat_cmp, arith, append_assoc, append-nil, add-one, length-set, get_or-set_same, get_or-set_other, true≢false, ◌&&◌}
+use Rattle.std.proofs.lemmas.List.{get_or-map, length-map, length-replicate, get_or-replicate, get_or_past, get_or_default, ext_get_or, take_all, get_or-take, length-take, take_more}
+use Rattle.std.proofs.lemmas.List.Elements.{All-map, Contains-get_or, All-head, All-tail, All-set, All-replicate, Contains-push_cases, Contains-append_left}
 use Rattle.std.proofs.lemmas.List.FromFn.{length-range_with_len, get_or-range_with_len}
-use Rattle.std.proofs.lemmas.List.Sorted.{IsPermutation-trans, IsPermutation-append_right, IsPermutation-append_left, IsPermutation-filter_both, IsPermutation-append_comm, All-permutation, Contains-permutation}
-use Rattle.std.proofs.lemmas.List.Sums.{AllPass-from_list_all, list_all-from_AllPass}
-use Rattle.std.proofs.lemmas.Bool.{eqb-true, eqb-false, eq-eqb, ne_eqb, leb-true, leb-false, le-leb, cases_order, cases_lt, cases_eq}
-use Rattle.std.proofs.lemmas.Map.Keys.{IsDistinct-head, IsDistinct-tail, IsDistinct-IsPermutation, IsDistinct-from_apart}
-use Rattle.std.proofs.lemmas.Cmp.{nat_eq_equiv}
-use Rattle.std.specs.List.{IsDistinct, AllByRecursion, list_all, range_with_len}
+use Rattle.std.proofs.lemmas.List.Sorted.{sorted_far, ranks_by, IsPermutation-trans, IsPermutation-map, IsPermutation-append_right, IsPermutation-filter_both, All-permutation, Contains-permutation}
+use Rattle.std.proofs.lemmas.List.Sums.{AllPass-from_list_all}
+use Rattle.std.proofs.lemmas.Bool.{eqb-true, eqb-false, eq-eqb, ne_eqb, leb-true, leb-false, cases_order, cases_lt, cases_eq}
+use Rattle.std.proofs.lemmas.Map.Made.{IsDistinct-from_AllPairs, AllPairs-from_IsDistinct}
+use Rattle.std.proofs.lemmas.List.Kept.{AllPairs-filter}
+use Rattle.std.proofs.lemmas.Bool.Decides.{Decides-eqb}
+use Rattle.std.proofs.lemmas.Map.Keys.{apart_from_distinct, IsDistinct-head, IsDistinct-tail, IsDistinct-IsPermutation, IsDistinct-from_apart}
+use Rattle.std.proofs.lemmas.Cmp.{nat_eq_equiv, ranked}
+use Rattle.std.specs.Ordering.{MatchOrdering, ordering_then, ordering_reverse}
+use Rattle.std.specs.List.{IsDistinct, AllByRecursion, list_all}
 use Rattle.hg_defs.specs.declared.objective.TheConstants.{FREE}
-use Rattle.hg_defs.specs.Sums.{total, sum_below}
 use Rattle.hg_defs.specs.Hypergraph.{Hyper, IsHypergraph, IsFixedWithin, vertex_count, vertices, weight_of, fix_of, is_free, IsFree}
-use Rattle.hg_defs.specs.Partition.{IsPartition, Obeys, Fits, block_of, load}
-use Rattle.hg_defs.specs.LeastLoaded.{Placing, placed, placed_one, unplaced, taken_block, placing_order, least, least_loaded, heaviest_first, heavier_first, greedy, first_overfilling, overfills}
+use Rattle.hg_defs.specs.Partition.{IsPartition, block_of, load}
+use Rattle.hg_defs.specs.LeastLoaded.{Placing, placed, placed_one, unplaced, taken_block, placing_order, least, least_loaded, heaviest_first, heavier_first, first_overfilling}
 use Rattle.hg_defs.specs.PlacementLaws.{IsFirstLeast, weight_placed, IsPlacedAt, IsPlacedInTurn, IsFirstOverfilling, ListsFree, GoesFirst, IsPlaceable, LeastLoadedIsPartition, LeastLoadedObeys, LeastLoadedIsInTurn, OnlyLeastLoadedIsInTurn, LeastIsFirstLeast, LoadsAreKept, AllWeightsArePlaced, OverfillingIsFirst, NoneOverfillsWhereItFits, OneOverfillsWhereItDoesNotFit, HeaviestFirstListsFree, HeaviestGoFirst, GreedyIsPartition, GreedyObeys, GreedyFits, GreedyDoesNotFit}
-use Rattle.hg_defs.proofs.SumLaws.{weight_if, weight_if-same, weight_if-other, total-append, total_push, total-same, total-permutation, total-range, weight_in-by_index}
-use Rattle.hg_defs.proofs.SortLaws.{Contains_head, Contains_later, Contains-cons_cases, Contains-nil}
+use Rattle.hg_defs.proofs.SumLaws.{weight_if, weight_if-same, weight_if-other, total_push, total-same, total-permutation, total-range, total-take-le, weight_in-by_index}
+use Rattle.hg_defs.specs.Sorting.{sorted}
+use Rattle.hg_defs.proofs.SortLaws.{sorted_permutation, IsSorted-sorted, heavier_first_total, heavier_first_exact, Contains_head, Contains_later, Contains-cons_cases, Contains-nil}
 
 -- ---- the least element
 
@@ -406,3 +410,221 @@ only_least_loaded-in_turn h k order p ready e in_turn =
         let c = Contains-permutation (vertices h) (placing_order h order) v (placing_order_permutation h order ready.listed) (Contains_vertices h v (omega arith)) in
         subst (λ u. block_of p u ≡ block_of (least_loaded h k order) u) (get_or_default (placing_order h order) c.0 0 v c.1 ∙ c.2)
         (agree_upto h k (placing_order h order) p (least_loaded h k order) in_turn (least_loaded-in_turn h k order ready) (suc c.0) c.0 (omega arith) c.1)
+
+-- ---- overfilling
+
+-- what the block of the vertex at place i holds once it is placed
+full_at : Hyper → Placing → List ℕ → ℕ → ℕ
+full_at h s vs i = slice_index (placed h s (take i vs)).loads (taken_block h (placed h s (take i vs)).loads (slice_index vs i)) + weight_of h (slice_index vs i)
+
+record FoundFull (h : Hyper) (l : ℕ) (s : Placing) (vs : List ℕ) (v i : ℕ) : Type 0 where
+  within : i < length vs
+  is : v ≡ slice_index vs i
+  past : l < full_at h s vs i
+  first : (j : ℕ) → j < i → full_at h s vs j ≤ l
+
+over_some : (h : Hyper) (l : ℕ) (vs : List ℕ) (s : Placing) (v : ℕ) → first_overfilling h l s vs ≡ Some v → (i : ℕ) × FoundFull h l s vs v i
+unfolding full_at
+over_some h l [] s v e = absurd (none_is_none v e)
+  where
+    none_is_none : (u : ℕ) → None ≡ Some u → ⊥
+    none_is_none u e = cc
+over_some h l (u ∷ vs) s v e = by (nat_le (slice_index s.loads (taken_block h s.loads u) + weight_of h u) l) refl e (over_some h l vs (placed_one h s u) v)
+  where
+    by : (t : Bool) → nat_le (slice_index s.loads (taken_block h s.loads u) + weight_of h u) l ≡ t → (if t then first_overfilling h l (placed_one h s u) vs else Some u) ≡ Some v
+        → (first_overfilling h l (placed_one h s u) vs ≡ Some v → (i : ℕ) × FoundFull h l (placed_one h s u) vs v i) → (i : ℕ) × FoundFull h l s (u ∷ vs) v i
+    by true f g r =
+        let x = r g in (
+          suc x.0,
+          record {
+            within = let a = x.1.within in omega arith;
+            is = x.1.is;
+            past = x.1.past;
+            first = before x.0 x.1;
+          },
+        )
+      where
+        before : (i : ℕ) → FoundFull h l (placed_one h s u) vs v i → (j : ℕ) → j < suc i → full_at h s (u ∷ vs) j ≤ l
+        before i x zero m = leb-true (slice_index s.loads (taken_block h s.loads u) + weight_of h u) l f
+        before i x (suc j) m = x.first j (omega arith)
+    by false f g r = (0, record { within = omega arith; is = same u v g; past = leb-false (slice_index s.loads (taken_block h s.loads u) + weight_of h u) l f; first = λ j m. absurd (omega arith) })
+      where
+        same : (a b : ℕ) → Some a ≡ Some b → b ≡ a
+        same a b e = cc
+
+over_none : (h : Hyper) (l : ℕ) (vs : List ℕ) (s : Placing) → first_overfilling h l s vs ≡ None → (i : ℕ) → i < length vs → full_at h s vs i ≤ l
+unfolding full_at
+over_none h l [] s e i m = absurd (omega arith)
+over_none h l (u ∷ vs) s e i m = by (nat_le (slice_index s.loads (taken_block h s.loads u) + weight_of h u) l) refl e (over_none h l vs (placed_one h s u)) i m
+  where
+    by : (t : Bool) → nat_le (slice_index s.loads (taken_block h s.loads u) + weight_of h u) l ≡ t → (if t then first_overfilling h l (placed_one h s u) vs else Some u) ≡ None
+        → (first_overfilling h l (placed_one h s u) vs ≡ None → (j : ℕ) → j < length vs → full_at h (placed_one h s u) vs j ≤ l) → (j : ℕ) → j < suc (length vs) → full_at h s (u ∷ vs) j ≤ l
+    by true f g r zero n = leb-true (slice_index s.loads (taken_block h s.loads u) + weight_of h u) l f
+    by true f g r (suc j) n = r g j (omega arith)
+    by false f g r j n = absurd (some_is_none u g)
+      where
+        some_is_none : (a : ℕ) → Some a ≡ None → ⊥
+        some_is_none a e = cc
+
+module _ (h : Hyper) (k : ℕ) (order : List ℕ) (ready : IsPlaceable h k order) where
+  full_is : (i : ℕ) → i < length (placing_order h order) → full_at h (unplaced h k) (placing_order h order) i ≡ weight_placed h (least_loaded h k order) (take (i + 1) (placing_order h order)) (block_of (least_loaded h k order) (slice_index (placing_order h order) i))
+  unfolding full_at
+  full_is i l =
+      let a = at_place h k order ready i l in
+      let s = (sound_at h k order ready i).loads in
+      let low = taken_below h k ready.hypergraph ready.fixed ready.blocks (placed h (unplaced h k) (take i (placing_order h order))).loads (slice_index (placing_order h order) i) s in
+      let b = taken_block h (placed h (unplaced h k) (take i (placing_order h order))).loads (slice_index (placing_order h order) i) in
+      let more = weight_placed_push h (least_loaded h k order) (take i (placing_order h order)) (slice_index (placing_order h order) i) b in
+      let same = weight_if-same (block_of (least_loaded h k order) (slice_index (placing_order h order) i)) b (weight_of h (slice_index (placing_order h order) i)) a.takes in
+      let w = a.weighs b low in
+      let sum : full_at h (unplaced h k) (placing_order h order) i ≡ weight_placed h (least_loaded h k order) (take i (placing_order h order) ++ slice_index (placing_order h order) i ∷ []) b = omega arith in
+      sum ∙ ap₂ (weight_placed h (least_loaded h k order)) (sym (take_more (placing_order h order) i 0 l)) (sym a.takes)
+
+  first_overfilling_is : (l v : ℕ) → first_overfilling h l (unplaced h k) (placing_order h order) ≡ Some v → (i : ℕ) × IsFirstOverfilling h l (placing_order h order) (least_loaded h k order) i × (v ≡ slice_index (placing_order h order) i)
+  first_overfilling_is l v e =
+      let x = over_some h l (placing_order h order) (unplaced h k) v e in (
+        x.0,
+        record {
+          within = x.1.within;
+          past = subst (λ n. l < n) (full_is x.0 x.1.within) x.1.past;
+          first = λ j m. let w = x.1.within in let e = full_is j (omega arith) in let a = x.1.first j m in omega arith;
+        },
+        x.1.is,
+      )
+
+  weight_upto : (l b : ℕ) → first_overfilling h l (unplaced h k) (placing_order h order) ≡ None → (i : ℕ) → i ≤ length (placing_order h order) → weight_placed h (least_loaded h k order) (take i (placing_order h order)) b ≤ l
+  weight_upto l b e zero m = omega arith
+  weight_upto l b e (suc i) m = by (cases_eq (block_of (least_loaded h k order) (slice_index (placing_order h order) i)) b) (weight_upto l b e i (omega arith))
+    where
+      v : ℕ
+      v = slice_index (placing_order h order) i
+
+      by : (block_of (least_loaded h k order) (slice_index (placing_order h order) i) ≡ b) ⊎ (block_of (least_loaded h k order) (slice_index (placing_order h order) i) ≡ b → ⊥)
+          → weight_placed h (least_loaded h k order) (take i (placing_order h order)) b ≤ l → weight_placed h (least_loaded h k order) (take (suc i) (placing_order h order)) b ≤ l
+      by (inl q) r =
+          let a = over_none h l (placing_order h order) (unplaced h k) e i (omega arith) in
+          let f = full_is i (omega arith) in
+          subst (λ n. weight_placed h (least_loaded h k order) (take n (placing_order h order)) b ≤ l) (add-one i)
+          (subst (λ c. weight_placed h (least_loaded h k order) (take (i + 1) (placing_order h order)) c ≤ l) q (omega arith))
+      by (inr q) r =
+          let z = weight_if-other (block_of (least_loaded h k order) (slice_index (placing_order h order) i)) b (weight_of h (slice_index (placing_order h order) i)) q in
+          let p = weight_placed_push h (least_loaded h k order) (take i (placing_order h order)) (slice_index (placing_order h order) i) b in
+          subst (λ xs. weight_placed h (least_loaded h k order) xs b ≤ l) (sym (take_more (placing_order h order) i 0 (omega arith)) ∙ ap (λ n. take n (placing_order h order)) (add-one i)) (omega arith)
+
+pub overfilling_is_first : OverfillingIsFirst
+overfilling_is_first h k l order v ready e = first_overfilling_is h k order ready l v e
+
+pub none_overfills : NoneOverfillsWhereItFits
+none_overfills h k l order ready e b m =
+    let a = weight_upto h k order ready l b e (length (placing_order h order)) (omega arith) in
+    let t = ap (λ xs. weight_placed h (least_loaded h k order) xs b) (take_all (length (placing_order h order)) (placing_order h order) (omega arith)) in
+    let w = all_weights_are_placed h k order b ready in
+    omega arith
+
+pub one_overfills : OneOverfillsWhereItDoesNotFit
+one_overfills h k l order v ready e fits =
+    let x = first_overfilling_is h k order ready l v e in
+    let u = slice_index (placing_order h order) x.0 in
+    let b = block_of (least_loaded h k order) u in
+    let whole = least_loaded-partition h k order ready.hypergraph ready.fixed ready.blocks in
+    let inside : u < vertex_count h = (new_start h k order ready).within x.0 0 x.1.within in
+    let low : b < k = whole.blocks u 0 (let n = whole.vertices in omega arith) in
+    let f = fits b low in
+    let w = all_weights_are_placed h k order b ready in
+    let t = total-take-le (λ v. weight_if (block_of (least_loaded h k order) v) b (weight_of h v)) (placing_order h order) (x.0 + 1) in
+    let past : l < weight_placed h (least_loaded h k order) (take (x.0 + 1) (placing_order h order)) b = x.1.past in
+    omega arith
+
+-- ---- the heaviest first
+
+seconds : (f : ℕ → ℕ) (vs : List ℕ) → map (λ (a : ℕ × ℕ). a.1) (map (λ v. (f v, v)) vs) ≡ vs
+seconds f [] = refl
+seconds f (v ∷ vs) = ap (λ us. v ∷ us) (seconds f vs)
+
+pub heaviest_first-lists_free : HeaviestFirstListsFree
+heaviest_first-lists_free h =
+    subst (λ vs. IsPermutation vs (heaviest_first h)) (seconds (weight_of h) (filter (is_free h) (vertices h)))
+    (IsPermutation-map (λ (a : ℕ × ℕ). a.1) (map (λ v. (weight_of h v, v)) (filter (is_free h) (vertices h))) (sorted heavier_first (map (λ v. (weight_of h v, v)) (filter (is_free h) (vertices h)))) (sorted_permutation heavier_first (map (λ v. (weight_of h v, v)) (filter (is_free h) (vertices h)))))
+
+distinct_free : (h : Hyper) → IsDistinct nat_eq (heaviest_first h)
+distinct_free h =
+    IsDistinct-IsPermutation nat_eq nat_eq_equiv.symm (filter (is_free h) (vertices h)) (heaviest_first h) (heaviest_first-lists_free h)
+    (IsDistinct-from_AllPairs Decides-eqb (filter (is_free h) (vertices h))
+    (AllPairs-filter (λ x y. x ≢ y) (is_free h) (vertices h) (AllPairs-from_IsDistinct Decides-eqb (vertices h) (distinct_vertices h))))
+
+heavier_goes_first : (a b : ℕ × ℕ) → heavier_first a b ≡ Less → (b.0 < a.0) ⊎ ((a.0 ≡ b.0) × (a.1 < b.1))
+heavier_goes_first a b e = by (nat_cmp b.0 a.0) (nat_cmp a.1 b.1) (ranked b.0 a.0 (nat_cmp b.0 a.0) refl) (ranked a.1 b.1 (nat_cmp a.1 b.1) refl) e
+  where
+    by : (r s : Ordering) → MatchOrdering r (b.0 < a.0) (b.0 ≡ a.0) (a.0 < b.0) → MatchOrdering s (a.1 < b.1) (a.1 ≡ b.1) (b.1 < a.1) → ordering_then r s ≡ Less → (b.0 < a.0) ⊎ ((a.0 ≡ b.0) × (a.1 < b.1))
+    by Less s x y f = inl x
+    by Equal Less x y f = inr (sym x, y)
+    by Equal Equal x y f = absurd (true≢false (sym (ap is_lt f)))
+    by Equal Greater x y f = absurd (true≢false (sym (ap is_lt f)))
+    by Greater s x y f = absurd (true≢false (sym (ap is_lt f)))
+
+not_below : (r : Ordering) → is_lt (ordering_reverse r) ≡ false → (r ≡ Equal → ⊥) → r ≡ Less
+not_below Less e n = refl
+not_below Equal e n = absurd (n refl)
+not_below Greater e n = absurd (true≢false e)
+
+pub heaviest_go_first : HeaviestGoFirst
+heaviest_go_first h i j d l m =
+    subst₂ (λ a b. GoesFirst h a b) (sym (second i in_i)) (sym (second j in_j))
+    (subst₂ (λ x y. (y < x) ⊎ ((x ≡ y) × ((get_or ps i e).1 < (get_or ps j e).1))) (weighs i in_i) (weighs j in_j)
+    (heavier_goes_first (get_or ps i e) (get_or ps j e) less))
+  where
+    start : List (ℕ × ℕ)
+    start = map (λ v. (weight_of h v, v)) (filter (is_free h) (vertices h))
+
+    ps : List (ℕ × ℕ)
+    ps = sorted heavier_first (map (λ v. (weight_of h v, v)) (filter (is_free h) (vertices h)))
+
+    e : ℕ × ℕ
+    e = (0, 0)
+
+    long : length (heaviest_first h) ≡ length ps
+    long = length-map ps (λ (a : ℕ × ℕ). a.1)
+
+    in_i : i < length ps
+    in_i = let n = long in omega arith
+
+    in_j : j < length ps
+    in_j = let n = long in omega arith
+
+    second : (c : ℕ) → c < length ps → get_or (heaviest_first h) c d ≡ (get_or ps c e).1
+    second c n = get_or-map (λ (a : ℕ × ℕ). a.1) ps c e d n
+
+    weighed : All (λ (a : ℕ × ℕ). a.0 ≡ weight_of h a.1) ps
+    weighed =
+        All-permutation (λ (a : ℕ × ℕ). a.0 ≡ weight_of h a.1) start ps (sorted_permutation heavier_first start)
+        (All-map (λ (a : ℕ × ℕ). a.0 ≡ weight_of h a.1) (λ v. (weight_of h v, v)) (filter (is_free h) (vertices h)) (λ c d n. refl))
+
+    weighs : (c : ℕ) → c < length ps → (get_or ps c e).0 ≡ weight_of h (get_or ps c e).1
+    weighs c n = weighed c e n
+
+    far : is_lt (heavier_first (get_or ps j e) (get_or ps i e)) ≡ false
+    far = sorted_far (λ x y. is_lt (heavier_first x y)) (ranks_by heavier_first_total (λ (a : ℕ × ℕ). a)) ps (IsSorted-sorted heavier_first_total start) i j e (omega arith) in_j
+
+    differ : heavier_first (get_or ps i e) (get_or ps j e) ≡ Equal → ⊥
+    differ q = eqb-false (get_or (heaviest_first h) i d) (get_or (heaviest_first h) j d) (apart_from_distinct nat_eq (heaviest_first h) i j d (distinct_free h) l m)
+        (second i in_i ∙ ap (λ (a : ℕ × ℕ). a.1) (heavier_first_exact (get_or ps i e) (get_or ps j e) q) ∙ sym (second j in_j))
+
+    less : heavier_first (get_or ps i e) (get_or ps j e) ≡ Less
+    less = not_below (heavier_first (get_or ps i e) (get_or ps j e)) (ap is_lt (sym (heavier_first_total.antisymm (get_or ps j e) (get_or ps i e))) ∙ far) differ
+
+-- ---- greedy placement
+
+pub greedy-placeable : (h : Hyper) (k : ℕ) → IsHypergraph h → IsFixedWithin h k → 0 < k → IsPlaceable h k (heaviest_first h)
+greedy-placeable h k good fixed some = record { hypergraph = good; fixed = fixed; blocks = some; listed = heaviest_first-lists_free h }
+
+pub greedy-partition : GreedyIsPartition
+greedy-partition h k good fixed some = least_loaded-partition h k (heaviest_first h) good fixed some
+
+pub greedy-obeys : GreedyObeys
+greedy-obeys h k good fixed some = least_loaded-obeys h k (heaviest_first h) good fixed some
+
+pub greedy-fits : GreedyFits
+greedy-fits h k l good fixed some e = none_overfills h k l (heaviest_first h) (greedy-placeable h k good fixed some) e
+
+pub greedy-does_not_fit : GreedyDoesNotFit
+greedy-does_not_fit h k l v good fixed some e = one_overfills h k l (heaviest_first h) v (greedy-placeable h k good fixed some) e
