@@ -10,3 +10,4 @@ pub mod Replay
 pub mod Contraction
 pub mod Placement
 pub mod PlacementLaws
+pub mod ReplayLaws

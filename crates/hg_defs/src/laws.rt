@@ -1,6 +1,7 @@
 //! The laws over the definitions. Each is the contract of a function that does nothing.
 
 ghost use Rattle.hg_defs.specs.PlacementLaws.{AllWeightsArePlaced, GreedyDoesNotFit, GreedyFits, GreedyIsPartition, GreedyObeys, HeaviestFirstListsFree, HeaviestGoFirst, LeastIsFirstLeast, LeastLoadedIsInTurn, LeastLoadedIsPartition, LeastLoadedObeys, LoadsAreKept, NoneOverfillsWhereItFits, OneOverfillsWhereItDoesNotFit, OnlyLeastLoadedIsInTurn, OverfillingIsFirst};
+ghost use Rattle.hg_defs.specs.ReplayLaws.{BestPrefixIsBest, FittingIsTested, OnlyBestPrefixIsBest};
 
 /// Least loaded placement gives each vertex a block and obeys the fixes. It places the vertices in
 /// turn, each free one into the block of least load so far, and nothing else does.
@@ -35,4 +36,12 @@ pub fn greedy_placement()
     ensures fixes { GreedyObeys }
     ensures fits { GreedyFits }
     ensures overfilled { GreedyDoesNotFit }
+{}
+
+/// The test whether a partition fits answers yes exactly where it does. The best prefix of a list of
+/// moves is the shortest of the cheapest that fit, and no other one is.
+pub fn best_prefix_of_moves()
+    ensures tested { FittingIsTested }
+    ensures best { BestPrefixIsBest }
+    ensures only { OnlyBestPrefixIsBest }
 {}
