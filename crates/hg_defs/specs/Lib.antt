@@ -11,3 +11,4 @@ pub mod Contraction
 pub mod Placement
 pub mod PlacementLaws
 pub mod ReplayLaws
+pub mod MoveLaws
