@@ -1,1 +1,3 @@
 pub mod FlatLaws
+pub mod SetLaws
+pub mod PushLaws

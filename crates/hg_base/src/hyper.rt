@@ -1,8 +1,12 @@
 //! The hypergraph as flat arrays.
 
-ghost use Rattle.std.specs.Prelude.{◌≡◌, ℕ, ◌+◌, ◌*◌, ◌^◌, ◌<◌, ◌≤◌, [], ◌∷◌, ◌++◌, replicate, IsTrue, ◌↔◌, IfOk, OnOk, OnErr, slice_set};
-ghost use Rattle.hg_defs.specs.Hypergraph.{vertex_count, net_count, pin_count, weight_of, total_weight, net_of, fix_of, IsHypergraph, IsWithinLimits, IsFixedWithin, Suits};
+ghost use Rattle.std.specs.Prelude.{◌≡◌, ℕ, ◌+◌, ◌*◌, ◌^◌, ◌<◌, ◌≤◌, [], ◌∷◌, ◌++◌, length, replicate, All, IsTrue, ◌↔◌, IfOk, OnOk, OnErr, slice_set};
+ghost use Rattle.std.specs.Ordering.{nat_cmp};
+ghost use Rattle.hg_defs.specs.Sorting.{set_of};
+ghost use Rattle.hg_defs.specs.Sums.{total};
+ghost use Rattle.hg_defs.specs.Hypergraph.{vertex_count, net_count, pin_count, weight_of, total_weight, total_net_weight, net_of, fix_of, IsHypergraph, IsWithinLimits, IsFixedWithin, Suits};
 
+use crate::sets::append_set;
 use hg_defs::{FREE, NoMemory, Objective};
 use std::alloc::Global;
 use std::marker::Model;
@@ -70,6 +74,31 @@ impl FlatHyper {
             total: u64::from(vertices),
             objective: Objective::Connectivity,
         })
+    }
+
+    /// Adds a net, whose pins are the set of the given vertices. Where there is no memory,
+    /// the hypergraph stays as it was.
+    ///
+    /// The given vertices may stand in any order and more than once; the work is least where
+    /// they rise. All nets, all pins, all weights and all products of a net's weight and its
+    /// given pins must stay within the limits of the type.
+    pub fn push_net(&mut self, weight: u64, pins: &[u32]) -> Result<(), NoMemory>
+        requires vertices { All (λ v. v < vertex_count self.old) pins.now }
+        requires nets { net_count self.old < 2 ^ 22 }
+        requires all_pins { pin_count self.old + length pins.now ≤ 2 ^ 25 }
+        requires net_weight { total_net_weight self.old + weight < 2 ^ 54 }
+        requires pin_weight { total (λ e. e.weight * length e.pins) self.old.nets + weight * length pins.now < 2 ^ 57 }
+        ensures ok { OnOk result (self.new ≡ record self.old {
+          nets = self.old.nets ++ record { weight = weight; pins = set_of nat_cmp pins.now } ∷ [];
+        }) }
+        ensures err { OnErr result (self.new ≡ self.old) }
+    {
+        self.net_weights.reserve(1)?;
+        self.starts.reserve(1)?;
+        append_set(&mut self.pins, pins)?;
+        self.starts.push(self.pins.len() as u32)?;
+        self.net_weights.push(weight)?;
+        Ok(())
     }
 
     /// How many vertices there are.

@@ -3,6 +3,7 @@
 
 mod hyper;
 mod list;
+mod sets;
 
 pub use hg_defs::{FREE, Move, NoMemory, Objective};
 pub use hyper::FlatHyper;
