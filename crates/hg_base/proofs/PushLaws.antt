@@ -1,7 +1,7 @@
 -- Laws of one more net at the end of the flat arrays.
-use Rattle.std.proofs.Common.{◌≡◌, ℕ, zero, suc, ◌+◌, ◌-◌, ◌*◌, ◌^◌, ◌<◌, ◌≤◌, List, [], ◌∷◌, ◌++◌, length, map, take, drop, get_or, slice_index, slice_range, All, Contains, nat_cmp, refl, sym, ap, ap₂, ◌∙◌, subst, arith, ⊎_elim}
+use Rattle.std.proofs.Common.{◌≡◌, ℕ, ◌+◌, ◌-◌, ◌*◌, ◌^◌, ◌<◌, ◌≤◌, List, [], ◌∷◌, ◌++◌, length, map, take, drop, get_or, slice_index, slice_range, All, nat_cmp, refl, sym, ap, ap₂, ◌∙◌, arith, ⊎_elim}
 use Rattle.std.specs.List.{range_with_len}
-use Rattle.std.proofs.lemmas.List.{get_or_append_left, get_or_push, length_push, length-append, drop-append-le, take-append-le, length-drop, drop_at, take_all, get_or_past}
+use Rattle.std.proofs.lemmas.List.{get_or_append_left, get_or_push, length_push, length-append, drop-append-le, take-append-le, length-drop, drop_at, take_all}
 use Rattle.std.proofs.lemmas.List.FromFn.{map-range_with_len_more, fill_by_all}
 use Rattle.std.proofs.lemmas.List.Elements.{All-push, All-contains, Contains-get_or}
 use Rattle.std.proofs.lemmas.Bool.{cases_lt}
@@ -64,14 +64,14 @@ module _ (ss ns ps qs : List ℕ) (w t : ℕ) (laid : IsLaidOut ss ns ps) (end :
       let a = get_or_append_left ss (t ∷ []) 0 e (omega arith) in
       ⊎_elim
       (λ (k : e < length ns).
-        let b = get_or_append_left ss (t ∷ []) 0 (e + 1) (omega arith) in
-        let c = laid.rising e k in
-        omega arith)
+      let b = get_or_append_left ss (t ∷ []) 0 (e + 1) (omega arith) in
+      let c = laid.rising e k in
+      omega arith)
       (λ (k : length ns ≤ e).
-        let same : e ≡ length ns = omega arith in
-        let b = get_or_push ss t 0 (e + 1) (omega arith) in
-        let c = ap (slice_index ss) same ∙ laid.last in
-        omega arith)
+      let same : e ≡ length ns = omega arith in
+      let b = get_or_push ss t 0 (e + 1) (omega arith) in
+      let c = ap (slice_index ss) same ∙ laid.last in
+      omega arith)
       (cases_lt e (length ns))
 
   within_push : (e : ℕ) → e ≤ length (ns ++ w ∷ []) → slice_index (ss ++ t ∷ []) e ≤ length (ps ++ qs)
@@ -81,9 +81,9 @@ module _ (ss ns ps qs : List ℕ) (w t : ℕ) (laid : IsLaidOut ss ns ps) (end :
       let n = length-append ps qs in
       ⊎_elim
       (λ (k : e < length ss).
-        let a = get_or_append_left ss (t ∷ []) 0 e k in
-        let c = laid.within e (omega arith) in
-        omega arith)
+      let a = get_or_append_left ss (t ∷ []) 0 e k in
+      let c = laid.within e (omega arith) in
+      omega arith)
       (λ (k : length ss ≤ e). let b = get_or_push ss t 0 e (omega arith) in omega arith)
       (cases_lt e (length ss))
 

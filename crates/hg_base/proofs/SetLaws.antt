@@ -1,5 +1,5 @@
 -- Laws of a set that is made at the end of a list.
-use Rattle.std.proofs.Common.{◌≡◌, ℕ, ◌+◌, ◌-◌, ◌≤◌, List, ◌++◌, length, take, drop, sym, ap, ◌∙◌, subst, arith}
+use Rattle.std.proofs.Common.{◌≡◌, ℕ, ◌+◌, ◌-◌, ◌≤◌, List, ◌++◌, length, take, drop, sym, ap, ◌∙◌, arith}
 use Rattle.std.proofs.lemmas.List.{take-take, take_at, drop_at, take_all, take-append-le, length-append, append_assoc}
 use Rattle.std.proofs.Math.Seq.{take-append-add}
 

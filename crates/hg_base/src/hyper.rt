@@ -1,6 +1,7 @@
 //! The hypergraph as flat arrays.
 
 ghost use Rattle.std.specs.Prelude.{◌≡◌, ℕ, ◌+◌, ◌*◌, ◌^◌, ◌<◌, ◌≤◌, [], ◌∷◌, ◌++◌, length, replicate, All, IsTrue, ◌↔◌, IfOk, OnOk, OnErr, slice_set};
+ghost use Rattle.std.specs.List.Sorted.{IsStrictlyIncreasing};
 ghost use Rattle.std.specs.Ordering.{nat_cmp};
 ghost use Rattle.hg_defs.specs.Sorting.{set_of};
 ghost use Rattle.hg_defs.specs.Sums.{total};
@@ -44,13 +45,13 @@ impl Model for FlatHyper {
     } };
 
     ghost invariant = { λ h.
-      IsLaidOut h.starts.items h.net_weights.items h.pins.items
-      × IsKept (record {
-        weights = h.vertex_weights.items;
-        nets = nets_at h.starts.items h.net_weights.items h.pins.items;
-        objective = h.objective;
-        fixes = h.fixes.items;
-      }) (length h.pins.items) h.total };
+        IsLaidOut h.starts.items h.net_weights.items h.pins.items
+        × IsKept (record {
+          weights = h.vertex_weights.items;
+          nets = nets_at h.starts.items h.net_weights.items h.pins.items;
+          objective = h.objective;
+          fixes = h.fixes.items;
+        }) (length h.pins.items) h.total };
 }
 
 impl FlatHyper {
@@ -120,7 +121,9 @@ impl FlatHyper {
     /// The pins of a net, in strictly rising order.
     pub fn pins(&self, e: u32) -> &[u32]
         requires { e < net_count self.now }
-        ensures { result.now ≡ (net_of self.now e).pins }
+        ensures value { result.now ≡ (net_of self.now e).pins }
+        ensures rising { IsStrictlyIncreasing result.now }
+        ensures below { All (λ v. v < vertex_count self.now) result.now }
     {
         let start = self.starts[e as usize] as usize;
         let end = self.starts[e as usize + 1] as usize;
@@ -130,7 +133,8 @@ impl FlatHyper {
     /// The weight of a net.
     pub fn net_weight(&self, e: u32) -> u64
         requires { e < net_count self.now }
-        ensures { result ≡ (net_of self.now e).weight }
+        ensures value { result ≡ (net_of self.now e).weight }
+        ensures bound { result < 2 ^ 54 }
     {
         self.net_weights[e as usize]
     }
@@ -138,7 +142,8 @@ impl FlatHyper {
     /// The weight of a vertex.
     pub fn vertex_weight(&self, v: u32) -> u64
         requires { v < vertex_count self.now }
-        ensures { result ≡ weight_of self.now v }
+        ensures value { result ≡ weight_of self.now v }
+        ensures bound { result < 2 ^ 54 }
     {
         self.vertex_weights[v as usize]
     }
@@ -152,7 +157,6 @@ impl FlatHyper {
 
     /// Whether the counts of `k` blocks for all vertices and nets are at most 2^26.
     pub fn suits(&self, k: u32) -> bool
-        requires { k ≤ 256 }
         ensures { IsTrue result ↔ Suits self.now k }
     {
         (u64::from(self.vertices()) + u64::from(self.nets())) * u64::from(k) <= MOST_COUNTS

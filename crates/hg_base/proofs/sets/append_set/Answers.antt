@@ -1,5 +1,5 @@
 -- The tail becomes the set of what was appended, or is that set already.
-use Rattle.std.proofs.Common.{◌∙◌, ap, ◌++◌, arith, nat_cmp, ◌≡◌, refl, length, take, drop, ◌≤◌, ◌+◌, ◌-◌, sym}
+use Rattle.std.proofs.Common.{◌∙◌, ap, ◌++◌, arith, nat_cmp, ◌≡◌, refl, length, ◌≤◌, ◌+◌, sym}
 use Rattle.hg_defs.specs.Sorting.{set_of}
 use Rattle.hg_defs.proofs.SortLaws.{set_of-increasing}
 use Rattle.hg_base.proofs.SetLaws.{kept_tail, tail_is}

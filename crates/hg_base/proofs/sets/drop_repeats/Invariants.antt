@@ -1,5 +1,5 @@
 -- What was kept, and what will be kept of the rest, are all that is kept.
-use Rattle.std.proofs.Common.{◌≡◌, ◌<◌, ◌++◌, length, take, drop, nat_eq, slice_index}
+use Rattle.std.proofs.Common.{◌≡◌, ◌<◌, ◌++◌, take, drop, nat_eq, slice_index}
 use Rattle.std.specs.List.{dedup, dedup_from}
 use Rattle.hg_base.proofs.sets.drop_repeats.Given as goal
 

@@ -1,12 +1,9 @@
 -- One net more at the end of the arrays.
-use Rattle.std.proofs.Common.{◌≡◌, ◌+◌, ◌*◌, ◌^◌, ◌<◌, ◌≤◌, ◌++◌, [], ◌∷◌, All, length, nat_cmp, ap, ap₂, sym, ◌∙◌, subst, arith}
+use Rattle.std.proofs.Common.{◌≡◌, ◌+◌, ◌++◌, [], ◌∷◌, length, nat_cmp, ap, ◌∙◌, arith}
 use Rattle.std.proofs.lemmas.List.{length-append}
-use Rattle.hg_defs.specs.Sums.{total}
 use Rattle.hg_defs.specs.Sorting.{set_of}
-use Rattle.hg_defs.specs.Hypergraph.{Hyper, vertex_count, net_count, pin_count, total_net_weight}
 use Rattle.hg_defs.proofs.SortLaws.{length-set_of-le}
-use Rattle.hg_base.specs.Flat.{IsLaidOut, IsKept}
-use Rattle.hg_base.proofs.PushLaws.{nets_at_push, IsLaidOut_push, IsKept_push, spelt_net}
+use Rattle.hg_base.proofs.PushLaws.{nets_at_push, IsLaidOut_push, IsKept_push}
 use Rattle.hg_base.proofs.hyper.FlatHyper.push_net.Goals as goal
 
 pub overflow_cast-len : goal.overflow_cast-len
@@ -29,11 +26,12 @@ invariant_of-self-2 c =
     let end : c.len.result ≡ length h.pins.items + length set = (let l = ap length pins in omega arith) in
     let laid = c.self.invariant.0 in
     let nets = nets_at_push h.starts.items h.net_weights.items h.pins.items set c.args.weight c.len.result laid end in
-    rw (starts, weights, pins, nets, sum)
-    (IsLaidOut_push h.starts.items h.net_weights.items h.pins.items set c.args.weight c.len.result laid end,
+    rw (starts, weights, pins, nets, sum) (
+      IsLaidOut_push h.starts.items h.net_weights.items h.pins.items set c.args.weight c.len.result laid end,
       IsKept_push _ c.args.weight c.args.pins.now (length h.pins.items) h.total c.self.invariant.1
-      (rw (← c.self.view_is) at c.requires.vertices) (rw (← c.self.view_is) at c.requires.nets) (rw (← c.self.view_is) at c.requires.all_pins)
-      (rw (← c.self.view_is) at c.requires.net_weight) (rw (← c.self.view_is) at c.requires.pin_weight))
+          (rw (← c.self.view_is) at c.requires.vertices) (rw (← c.self.view_is) at c.requires.nets) (rw (← c.self.view_is) at c.requires.all_pins)
+          (rw (← c.self.view_is) at c.requires.net_weight) (rw (← c.self.view_is) at c.requires.pin_weight),
+    )
 
 pub returns-clause-ok : goal.returns-clause-ok
 returns-clause-ok c =
