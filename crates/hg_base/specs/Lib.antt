@@ -6,3 +6,4 @@ pub use Rattle.hg_defs.specs.Cost
 pub use Rattle.hg_defs.specs.LeastLoaded
 pub mod Flat
 pub mod Packed
+pub mod BlockSet

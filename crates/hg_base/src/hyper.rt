@@ -113,7 +113,9 @@ impl FlatHyper {
 
     /// How many nets there are.
     pub fn nets(&self) -> u32
-        ensures { result ≡ net_count self.now }
+        ensures count { result ≡ net_count self.now }
+        ensures sound { IsHypergraph self.now }
+        ensures bounds { IsWithinLimits self.now }
     {
         self.net_weights.len() as u32
     }
