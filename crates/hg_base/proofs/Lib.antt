@@ -1,1 +1,6 @@
 pub mod FlatLaws
+pub mod SetLaws
+pub mod PushLaws
+pub mod LimitLaws
+pub mod BlockSetLaws
+pub mod CountLaws

@@ -1,5 +1,4 @@
-use Rattle.std.proofs.Common.{arith, ap, ◌∙◌, ◌≤◌, ◌^◌, subst, sym, refl, ◌≡◌, length}
-use Rattle.hg_defs.specs.Hypergraph.{net_count}
+use Rattle.std.proofs.Common.{arith}
 use Rattle.hg_base.proofs.FlatLaws.{length-nets_at}
 use Rattle.hg_base.proofs.hyper.FlatHyper.nets.Goals as goal
 
@@ -10,8 +9,8 @@ overflow_cast-result c =
     let most = c.self.invariant.1.bounds.nets in
     omega arith
 
-pub returns : goal.returns
-returns c =
+pub returns-clause-count : goal.returns-clause-count
+returns-clause-count c =
     let h = c.self.inside in
     let same = length-nets_at h.starts.items h.net_weights.items h.pins.items in
     rw (← c.self.view_is) (omega arith)
