@@ -4,3 +4,5 @@ pub mod PushLaws
 pub mod LimitLaws
 pub mod BlockSetLaws
 pub mod CountLaws
+pub mod PlacingLaws
+pub mod RankLaws

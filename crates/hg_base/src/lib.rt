@@ -5,7 +5,9 @@ mod cost;
 mod hyper;
 mod limit;
 mod list;
+mod loads;
 mod packed;
+mod placement;
 mod sets;
 
 pub use cost::cost_of;
@@ -14,3 +16,4 @@ pub use hyper::FlatHyper;
 pub use limit::limit_of;
 pub use list::{Blocks, Flags, Gains, Items, MapList, MapStack, TryClone, Verts};
 pub use packed::{bits_of, field, unit, words_of};
+pub use placement::{GreedyEnd, greedy, least_loaded};
