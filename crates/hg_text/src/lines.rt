@@ -1,10 +1,11 @@
 ghost use Rattle.std.specs.Prelude.{◌≡◌, ℕ, ◌^◌, ◌≤◌, length, [], ◌∷◌, MatchOption};
-ghost use Rattle.hg_text.specs.Kept.{reading, lines, fields};
+ghost use Rattle.hg_text.specs.Kept.{reading, lines, fields, SpellsFirst};
 ghost use Rattle.hg_text.specs.Cut.{IsTrimmed};
 
 use std::marker::Model;
 
-use crate::cut::{skip_blanks, split_field, split_line, trim_return};
+use crate::cut::{skip_blanks, split_field, split_line, split_number, trim_return};
+use crate::numeral::BadNumber;
 
 /// The kept lines of a text, one after another.
 ///
@@ -44,7 +45,7 @@ impl<'a> Lines<'a> {
     /// The next kept line, or None where none is left.
     pub fn next_kept(&mut self) -> Option<Kept<'a>>
         ensures kept {
-            MatchOption result (self.old.kept ≡ []) (λ line. self.old.kept ≡ line ∷ self.new.kept)
+            MatchOption result ((self.old.kept ≡ []) × (self.new.kept ≡ [])) (λ line. self.old.kept ≡ line ∷ self.new.kept)
         }
         ensures count { self.new.count ≡ self.old.count }
     {
@@ -124,7 +125,7 @@ impl<'a> Kept<'a> {
     /// The next field, or None where none is left. A field isn't empty.
     pub fn next_field(&mut self) -> Option<&'a [u8]>
         ensures field {
-            MatchOption result (self.old.fields ≡ []) (λ field. self.old.fields ≡ field.now ∷ self.new.fields)
+            MatchOption result ((self.old.fields ≡ []) × (self.new.fields ≡ [])) (λ field. self.old.fields ≡ field.now ∷ self.new.fields)
         }
         ensures line { self.new.number ≡ self.old.number }
     {
@@ -134,6 +135,23 @@ impl<'a> Kept<'a> {
         let (field, rest) = split_field(self.rest);
         self.rest = skip_blanks(rest);
         Some(field)
+    }
+
+    /// What the next field spells, or None where none is left. It takes the field as `next_field`
+    /// does, and answers what `number` says of it, but reads its bytes once.
+    #[inline]
+    pub fn next_number(&mut self) -> Option<Result<u64, BadNumber>>
+        ensures spelt {
+            MatchOption result ((self.old.fields ≡ []) × (self.new.fields ≡ [])) (λ value. SpellsFirst self.old.fields self.new.fields value)
+        }
+        ensures line { self.new.number ≡ self.old.number }
+    {
+        if self.rest.is_empty() {
+            return None;
+        }
+        let (value, rest) = split_number(self.rest);
+        self.rest = skip_blanks(rest);
+        Some(value)
     }
 }
 
