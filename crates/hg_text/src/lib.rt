@@ -6,8 +6,10 @@
 #![tactic(auto)]
 
 mod cut;
+mod decimal;
 mod lines;
 mod numeral;
 
+pub use decimal::{put_number, put_signed};
 pub use lines::{Kept, Lines};
 pub use numeral::{BadNumber, number};
