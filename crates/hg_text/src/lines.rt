@@ -1,4 +1,4 @@
-ghost use Rattle.std.specs.Prelude.{◌≡◌, ℕ, ◌^◌, ◌≤◌, length, [], ◌∷◌, MatchOption};
+ghost use Rattle.std.specs.Prelude.{◌≡◌, ℕ, ◌^◌, ◌<◌, ◌≤◌, length, [], ◌∷◌, MatchOption, IfSome};
 ghost use Rattle.hg_text.specs.Kept.{reading, lines, fields, SpellsFirst};
 ghost use Rattle.hg_text.specs.Cut.{IsTrimmed};
 
@@ -47,6 +47,7 @@ impl<'a> Lines<'a> {
         ensures kept {
             MatchOption result ((self.old.kept ≡ []) × (self.new.kept ≡ [])) (λ line. self.old.kept ≡ line ∷ self.new.kept)
         }
+        ensures filled { IfSome result (λ line. 0 < length line.fields) }
         ensures count { self.new.count ≡ self.old.count }
     {
         while !self.rest.is_empty() {
@@ -66,7 +67,8 @@ impl<'a> Lines<'a> {
 
     /// The number of lines of the text, those that aren't kept included.
     pub fn count(&self) -> u32
-        ensures { result ≡ self.now.count }
+        ensures count { result ≡ self.now.count }
+        ensures bound { result ≤ 2 ^ 29 }
     {
         self.passed + lines_of(self.rest)
     }
