@@ -58,12 +58,12 @@ fields_cut [] i low high miss ends = absurd (omega arith)
 fields_cut (x ∷ line) zero low high miss ends = absurd (omega arith)
 fields_cut (x ∷ line) (suc j) low high miss ends =
     elim (cases_lt j (length line)) [
-      inl less ↦ fields_at x line j less (ends (omega arith)) miss
-        ∙ ap (λ (fs : List (List ℕ)). (x ∷ take j line) ∷ fs) (sym (ap fields (drop-cons line j 0 less) ∙ fields_blank (get_or line j 0) (drop (suc j) line) (ends (omega arith))))
-    | inr more ↦ 
-        (let all : length line ≡ j = omega arith in
-         let whole : fields (x ∷ line) ≡ (x ∷ line) ∷ [] = ap (filter is_filled) (split_last (x ∷ line) (λ k l. miss k (omega arith))) in
-         whole ∙ sym (rw (take_all j line (omega arith), drop_all j line (omega arith)) refl))
+      | inl less ↦ fields_at x line j less (ends (omega arith)) miss
+          ∙ ap (λ (fs : List (List ℕ)). (x ∷ take j line) ∷ fs) (sym (ap fields (drop-cons line j 0 less) ∙ fields_blank (get_or line j 0) (drop (suc j) line) (ends (omega arith))))
+      | inr more ↦
+          (let all : length line ≡ j = omega arith in
+          let whole : fields (x ∷ line) ≡ (x ∷ line) ∷ [] = ap (filter is_filled) (split_last (x ∷ line) (λ k l. miss k (omega arith))) in
+          whole ∙ sym (rw (take_all j line (omega arith), drop_all j line (omega arith)) refl))
     ]
 
 pub fields_front : (line : List ℕ) (i : ℕ) → EndsField line i → fields line ≡ take i line ∷ fields (drop i line)

@@ -31,14 +31,14 @@ pub spells_digits : (line : List ℕ) (count : ℕ) (value : Option ℕ) → cou
 spells_digits line count value e end v =
     let size : length (take count line) ≡ count = length-take-le count line end.high in
     let all : prefix_len is_ascii_digit (take count line) ≡ count =
-        prefix_len_is is_ascii_digit (take count line) count 0 (omega arith)
-          (λ k h. ap is_ascii_digit (get_or-take count line k 0 h) ∙ prefix_len_passes is_ascii_digit line k 0 (omega arith))
-          (λ h. absurd (omega arith)) in
+    prefix_len_is is_ascii_digit (take count line) count 0 (omega arith)
+    (λ k h. ap is_ascii_digit (get_or-take count line k 0 h) ∙ prefix_len_passes is_ascii_digit line k 0 (omega arith))
+    (λ h. absurd (omega arith)) in
     record {
       field = take count line;
       first = fields_front line count end;
       spelt = ap (λ (o : Option ℕ). ok_or o TooBig) v ∙ fitting_option (digits_value 10 (take count line))
-        ∙ sym (number_digits (take count line) (omega (arith, end.low)) (omega arith));
+          ∙ sym (number_digits (take count line) (omega (arith, end.low)) (omega arith));
     }
 
 -- a field whose digits end before it does spells none
@@ -46,16 +46,16 @@ pub spells_none : (line : List ℕ) (count end : ℕ) → count ≡ prefix_len i
 spells_none line count end e ends early =
     let size : length (take end line) ≡ end = length-take-le end line ends.high in
     let less : count < end = elim early [
-      inl none ↦ omega (arith, ends.low)
-    | inr stop ↦ elim (cases_lt count end) [
-        inl below ↦ below
-      | inr past ↦ absurd (goes_on (cases_lt end count) past stop)
+      | inl none ↦ omega (arith, ends.low)
+      | inr stop ↦ elim (cases_lt count end) [
+        | inl below ↦ below
+        | inr past ↦ absurd (goes_on (cases_lt end count) past stop)
       ]
     ] in
     let short : prefix_len is_ascii_digit (take end line) ≡ count =
-        prefix_len_is is_ascii_digit (take end line) count 0 (omega arith)
-          (λ k h. ap is_ascii_digit (get_or-take end line k 0 (omega arith)) ∙ prefix_len_passes is_ascii_digit line k 0 (omega arith))
-          (λ h. ap is_ascii_digit (get_or-take end line count 0 (omega arith)) ∙ stops (omega (arith, ends.high))) in
+    prefix_len_is is_ascii_digit (take end line) count 0 (omega arith)
+    (λ k h. ap is_ascii_digit (get_or-take end line k 0 (omega arith)) ∙ prefix_len_passes is_ascii_digit line k 0 (omega arith))
+    (λ h. ap is_ascii_digit (get_or-take end line count 0 (omega arith)) ∙ stops (omega (arith, ends.high))) in
     record {
       field = take end line;
       first = fields_front line end ends;
@@ -69,5 +69,6 @@ spells_none line count end e ends early =
     goes_on (inr l) h stop =
         let same : end ≡ count = omega arith in
         both_ways (ends_field line end) (ap (ends_field line) same ∙ stop) ends.ends
+
     stops : count < length line → is_ascii_digit (get_or line count 0) ≡ false
     stops h = ap (λ (n : ℕ). is_ascii_digit (get_or line n 0)) e ∙ prefix_len_stops is_ascii_digit line 0 (omega arith)

@@ -2,9 +2,8 @@ ghost use Rattle.std.specs.Prelude.{◌≡◌, ℕ, ◌+◌, ◌<◌, ◌≤◌,
 ghost use Rattle.hg_text.specs.Kept.{is_blank as is_blank_byte, lines, without_return, fields, SpellsFirst};
 ghost use Rattle.hg_text.specs.Cut.{IsTrimmed, EndsField, ends_field};
 
-use memchr::memchr;
-
 use crate::numeral::{BadNumber, leading_digits};
+use memchr::memchr;
 
 // The first line of a text that isn't empty, and the text behind it.
 pub(crate) fn split_line(text: &[u8]) -> (&[u8], &[u8])

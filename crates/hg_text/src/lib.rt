@@ -9,6 +9,8 @@ mod cut;
 mod decimal;
 mod lines;
 mod numeral;
+#[cfg(test)]
+mod tests;
 
 pub use decimal::{put_number, put_signed};
 pub use lines::{Kept, Lines};

@@ -2,10 +2,9 @@ ghost use Rattle.std.specs.Prelude.{◌≡◌, ℕ, ◌^◌, ◌<◌, ◌≤◌,
 ghost use Rattle.hg_text.specs.Kept.{reading, lines, fields, SpellsFirst};
 ghost use Rattle.hg_text.specs.Cut.{IsTrimmed};
 
-use std::marker::Model;
-
 use crate::cut::{skip_blanks, split_field, split_line, split_number, trim_return};
 use crate::numeral::BadNumber;
+use std::marker::Model;
 
 /// The kept lines of a text, one after another.
 ///
@@ -23,8 +22,8 @@ impl<'a> Model for Lines<'a> {
     ghost Value = { Reading };
 
     ghost view = { λ l. record {
-        kept = kept_from (l.passed + 1) l.rest.now;
-        count = l.passed + length (lines l.rest.now);
+      kept = kept_from (l.passed + 1) l.rest.now;
+      count = l.passed + length (lines l.rest.now);
     } };
 
     ghost invariant = { λ l. l.passed + length l.rest.now ≤ 2 ^ 29 };
@@ -44,9 +43,7 @@ impl<'a> Lines<'a> {
 
     /// The next kept line, or None where none is left.
     pub fn next_kept(&mut self) -> Option<Kept<'a>>
-        ensures kept {
-            MatchOption result ((self.old.kept ≡ []) × (self.new.kept ≡ [])) (λ line. self.old.kept ≡ line ∷ self.new.kept)
-        }
+        ensures kept { MatchOption result ((self.old.kept ≡ []) × (self.new.kept ≡ [])) (λ line. self.old.kept ≡ line ∷ self.new.kept) }
         ensures filled { IfSome result (λ line. 0 < length line.fields) }
         ensures count { self.new.count ≡ self.old.count }
     {
@@ -126,9 +123,7 @@ impl<'a> Kept<'a> {
 
     /// The next field, or None where none is left. A field isn't empty.
     pub fn next_field(&mut self) -> Option<&'a [u8]>
-        ensures field {
-            MatchOption result ((self.old.fields ≡ []) × (self.new.fields ≡ [])) (λ field. self.old.fields ≡ field.now ∷ self.new.fields)
-        }
+        ensures field { MatchOption result ((self.old.fields ≡ []) × (self.new.fields ≡ [])) (λ field. self.old.fields ≡ field.now ∷ self.new.fields) }
         ensures line { self.new.number ≡ self.old.number }
     {
         if self.rest.is_empty() {
@@ -143,9 +138,7 @@ impl<'a> Kept<'a> {
     /// does, and answers what `number` says of it, but reads its bytes once.
     #[inline]
     pub fn next_number(&mut self) -> Option<Result<u64, BadNumber>>
-        ensures spelt {
-            MatchOption result ((self.old.fields ≡ []) × (self.new.fields ≡ [])) (λ value. SpellsFirst self.old.fields self.new.fields value)
-        }
+        ensures spelt { MatchOption result ((self.old.fields ≡ []) × (self.new.fields ≡ [])) (λ value. SpellsFirst self.old.fields self.new.fields value) }
         ensures line { self.new.number ≡ self.old.number }
     {
         if self.rest.is_empty() {
