@@ -1,3 +1,4 @@
+use std::alloc::AllocFailed;
 use std::convert::From;
 
 use hg_base::NoMemory;
@@ -70,6 +71,17 @@ impl From<NoMemory> for GraphFault {
     ghost from_gives = { λ _ fault. fault ≡ no_memory };
 
     fn from(_error: NoMemory) -> Self {
+        GraphFault::NoMemory
+    }
+}
+
+impl<T: Drop> From<AllocFailed<T>> for GraphFault {
+    ghost use Rattle.std.specs.Prelude.{◌≡◌};
+    ghost use Rattle.hmetis_read.specs.declared.fault.GraphFault.TheVariants.{NoMemory as no_memory};
+
+    ghost from_gives = { λ _ fault. fault ≡ no_memory };
+
+    fn from(_failed: AllocFailed<T>) -> Self {
         GraphFault::NoMemory
     }
 }

@@ -3,5 +3,7 @@
 
 mod fault;
 mod header;
+mod net;
+mod vertex;
 
 pub use fault::{GraphFault, LineKind, What};
