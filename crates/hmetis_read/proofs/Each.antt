@@ -1,6 +1,6 @@
 -- Reading a list from the left, where its front was read already.
 use Rattle.std.proofs.Common.{◌≡◌, ℕ, ◌+◌, nat_le, length, take, List, [], ◌∷◌, ◌++◌, Ok, Err, refl, sym, ◌∙◌, ap}
-use Rattle.std.proofs.lemmas.List.{append_assoc, append-nil}
+use Rattle.std.proofs.lemmas.List.{append_assoc}
 use Rattle.hg_text.specs.Kept.{Line, Reading}
 use Rattle.hmetis_read.specs.Graph.{Read, ◌>>=◌, each, guarded, first_in}
 use Rattle.hmetis_read.specs.declared.fault.GraphFault.{GraphFault}

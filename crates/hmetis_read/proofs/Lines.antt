@@ -1,5 +1,5 @@
 -- Lines that are read one after another, and bounds on sums of weights.
-use Rattle.std.proofs.Common.{◌≡◌, ℕ, zero, suc, ◌+◌, ◌-◌, ◌*◌, ◌^◌, ◌<◌, ◌≤◌, List, [], ◌∷◌, length, take, drop, get_or, refl, sym, ◌∙◌, ap, arith}
+use Rattle.std.proofs.Common.{◌≡◌, ℕ, zero, suc, ◌+◌, ◌-◌, ◌*◌, ◌^◌, ◌<◌, ◌≤◌, List, [], ◌∷◌, length, take, drop, get_or, sym, ◌∙◌, ap, arith}
 use Rattle.std.specs.List.{All}
 use Rattle.std.proofs.lemmas.List.{drop-drop, length-drop}
 use Rattle.std.proofs.lemmas.List.Elements.{All-head, All-tail}

@@ -11,7 +11,6 @@ use Rattle.hg_text.specs.declared.numeral.BadNumber.{BadNumber}
 use Rattle.hg_text.specs.declared.numeral.BadNumber.TheVariants.{NotDigits, TooBig}
 use Rattle.hmetis_read.specs.declared.fault.GraphFault.{GraphFault}
 use Rattle.hmetis_read.specs.declared.fault.GraphFault.TheVariants.{Bad, TooLarge}
-use Rattle.hmetis_read.specs.declared.fault.LineKind.{LineKind}
 use Rattle.hmetis_read.specs.declared.fault.LineKind.TheVariants.{NoHeader, HeaderCount, NotNumber, BadFormat, MissingLine, ExtraLine, PinRange, WeightRange, FieldCount}
 use Rattle.hmetis_read.specs.declared.header.Shape.{Shape}
 use Rattle.hmetis_read.specs.declared.fault.What.TheVariants.{Nets, Vertices, Pins}

@@ -1,15 +1,14 @@
-use Rattle.std.proofs.Common.{◌≡◌, ◌+◌, ◌-◌, ◌*◌, ◌^◌, ◌<◌, ◌≤◌, ◌⊎◌, ℕ, List, [], ◌∷◌, ◌++◌, length, take, drop, Ok, Err, sym, ◌∙◌, ap, arith, inl, inr}
+use Rattle.std.proofs.Common.{◌≡◌, ◌+◌, ◌-◌, ◌*◌, ◌^◌, ◌<◌, ◌≤◌, ◌⊎◌, ℕ, List, [], ◌∷◌, ◌++◌, length, take, drop, Err, sym, ◌∙◌, ap, arith, inl, inr}
 use Rattle.std.specs.Ordering.{nat_cmp}
 use Rattle.std.proofs.lemmas.List.{length_push}
 use Rattle.std.proofs.lemmas.Result.{err_from_is_err_and}
-use Rattle.hg_defs.specs.Hypergraph.{Hyper, Net, pin_count, total_net_weight}
+use Rattle.hg_defs.specs.Hypergraph.{Hyper, Net}
 use Rattle.hg_defs.specs.Sorting.{set_of}
 use Rattle.hg_defs.specs.Sums.{total}
 use Rattle.hg_defs.proofs.SumLaws.{total_push}
 use Rattle.hg_defs.proofs.SortLaws.{length-set_of-le}
 use Rattle.hg_text.specs.Kept.{Line}
-use Rattle.hmetis_read.specs.Graph.{Read, ◌>>=◌, each, net_in, nets_in, first_in, pin_numbers, with_pins_before}
-use Rattle.hmetis_read.specs.Reads.{Reads}
+use Rattle.hmetis_read.specs.Graph.{each, net_in, nets_in, first_in, pin_numbers, with_pins_before}
 use Rattle.hmetis_read.specs.declared.fault.GraphFault.TheVariants.{NoMemory}
 use Rattle.hmetis_read.specs.declared.header.Shape.{Shape}
 use Rattle.hmetis_read.proofs.Each.{with_front, front_ok, front_err, first_err}

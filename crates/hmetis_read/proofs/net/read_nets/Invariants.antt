@@ -1,7 +1,7 @@
-use Rattle.std.proofs.Common.{◌≡◌, ◌+◌, ◌-◌, ◌*◌, ◌^◌, ◌<◌, ◌≤◌, ℕ, length, take, drop}
+use Rattle.std.proofs.Common.{◌≡◌, ◌-◌, ◌*◌, ◌^◌, ◌≤◌, length, take, drop}
 use Rattle.hg_defs.specs.Hypergraph.{pin_count, total_net_weight}
 use Rattle.hg_defs.specs.Sums.{total}
-use Rattle.hmetis_read.specs.Graph.{net_in, with_pins_before, nets_in, each, Read}
+use Rattle.hmetis_read.specs.Graph.{net_in, with_pins_before, nets_in, each}
 use Rattle.hmetis_read.proofs.Each.{with_front}
 use Rattle.hmetis_read.proofs.net.read_nets.Given as goal
 

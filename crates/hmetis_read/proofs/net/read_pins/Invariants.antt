@@ -1,4 +1,4 @@
-use Rattle.std.proofs.Common.{◌≡◌, ◌+◌, ◌^◌, ◌<◌, ◌≤◌, ℕ, length, map}
+use Rattle.std.proofs.Common.{◌≡◌, ◌+◌, ◌^◌, ◌<◌, ◌≤◌, length, map}
 use Rattle.std.specs.List.{All, enumerate_from}
 use Rattle.hg_text.specs.Kept.{number_of}
 use Rattle.hmetis_read.specs.Graph.{pin_in, each}

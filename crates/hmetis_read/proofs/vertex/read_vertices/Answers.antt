@@ -1,4 +1,4 @@
-use Rattle.std.proofs.Common.{◌≡◌, ◌+◌, ◌-◌, ◌^◌, ◌<◌, ◌≤◌, ℕ, List, ◌∷◌, length, take, drop, set, sym, ◌∙◌, ap, arith}
+use Rattle.std.proofs.Common.{◌≡◌, ◌+◌, ◌-◌, ◌^◌, ◌<◌, ℕ, List, ◌∷◌, length, take, drop, set, sym, ◌∙◌, ap, arith}
 use Rattle.std.proofs.lemmas.List.{take_more_set, length-set}
 use Rattle.std.proofs.lemmas.List.Elements.{All-same, All-set}
 use Rattle.hg_defs.specs.Hypergraph.{Hyper, vertex_count}

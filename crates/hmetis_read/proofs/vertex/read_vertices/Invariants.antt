@@ -1,7 +1,7 @@
-use Rattle.std.proofs.Common.{◌≡◌, ◌+◌, ◌-◌, ◌^◌, ◌<◌, ◌≤◌, ℕ, length, take, drop}
+use Rattle.std.proofs.Common.{◌≡◌, ◌-◌, ◌^◌, ◌<◌, ◌≤◌, length, take, drop}
 use Rattle.std.specs.List.{All}
 use Rattle.hg_defs.specs.Hypergraph.{vertex_count}
-use Rattle.hmetis_read.specs.Graph.{vertex_in, each, Read}
+use Rattle.hmetis_read.specs.Graph.{vertex_in, each}
 use Rattle.hmetis_read.proofs.Each.{with_front}
 use Rattle.hmetis_read.proofs.vertex.read_vertices.Given as goal
 
