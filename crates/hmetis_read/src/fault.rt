@@ -1,7 +1,6 @@
+use hg_base::NoMemory;
 use std::alloc::AllocFailed;
 use std::convert::From;
-
-use hg_base::NoMemory;
 
 /// What is wrong with a line of a hypergraph file.
 #[derive(Clone, Copy, Debug, PartialEq, Eq)]

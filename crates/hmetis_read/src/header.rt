@@ -2,9 +2,8 @@ ghost use Rattle.std.specs.Prelude.{◌≡◌, ℕ, ◌^◌, ◌<◌, ◌≤◌,
 ghost use Rattle.hg_text.specs.Kept.{number_of};
 ghost use Rattle.hmetis_read.specs.Graph.{value_in, shape_in, shape_of, header_in, after};
 
-use hg_text::{BadNumber, Kept, Lines};
-
 use crate::{GraphFault, LineKind, What};
+use hg_text::{BadNumber, Kept, Lines};
 
 /// The most nets that a text may have, and the most vertices.
 const MOST: u64 = 1 << 22;
@@ -37,9 +36,7 @@ pub(crate) fn value_at(line: u32, number: Result<u64, BadNumber>) -> Result<u64,
 #[inline]
 pub(crate) fn next_value(line: &mut Kept) -> Result<u64, GraphFault>
     requires { 0 < length line.old.fields }
-    ensures value {
-        (field : List ℕ) × (line.old.fields ≡ field ∷ line.new.fields) × (result ≡ value_in line.old.number (number_of field))
-    }
+    ensures value { (field : List ℕ) × (line.old.fields ≡ field ∷ line.new.fields) × (result ≡ value_in line.old.number (number_of field)) }
     ensures line { line.new.number ≡ line.old.number }
 {
     match line.next_number() {

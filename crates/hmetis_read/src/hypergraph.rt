@@ -2,14 +2,13 @@ ghost use Rattle.std.specs.Prelude.{◌^◌, ◌≤◌, length};
 ghost use Rattle.hmetis_read.specs.Graph.{graph};
 ghost use Rattle.hmetis_read.specs.Reads.{Answers};
 
-use hg_base::FlatHyper;
-use hg_text::Lines;
-use std::alloc::Global;
-
 use crate::header::read_header;
 use crate::net::read_nets;
 use crate::vertex::read_vertices;
 use crate::{GraphFault, LineKind};
+use hg_base::FlatHyper;
+use hg_text::Lines;
+use std::alloc::Global;
 
 /// Reads the hypergraph that a text of at most 2^29 bytes spells, or answers its first fault.
 ///

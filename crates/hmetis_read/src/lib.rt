@@ -10,6 +10,8 @@ mod fault;
 mod header;
 mod hypergraph;
 mod net;
+#[cfg(test)]
+mod tests;
 mod vertex;
 
 pub use fault::{GraphFault, LineKind, What};

@@ -9,12 +9,11 @@ ghost use Rattle.hmetis_read.specs.Reads.{Reads};
 ghost use Rattle.hmetis_read.specs.declared.fault.GraphFault.TheVariants.{NoMemory, Bad};
 ghost use Rattle.hmetis_read.specs.declared.fault.LineKind.TheVariants.{MissingLine};
 
+use crate::header::{Shape, next_value, value_at};
+use crate::{GraphFault, LineKind, What};
 use hg_base::FlatHyper;
 use hg_text::{BadNumber, Kept, Lines};
 use std::alloc::Global;
-
-use crate::header::{Shape, next_value, value_at};
-use crate::{GraphFault, LineKind, What};
 
 /// The most pins that a text may have, repeats included.
 const MOST_PINS: u32 = 1 << 25;
@@ -42,7 +41,12 @@ pub(crate) fn read_weight(line: &mut Kept) -> Result<u64, GraphFault>
 
 // The pin that a number spells, with so many pins before it.
 #[inline]
-fn pin_at(line: u32, vertices: u32, before: u32, number: Result<u64, BadNumber>) -> Result<u32, GraphFault>
+fn pin_at(
+    line: u32,
+    vertices: u32,
+    before: u32,
+    number: Result<u64, BadNumber>,
+) -> Result<u32, GraphFault>
     ensures value { result ≡ pin_in vertices line (before, number) }
     ensures vertex { IfOk result (λ pin. pin < vertices) }
     ensures bound { OnOk result (before < 2 ^ 25) }
@@ -64,11 +68,14 @@ fn pin_at(line: u32, vertices: u32, before: u32, number: Result<u64, BadNumber>)
 }
 
 // Reads the fields that a line has left as pins, with so many pins before them.
-fn read_pins(line: &mut Kept, vertices: u32, before: u32, pins: &mut Vec<u32>) -> Result<(), GraphFault>
+fn read_pins(
+    line: &mut Kept,
+    vertices: u32,
+    before: u32,
+    pins: &mut Vec<u32>,
+) -> Result<(), GraphFault>
     requires { before ≤ 2 ^ 25 }
-    ensures pins {
-        Reads result pins.new.items (each (pin_in vertices line.old.number) (enumerate_from before (map number_of line.old.fields)))
-    }
+    ensures pins { Reads result pins.new.items (each (pin_in vertices line.old.number) (enumerate_from before (map number_of line.old.fields))) }
     ensures vertices { All (λ pin. pin < vertices) pins.new.items }
     ensures bound { before + length pins.new.items ≤ 2 ^ 25 }
     ensures count { OnOk result (length pins.new.items ≡ length line.old.fields) }
@@ -82,20 +89,27 @@ fn read_pins(line: &mut Kept, vertices: u32, before: u32, pins: &mut Vec<u32>) -
 }
 
 // Reads a net's line, with so many pins before it: answers its weight and leaves its pins, as spelt.
-fn read_net(line: &mut Kept, shape: &Shape, before: u32, pins: &mut Vec<u32>) -> Result<u64, GraphFault>
+fn read_net(
+    line: &mut Kept,
+    shape: &Shape,
+    before: u32,
+    pins: &mut Vec<u32>,
+) -> Result<u64, GraphFault>
     requires filled { 0 < length line.old.fields }
     requires bound { before ≤ 2 ^ 25 }
-    ensures net {
-        MatchResult result
-          (λ weight. net_in shape.now (before, line.old) ≡ Ok (record { weight = weight; pins = set_of nat_cmp pins.new.items }))
-          (λ fault. (fault ≡ NoMemory) ⊎ (net_in shape.now (before, line.old) ≡ Err fault))
-    }
+    ensures net { MatchResult result
+        (λ weight. net_in shape.now (before, line.old) ≡ Ok (record { weight = weight; pins = set_of nat_cmp pins.new.items }))
+        (λ fault. (fault ≡ NoMemory) ⊎ (net_in shape.now (before, line.old) ≡ Err fault)) }
     ensures weight { IfOk result (λ weight. weight < 2 ^ 32) }
     ensures vertices { OnOk result (All (λ pin. pin < shape.now.vertices) pins.new.items) }
     ensures limit { OnOk result (before + length pins.new.items ≤ 2 ^ 25) }
     ensures count { OnOk result (length pins.new.items ≡ length (pin_numbers shape.now line.old)) }
 {
-    let weight = if shape.net_weights { read_weight(line)? } else { 1 };
+    let weight = if shape.net_weights {
+        read_weight(line)?
+    } else {
+        1
+    };
     read_pins(line, shape.vertices, before, pins)?;
     Ok(weight)
 }
@@ -111,7 +125,12 @@ pub(crate) fn missing(lines: &Lines) -> GraphFault
 }
 
 // Reads the lines of the nets, and adds the nets to a hypergraph that has none.
-pub(crate) fn read_nets(alloc: Global, lines: &mut Lines, shape: &Shape, hyper: &mut FlatHyper) -> Result<(), GraphFault>
+pub(crate) fn read_nets(
+    alloc: Global,
+    lines: &mut Lines,
+    shape: &Shape,
+    hyper: &mut FlatHyper,
+) -> Result<(), GraphFault>
     requires nets { shape.now.nets ≤ 2 ^ 22 }
     requires vertices { vertex_count hyper.old ≡ shape.now.vertices }
     requires empty { hyper.old.nets ≡ [] }

@@ -3,11 +3,10 @@ ghost use Rattle.hg_defs.specs.Hypergraph.{vertex_count};
 ghost use Rattle.hmetis_read.specs.Graph.{vertex_in, each, first_in, after};
 ghost use Rattle.hmetis_read.specs.Reads.{Reads};
 
-use hg_base::FlatHyper;
-use hg_text::{Kept, Lines};
-
 use crate::net::{missing, read_weight};
 use crate::{GraphFault, LineKind};
+use hg_base::FlatHyper;
+use hg_text::{Kept, Lines};
 
 // Reads a vertex's line: answers its weight.
 fn read_vertex(line: &mut Kept) -> Result<u64, GraphFault>

@@ -9,7 +9,7 @@ abbrev pub invariant-loop : goal.invariant-loop
 invariant-loop l =
     record {
       read : with_front l.hyper.nets (each (net_in l.shape) (with_pins_before l.shape l.before (take (l.shape.nets - l.counter) l.lines.kept)))
-        ≡ nets_in l.shape (take l.shape.nets l.fn.lines.kept);
+          ≡ nets_in l.shape (take l.shape.nets l.fn.lines.kept);
       kept : l.lines.kept ≡ drop l.counter l.fn.lines.kept;
       some : l.counter ≤ length l.fn.lines.kept;
       count : l.lines.count ≡ l.fn.lines.count;

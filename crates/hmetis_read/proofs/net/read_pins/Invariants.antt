@@ -9,7 +9,7 @@ abbrev pub invariant-loop-number : goal.invariant-loop-number
 invariant-loop-number l =
     record {
       read : with_front l.pins.items (each (pin_in l.vertices l.line.number) (enumerate_from (l.before + length l.pins.items) (map number_of l.line.fields)))
-        ≡ each (pin_in l.vertices l.fn.line.number) (enumerate_from l.before (map number_of l.fn.line.fields));
+          ≡ each (pin_in l.vertices l.fn.line.number) (enumerate_from l.before (map number_of l.fn.line.fields));
       line : l.line.number ≡ l.fn.line.number;
       vertices : All (λ pin. pin < l.vertices) l.pins.items;
       limit : l.before + length l.pins.items ≤ 2 ^ 25;

@@ -26,18 +26,18 @@ loop-vertex-preserved c =
     let inside : i < length ws = omega arith in
     let written : c.set_vertex_weight.new.self.weights ≡ set ws i w = ap (λ (h : Hyper). h.weights) c.set_vertex_weight.ensures in
     let now : take (n - i) c.loop-vertex.lines.kept ≡ c.in-Some.line ∷ take (n - (i + 1)) later =
-        ap (take (n - i)) c.in-Some.ensures.kept ∙ take_step n i c.in-Some.line later (omega arith) in
+    ap (take (n - i)) c.in-Some.ensures.kept ∙ take_step n i c.in-Some.line later (omega arith) in
     record {
       read = ap (λ (us : List ℕ). with_front (take (i + 1) us) (each vertex_in (take (n - (i + 1)) later))) written
-        ∙ ap (λ (us : List ℕ). with_front us (each vertex_in (take (n - (i + 1)) later))) (take_more_set ws i w inside)
-        ∙ sym (front_ok vertex_in (take i ws) c.in-Some.line (take (n - (i + 1)) later) w (sym c.in_ok-read_vertex.ensures.value))
-        ∙ sym (ap (λ (ls : List Line). with_front (take i ws) (each vertex_in ls)) now)
-        ∙ c.loop-vertex.invariant.read;
+          ∙ ap (λ (us : List ℕ). with_front us (each vertex_in (take (n - (i + 1)) later))) (take_more_set ws i w inside)
+          ∙ sym (front_ok vertex_in (take i ws) c.in-Some.line (take (n - (i + 1)) later) w (sym c.in_ok-read_vertex.ensures.value))
+          ∙ sym (ap (λ (ls : List Line). with_front (take i ws) (each vertex_in ls)) now)
+          ∙ c.loop-vertex.invariant.read;
       kept = drop_rest kept i c.in-Some.line later first;
       some = drop_some kept i c.in-Some.line later first;
       count = c.in-Some.ensures.count ∙ c.loop-vertex.invariant.count;
       weights = All-same (λ v. v < 2 ^ 32) c.set_vertex_weight.new.self.weights (set ws i w) written
-        (All-set (λ v. v < 2 ^ 32) ws i w c.in_ok-read_vertex.ensures.bound c.loop-vertex.invariant.weights);
+          (All-set (λ v. v < 2 ^ 32) ws i w c.in_ok-read_vertex.ensures.bound c.loop-vertex.invariant.weights);
       size = ap length written ∙ length-set ws i w ∙ c.loop-vertex.invariant.size;
       others = weights_twice c.args.hyper.now c.loop-vertex.hyper c.set_vertex_weight.new.self (set ws i w) c.loop-vertex.invariant.others c.set_vertex_weight.ensures;
     }

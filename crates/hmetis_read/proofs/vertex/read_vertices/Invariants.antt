@@ -9,7 +9,7 @@ abbrev pub invariant-loop-vertex : goal.invariant-loop-vertex
 invariant-loop-vertex l =
     record {
       read : with_front (take l.vertex l.hyper.weights) (each vertex_in (take (vertex_count l.fn.hyper - l.vertex) l.lines.kept))
-        ≡ each vertex_in (take (vertex_count l.fn.hyper) l.fn.lines.kept);
+          ≡ each vertex_in (take (vertex_count l.fn.hyper) l.fn.lines.kept);
       kept : l.lines.kept ≡ drop l.vertex l.fn.lines.kept;
       some : l.vertex ≤ length l.fn.lines.kept;
       count : l.lines.count ≡ l.fn.lines.count;
