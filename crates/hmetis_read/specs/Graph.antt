@@ -142,14 +142,12 @@ body_in shape text = do
   })
 
 -- the first line, which is the header
-abbrev pub first_line : Reading → Read Line
-first_line text = first text.kept where
-  first : List Line → Read Line
-  first [] = Err (Bad (text.count + 1) NoHeader)
-  first (line ∷ lines) = Ok line
+abbrev pub first_line : ℕ → List Line → Read Line
+first_line count [] = Err (Bad (count + 1) NoHeader)
+first_line count (line ∷ lines) = Ok line
 
 abbrev pub shape_of : Reading → Read Shape
-shape_of text = first_line text >>= header_in
+shape_of text = first_line text.count text.kept >>= header_in
 
 -- what the bytes of a file spell
 abbrev pub graph : List ℕ → Read Hyper

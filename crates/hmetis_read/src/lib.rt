@@ -9,6 +9,7 @@
 mod fault;
 mod header;
 mod hypergraph;
+mod laws;
 mod net;
 #[cfg(test)]
 mod tests;
@@ -16,3 +17,4 @@ mod vertex;
 
 pub use fault::{GraphFault, LineKind, What};
 pub use hypergraph::read_hypergraph;
+pub use laws::text_law;
