@@ -17,10 +17,8 @@ pub enum BadNumber {
 #[inline]
 pub(crate) fn leading_digits(text: &[u8]) -> (usize, Option<u64>)
     ensures count { result.0 ≡ prefix_len is_ascii_digit text.now }
-    ensures value {
-        let value = digits_value 10 (take result.0 text.now) in
-        result.1 ≡ (if nat_lt value (2 ^ 64) then Some value else None)
-    }
+    ensures value { let value = digits_value 10 (take result.0 text.now) in
+        result.1 ≡ (if nat_lt value (2 ^ 64) then Some value else None) }
 {
     let mut value: u64 = 0;
     let mut count: usize = 0;
