@@ -13,6 +13,9 @@ pub enum BadNumber {
     TooBig,
 }
 
+/// Below this a number has room for another digit.
+const TENTH: u64 = u64::MAX / 10;
+
 // How many digits the text begins with, and the number that they spell, where it is below 2^64.
 #[inline]
 pub(crate) fn leading_digits(text: &[u8]) -> (usize, Option<u64>)
@@ -24,7 +27,7 @@ pub(crate) fn leading_digits(text: &[u8]) -> (usize, Option<u64>)
     let mut count: usize = 0;
     while count < text.len() && text[count].is_ascii_digit() {
         let digit = u64::from(text[count] - b'0');
-        if value > (u64::MAX - digit) / 10 {
+        if value >= TENTH && value > (u64::MAX - digit) / 10 {
             return (count + digits_len(&text[count..]), None);
         }
         value = value * 10 + digit;

@@ -1,3 +1,4 @@
 mod Each
 mod Lines
 mod Told
+mod Counted

@@ -17,4 +17,4 @@ mod vertex;
 
 pub use fault::{GraphFault, LineKind, What};
 pub use hypergraph::read_hypergraph;
-pub use laws::text_law;
+pub use laws::text_laws;

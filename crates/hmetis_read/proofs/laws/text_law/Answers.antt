@@ -1,5 +1,0 @@
-use Rattle.hmetis_read.proofs.Told.{told_graph}
-use Rattle.hmetis_read.proofs.laws.text_law.Goals as goal
-
-pub returns : goal.returns
-returns c = record { told = told_graph }
