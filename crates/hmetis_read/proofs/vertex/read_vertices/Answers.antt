@@ -24,7 +24,7 @@ loop-vertex-preserved c =
     let ws : List ℕ = c.loop-vertex.hyper.weights in
     let w : ℕ = c.in_ok-read_vertex.field-0 in
     let inside : i < length ws = omega arith in
-    let written : c.set_vertex_weight.new.self.weights ≡ set ws i w = ap (λ (h : Hyper). h.weights) c.set_vertex_weight.ensures in
+    let written : c.set_vertex_weight.new.self.weights ≡ set ws i w = ap (λ (h : Hyper). h.weights) c.set_vertex_weight.ensures.value in
     let now : take (n - i) c.loop-vertex.lines.kept ≡ c.in-Some.line ∷ take (n - (i + 1)) later =
     ap (take (n - i)) c.in-Some.ensures.kept ∙ take_step n i c.in-Some.line later (omega arith) in
     record {
@@ -39,5 +39,5 @@ loop-vertex-preserved c =
       weights = All-same (λ v. v < 2 ^ 32) c.set_vertex_weight.new.self.weights (set ws i w) written
           (All-set (λ v. v < 2 ^ 32) ws i w c.in_ok-read_vertex.ensures.bound c.loop-vertex.invariant.weights);
       size = ap length written ∙ length-set ws i w ∙ c.loop-vertex.invariant.size;
-      others = weights_twice c.args.hyper.now c.loop-vertex.hyper c.set_vertex_weight.new.self (set ws i w) c.loop-vertex.invariant.others c.set_vertex_weight.ensures;
+      others = weights_twice c.args.hyper.now c.loop-vertex.hyper c.set_vertex_weight.new.self (set ws i w) c.loop-vertex.invariant.others c.set_vertex_weight.ensures.value;
     }
