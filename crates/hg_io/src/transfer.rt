@@ -1,4 +1,4 @@
-ghost use Rattle.std.specs.Prelude.{◌≡◌, ◌≤◌, ◌<◌, Ok, Err, OnOk, IfOk, IfSome, IsErrOf, vec_len, length};
+ghost use Rattle.std.specs.Prelude.{◌≡◌, ◌≤◌, OnOk, IfOk, IfSome, IsErrOf, vec_len};
 ghost use Rattle.std.specs.Io.KnownBytes.{Consumes, IsAtEnd};
 ghost use Rattle.hg_io.specs.Faults.{Rose, HasCause};
 ghost use Rattle.hg_io.specs.Transfers.{PutsAll, ConsumesMoreThan, ConsumesAtMost};
@@ -41,7 +41,8 @@ const CHUNK: usize = 65_536;
 /// Reads `src` to its end, where that comes within `max` bytes.
 pub fn read_all<S: Source>(alloc: Global, src: &mut S, max: u64) -> Result<Vec<u8>, ReadEnd>
     // `Ok` gives all bytes that were left, and the end was seen.
-    ensures whole { IfOk result (λ bytes. Consumes (S.left src.old) (S.left src.new) bytes.items) }
+    ensures whole { IfOk result (λ bytes. IfSome (S.left src.old) (λ left. bytes.items ≡ left)) }
+    ensures taken { IfOk result (λ bytes. Consumes (S.left src.old) (S.left src.new) bytes.items) }
     ensures end { OnOk result (IsAtEnd (S.left src.new)) }
     ensures within { IfOk result (λ bytes. vec_len bytes ≤ max) }
 
