@@ -1,4 +1,4 @@
-pub mod AnyEnd
+pub mod End
 pub mod AnySink
 pub mod AnySource
 pub mod Faults

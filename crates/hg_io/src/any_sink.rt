@@ -13,11 +13,11 @@ use std::rt::Files;
 /// The sink at a place.
 #[derive(Drop)]
 pub struct AnySink<H: Files + Drop, O: Write + Drop, E: Write + Drop> {
-    writes: Writes<H, O, E>,
+    writer: Writer<H, O, E>,
 }
 
 #[derive(Drop)]
-enum Writes<H: Files + Drop, O: Write + Drop, E: Write + Drop> {
+enum Writer<H: Files + Drop, O: Write + Drop, E: Write + Drop> {
     Nowhere,
     Output(StdSink<O>),
     Errors(StdSink<E>),
@@ -25,13 +25,13 @@ enum Writes<H: Files + Drop, O: Write + Drop, E: Write + Drop> {
 }
 
 impl<H: Files + Drop, O: Write + Drop, E: Write + Drop> Model for AnySink<H, O, E> {
-    ghost use Rattle.hg_io.specs.AnyEnd.{End};
+    ghost use Rattle.hg_io.specs.End.{End};
 
     ghost Value = { End };
 
     ghost use Rattle.hg_io.specs.AnySink.{end_of};
 
-    ghost view = { λ sink. end_of sink.writes };
+    ghost view = { λ sink. end_of sink.writer };
 }
 
 impl<H: Files + Drop, O: Write + Drop, E: Write + Drop> AnySink<H, O, E> {
@@ -41,11 +41,11 @@ impl<H: Files + Drop, O: Write + Drop, E: Write + Drop> AnySink<H, O, E> {
         ensures { result ≡ record { used = is_written place; faults = 0 } }
     {
         AnySink {
-            writes: match place {
-                Place::Output => Writes::Output(StdSink::over(output)),
-                Place::Errors => Writes::Errors(StdSink::over(errors)),
-                Place::File(name) => Writes::File(FileSink::at(rt, name)),
-                Place::Nothing | Place::Input => Writes::Nowhere,
+            writer: match place {
+                Place::Output => Writer::Output(StdSink::over(output)),
+                Place::Errors => Writer::Errors(StdSink::over(errors)),
+                Place::File(name) => Writer::File(FileSink::at(rt, name)),
+                Place::Nothing | Place::Input => Writer::Nowhere,
             },
         }
     }
@@ -63,11 +63,11 @@ impl<H: Files + Drop, O: Write + Drop, E: Write + Drop> Sink for AnySink<H, O, E
         ensures after { self.new ≡ record self.old { faults = counted self.old.faults result } }
         ensures unused { OnFalse self.old.used (result ≡ Ok (length piece.now)) }
     {
-        match &mut self.writes {
-            Writes::Nowhere => Ok(piece.len()),
-            Writes::Output(sink) => sink.put(piece),
-            Writes::Errors(sink) => sink.put(piece),
-            Writes::File(sink) => sink.put(piece),
+        match &mut self.writer {
+            Writer::Nowhere => Ok(piece.len()),
+            Writer::Output(sink) => sink.put(piece),
+            Writer::Errors(sink) => sink.put(piece),
+            Writer::File(sink) => sink.put(piece),
         }
     }
 
@@ -77,11 +77,11 @@ impl<H: Files + Drop, O: Write + Drop, E: Write + Drop> Sink for AnySink<H, O, E
         ensures after { self.new ≡ record self.old { faults = counted self.old.faults result } }
         ensures unused { OnFalse self.old.used (result ≡ Ok tt) }
     {
-        match &mut self.writes {
-            Writes::Nowhere => Ok(()),
-            Writes::Output(sink) => sink.flush(),
-            Writes::Errors(sink) => sink.flush(),
-            Writes::File(sink) => sink.flush(),
+        match &mut self.writer {
+            Writer::Nowhere => Ok(()),
+            Writer::Output(sink) => sink.flush(),
+            Writer::Errors(sink) => sink.flush(),
+            Writer::File(sink) => sink.flush(),
         }
     }
 }

@@ -13,24 +13,24 @@ use std::rt::Files;
 /// The source at a place.
 #[derive(Drop)]
 pub struct AnySource<H: Files + Drop, T: Read + Drop> {
-    reads: Reads<H, T>,
+    reader: Reader<H, T>,
 }
 
 #[derive(Drop)]
-enum Reads<H: Files + Drop, T: Read + Drop> {
+enum Reader<H: Files + Drop, T: Read + Drop> {
     Nowhere,
     Stream(StdSource<T>),
     File(FileSource<H>),
 }
 
 impl<H: Files + Drop, T: Read + Drop> Model for AnySource<H, T> {
-    ghost use Rattle.hg_io.specs.AnyEnd.{End};
+    ghost use Rattle.hg_io.specs.End.{End};
 
     ghost Value = { End };
 
     ghost use Rattle.hg_io.specs.AnySource.{end_of};
 
-    ghost view = { λ source. end_of source.reads };
+    ghost view = { λ source. end_of source.reader };
 }
 
 impl<H: Files + Drop, T: Read + Drop> AnySource<H, T> {
@@ -39,10 +39,10 @@ impl<H: Files + Drop, T: Read + Drop> AnySource<H, T> {
         ensures { result ≡ record { used = is_read place; faults = 0 } }
     {
         AnySource {
-            reads: match place {
-                Place::Input => Reads::Stream(StdSource::over(input)),
-                Place::File(name) => Reads::File(FileSource::at(rt, name)),
-                Place::Nothing | Place::Output | Place::Errors => Reads::Nowhere,
+            reader: match place {
+                Place::Input => Reader::Stream(StdSource::over(input)),
+                Place::File(name) => Reader::File(FileSource::at(rt, name)),
+                Place::Nothing | Place::Output | Place::Errors => Reader::Nowhere,
             },
         }
     }
@@ -59,10 +59,10 @@ impl<H: Files + Drop, T: Read + Drop> Source for AnySource<H, T> {
         ensures after { self.new ≡ record self.old { faults = counted self.old.faults result } }
         ensures unused { OnFalse self.old.used (result ≡ Ok 0) }
     {
-        match &mut self.reads {
-            Reads::Nowhere => Ok(0),
-            Reads::Stream(source) => source.take(buf),
-            Reads::File(source) => source.take(buf),
+        match &mut self.reader {
+            Reader::Nowhere => Ok(0),
+            Reader::Stream(source) => source.take(buf),
+            Reader::File(source) => source.take(buf),
         }
     }
 }

@@ -3,6 +3,7 @@ ghost use Rattle.std.specs.Io.{ReadsAtMost, WritesAtMost};
 ghost use Rattle.std.specs.Io.KnownBytes.{Keeps, ReadConsumes, WriteAppends};
 ghost use Rattle.hg_io.specs.Faults.{HasCause, counted};
 
+use crate::counts::count_fault;
 use crate::{Failed, Name, Sink, Source};
 use std::fs::File;
 use std::io;
@@ -53,10 +54,7 @@ impl<H: Files + Drop> Source for FileSource<H> {
     {
         match read_some(&self.rt, &self.name, &mut self.file, buf) {
             Ok(count) => Ok(count),
-            Err(_) => {
-                self.faults = self.faults.saturating_add(1);
-                Err(Failed)
-            }
+            Err(_) => Err(count_fault(&mut self.faults)),
         }
     }
 }
@@ -123,10 +121,7 @@ impl<H: Files + Drop> Sink for FileSink<H> {
     {
         match write_some(&self.rt, &self.name, &mut self.file, piece) {
             Ok(count) if count > 0 || piece.is_empty() => Ok(count),
-            _ => {
-                self.faults = self.faults.saturating_add(1);
-                Err(Failed)
-            }
+            _ => Err(count_fault(&mut self.faults)),
         }
     }
 
@@ -141,10 +136,7 @@ impl<H: Files + Drop> Sink for FileSink<H> {
         };
         match file.flush() {
             Ok(()) => Ok(()),
-            Err(_) => {
-                self.faults = self.faults.saturating_add(1);
-                Err(Failed)
-            }
+            Err(_) => Err(count_fault(&mut self.faults)),
         }
     }
 }

@@ -7,25 +7,27 @@
 
 mod any_sink;
 mod any_source;
-mod ends;
+mod counts;
 mod files;
 mod mem_sink;
 mod mem_source;
 mod name;
-mod numbers;
 mod pen;
 mod place;
-mod std_ends;
+mod streams;
+#[cfg(test)]
+mod tests;
+mod traits;
 mod transfer;
 
 pub use any_sink::AnySink;
 pub use any_source::AnySource;
-pub use ends::{Failed, Sink, Source};
 pub use files::{FileSink, FileSource};
 pub use mem_sink::MemSink;
 pub use mem_source::MemSource;
 pub use name::Name;
-pub use pen::Pen;
+pub use pen::{PEN_ROOM, Pen};
 pub use place::Place;
-pub use std_ends::{StdSink, StdSource};
+pub use streams::{StdSink, StdSource};
+pub use traits::{Failed, Sink, Source};
 pub use transfer::{ReadEnd, put_all, read_all};

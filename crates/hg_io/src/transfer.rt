@@ -5,7 +5,6 @@ ghost use Rattle.hg_io.specs.Transfers.{PutsAll, ConsumesMoreThan, ConsumesAtMos
 ghost use Rattle.hg_io.specs.declared.transfer.ReadEnd.TheVariants.{Fault as fault, NoMemory as no_memory};
 
 use crate::{Failed, Sink, Source};
-use hg_defs::NoMemory;
 use std::alloc::{AllocError, Global};
 
 /// Why a source wasn't read whole.

@@ -3,6 +3,7 @@ ghost use Rattle.std.specs.Io.{ReadsAtMost, WritesAtMost};
 ghost use Rattle.std.specs.Io.KnownBytes.{Keeps, ReadConsumes, WriteAppends};
 ghost use Rattle.hg_io.specs.Faults.{HasCause, counted};
 
+use crate::counts::count_fault;
 use crate::{Failed, Sink, Source};
 use std::io::{Read, Write};
 use std::marker::Model;
@@ -42,10 +43,7 @@ impl<T: Read + Drop> Source for StdSource<T> {
     {
         match self.reader.read(buf) {
             Ok(count) => Ok(count),
-            Err(_) => {
-                self.faults = self.faults.saturating_add(1);
-                Err(Failed)
-            }
+            Err(_) => Err(count_fault(&mut self.faults)),
         }
     }
 }
@@ -87,10 +85,7 @@ impl<T: Write + Drop> Sink for StdSink<T> {
     {
         match self.writer.write(piece) {
             Ok(count) if count > 0 || piece.is_empty() => Ok(count),
-            _ => {
-                self.faults = self.faults.saturating_add(1);
-                Err(Failed)
-            }
+            _ => Err(count_fault(&mut self.faults)),
         }
     }
 
@@ -101,10 +96,7 @@ impl<T: Write + Drop> Sink for StdSink<T> {
     {
         match self.writer.flush() {
             Ok(()) => Ok(()),
-            Err(_) => {
-                self.faults = self.faults.saturating_add(1);
-                Err(Failed)
-            }
+            Err(_) => Err(count_fault(&mut self.faults)),
         }
     }
 }
