@@ -41,7 +41,8 @@ impl MemSource {
     /// whose numbers stand in `fail` fail.
     pub fn of(bytes: Vec<u8>, fail: Vec<u32>, step: usize) -> MemSource
         requires { 1 ≤ step }
-        ensures { result ≡ record { left = bytes.items; fail = fail.items; step = step; takes = 0; faults = 0 } }
+        ensures { result ≡
+            record { left = bytes.items; fail = fail.items; step = step; takes = 0; faults = 0 } }
     {
         MemSource {
             bytes,
