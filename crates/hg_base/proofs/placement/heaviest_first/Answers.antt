@@ -1,12 +1,13 @@
 -- The free vertices are ranked, and the ranks sorted.
-use Rattle.std.proofs.Common.{◌≡◌, ℕ, ◌<◌, ◌++◌, List, [], ◌∷◌, map, ap, ap₂, sym, ◌∙◌, subst, IsPermutation, true, false, arith}
+use Rattle.std.proofs.Common.{◌≡◌, ℕ, ◌<◌, ◌++◌, List, [], ◌∷◌, map, ap, ap₂, sym, ◌∙◌, refl, filter, subst, IsPermutation, true, false, arith}
 use Rattle.std.specs.declared.cmp.Reverse.{Reverse}
-use Rattle.std.proofs.lemmas.Result.{IfOk-weaker}
+use Rattle.std.proofs.lemmas.List.Elements.{All-map}
+use Rattle.std.proofs.lemmas.List.Sorted.{All-permutation}
 use Rattle.std.proofs.lemmas.Bool.{eq-eqb, ne_eqb}
 use Rattle.hg_defs.specs.declared.objective.TheConstants.{FREE}
-use Rattle.hg_defs.specs.Hypergraph.{is_free, fix_of, vertex_count}
-use Rattle.hg_defs.specs.LeastLoaded.{heaviest_first}
-use Rattle.hg_base.proofs.RankLaws.{rank_of, free_below, ranks_more, ranks_same, ranks_all, sorted_ranks}
+use Rattle.hg_defs.specs.Hypergraph.{is_free, fix_of, weight_of, vertex_count, vertices}
+use Rattle.hg_base.specs.Placing.{rank_of}
+use Rattle.hg_base.proofs.RankLaws.{free_below, ranks_more, ranks_same, ranks_all, sorted_ranks}
 use Rattle.hg_base.proofs.placement.heaviest_first.Goals as goal
 use Rattle.hg_base.proofs.placement.heaviest_first.Goals.{then-fix-eq-FREE+in_ok-push, else-fix-eq-FREE}
 
@@ -28,11 +29,17 @@ loop-v-preserved c =
         rw w.ranks-is (c.loop-v.invariant ∙ sym (ranks_same h v inside fixed)))
     ]
 
-pub returns : goal.returns
-returns c =
+pub returns-clause-order : goal.returns-clause-order
+returns-clause-order c =
     let h = c.args.h.now in
     let all = c.loop-v.invariant ∙ ranks_all h c.loop-v.v (omega (arith, c.loop-v-test.false, c.vertices-v-end.ensures.count)) in
     let moved = subst (λ (rs : List (Reverse ℕ × ℕ)). IsPermutation rs c.sort_unstable.new.self.items) all c.sort_unstable.ensures.permutation in
-    let sorted = sorted_ranks h c.sort_unstable.new.self.items moved c.sort_unstable.ensures.sorted in
-    IfOk-weaker c.vertices_of.result (λ order. order.items ≡ map (λ (r : Reverse ℕ × ℕ). r.1) c.deref.result.now) (λ order. order.items ≡ heaviest_first h)
-    (λ order e. e ∙ ap (map (λ (r : Reverse ℕ × ℕ). r.1)) c.deref.ensures.value ∙ sorted) c.vertices_of.ensures
+    sorted_ranks h c.sort_unstable.new.self.items moved c.sort_unstable.ensures.sorted
+
+pub returns-clause-weights : goal.returns-clause-weights
+returns-clause-weights c =
+    let h = c.args.h.now in
+    let all = c.loop-v.invariant ∙ ranks_all h c.loop-v.v (omega (arith, c.loop-v-test.false, c.vertices-v-end.ensures.count)) in
+    let moved = subst (λ (rs : List (Reverse ℕ × ℕ)). IsPermutation rs c.sort_unstable.new.self.items) all c.sort_unstable.ensures.permutation in
+    All-permutation (λ (r : Reverse ℕ × ℕ). r.0.0 ≡ weight_of h r.1) _ c.sort_unstable.new.self.items moved
+    (All-map (λ (r : Reverse ℕ × ℕ). r.0.0 ≡ weight_of h r.1) (rank_of h) (filter (is_free h) (vertices h)) (λ k d l. refl))

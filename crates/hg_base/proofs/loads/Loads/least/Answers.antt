@@ -10,7 +10,7 @@ pub returns-clause-least : goal.returns-clause-least
 returns-clause-least c =
     let xs = c.args.self.now in
     let b = c.loop-group.best in
-    let best = c.loop-group.invariant in
+    let best = c.loop-group.invariant.0 in
     let groups = c.self.invariant.groups in
     let same : length c.self.inside.loads.items ≡ length xs = ap length c.self.view_is in
     let all : length xs ≤ 16 * c.loop-group.group = omega (arith, c.loop-group-test.false, c.len-group-end.ensures) in
