@@ -1,6 +1,10 @@
 //! Partition files and fix files: the text of a partition, and what such files spell.
 #![tactic(auto)]
 
+mod fault;
+mod read;
 mod write;
 
+pub use fault::{FixFault, PartFault, PartKind};
+pub use read::{read_fix, read_part};
 pub use write::put_part;
