@@ -1,0 +1,6 @@
+//! What is printed about partitions: evaluations and summaries.
+#![tactic(auto)]
+
+mod lines;
+mod loads;
+
