@@ -9,7 +9,12 @@ use hg_io::{Failed, Pen, Sink};
 use hg_text::put_number;
 
 // The label ends with a blank.
-pub(crate) fn put_line<K: Sink>(pen: &mut Pen, sink: &mut K, label: &[u8], value: u64) -> Result<(), Failed>
+pub(crate) fn put_line<K: Sink>(
+    pen: &mut Pen,
+    sink: &mut K,
+    label: &[u8],
+    value: u64,
+) -> Result<(), Failed>
     ensures bytes { Writes (K.got sink.old) (K.got sink.new) pen.old pen.new result (number_line label.now value) }
     ensures cause { HasCause (K.faults sink.old) (K.faults sink.new) result }
 {
@@ -18,7 +23,13 @@ pub(crate) fn put_line<K: Sink>(pen: &mut Pen, sink: &mut K, label: &[u8], value
     pen.write(sink, b"\n")
 }
 
-pub(crate) fn put_sizes<K: Sink>(pen: &mut Pen, sink: &mut K, h: &FlatHyper, k: u32, limit: u64) -> Result<(), Failed>
+pub(crate) fn put_sizes<K: Sink>(
+    pen: &mut Pen,
+    sink: &mut K,
+    h: &FlatHyper,
+    k: u32,
+    limit: u64,
+) -> Result<(), Failed>
     ensures bytes { Writes (K.got sink.old) (K.got sink.new) pen.old pen.new result (sizes_text h.now k limit) }
     ensures cause { HasCause (K.faults sink.old) (K.faults sink.new) result }
 {
@@ -29,7 +40,11 @@ pub(crate) fn put_sizes<K: Sink>(pen: &mut Pen, sink: &mut K, h: &FlatHyper, k: 
     put_line(pen, sink, b"limit ", limit)
 }
 
-pub(crate) fn put_objective<K: Sink>(pen: &mut Pen, sink: &mut K, objective: Objective) -> Result<(), Failed>
+pub(crate) fn put_objective<K: Sink>(
+    pen: &mut Pen,
+    sink: &mut K,
+    objective: Objective,
+) -> Result<(), Failed>
     ensures bytes { Writes (K.got sink.old) (K.got sink.new) pen.old pen.new result (objective_text objective) }
     ensures cause { HasCause (K.faults sink.old) (K.faults sink.new) result }
 {

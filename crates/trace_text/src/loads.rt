@@ -1,7 +1,7 @@
-ghost use Rattle.std.specs.Prelude.{◌≡◌, ℕ, ◌<◌, ◌≤◌, All, length, nat_le, slice_index};
+ghost use Rattle.std.specs.Prelude.{◌≡◌, ◌<◌, All, length, nat_le};
 ghost use Rattle.std.specs.List.{list_all};
-ghost use Rattle.hg_defs.specs.Hypergraph.{vertex_count};
-ghost use Rattle.hg_defs.specs.Partition.{load};
+ghost use Rattle.hg_defs.specs.Hypergraph.{vertex_count, IsWithinLimits};
+ghost use Rattle.trace_text.specs.Lines.{loads_of};
 
 use hg_base::FlatHyper;
 
@@ -12,7 +12,8 @@ const MOST_BLOCKS: usize = 256;
 pub(crate) fn sum_loads(h: &FlatHyper, blocks: &[u32]) -> [u64; MOST_BLOCKS]
     requires vertices { length blocks.now ≡ vertex_count h.now }
     requires blocks { All (λ b. b < 256) blocks.now }
-    ensures { (b : ℕ) → b < 256 → slice_index result b ≡ load h.now blocks.now b }
+    ensures loads { result ≡ loads_of h.now 256 blocks.now }
+    ensures bounds { IsWithinLimits h.now }
 {
     let mut loads = [0; MOST_BLOCKS];
     'vertices: for v in 0..h.vertices() {

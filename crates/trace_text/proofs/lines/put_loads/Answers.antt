@@ -13,7 +13,7 @@ returns-in_err-put_load-clause-bytes g c =
     let later = flat_map load_line (enumerate_from (i + 1) (drop (i + 1) loads)) in
     let line = load_line (i, get_or loads i 0) in
     let whole : (before.0 ++ line) ++ later ≡ loads_text loads =
-      append_assoc before.0 line later ∙ ap (λ (l : List ℕ). before.0 ++ l) (sym (loads-next loads i (omega arith))) ∙ sym before.1.1 in
+    append_assoc before.0 line later ∙ ap (λ (l : List ℕ). before.0 ++ l) (sym (loads-next loads i (omega arith))) ∙ sym before.1.1 in
     exit c.from_residual.result c.from_residual.ensures.0 (spelt whole (cut later (wrote before.1.0 c.in_err-put_load.ensures.bytes)))
 
 pub loads-preserved : goal.loads-preserved
@@ -24,5 +24,5 @@ loads-preserved g c =
     let later = flat_map load_line (enumerate_from (i + 1) (drop (i + 1) loads)) in
     let line = load_line (i, get_or loads i 0) in
     let whole : (before.0 ++ line) ++ later ≡ loads_text loads =
-      append_assoc before.0 line later ∙ ap (λ (l : List ℕ). before.0 ++ l) (sym (loads-next loads i (omega arith))) ∙ sym before.1.1 in
+    append_assoc before.0 line later ∙ ap (λ (l : List ℕ). before.0 ++ l) (sym (loads-next loads i (omega arith))) ∙ sym before.1.1 in
     (before.0 ++ line, (wrote before.1.0 c.in_ok-put_load.ensures.bytes, sym whole, le_trans before.1.2 c.in_ok-put_load.ensures.cause.later))

@@ -9,5 +9,5 @@ use Rattle.trace_text.proofs.lines.put_loads.Given as goal
 abbrev pub invariant-loads : goal.invariant-loads
 invariant-loads g l = (done : List ℕ)
     × (Writes {T = Unit {0}} {E = Failed} (g.K.Sink.got l.fn.sink) (g.K.Sink.got l.sink) l.fn.pen l.pen (Ok tt) done
-       × (loads_text l.loads ≡ done ++ flat_map load_line (enumerate_from l.block (drop l.block l.loads)))
-       × (g.K.Sink.faults l.fn.sink ≤ g.K.Sink.faults l.sink))
+    × (loads_text l.loads ≡ done ++ flat_map load_line (enumerate_from l.block (drop l.block l.loads)))
+    × (g.K.Sink.faults l.fn.sink ≤ g.K.Sink.faults l.sink))

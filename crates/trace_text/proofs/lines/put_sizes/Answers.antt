@@ -1,5 +1,5 @@
 use Rattle.std.proofs.Common.{ℕ, List, ◌∙◌, ap, codes}
-use Rattle.hg_defs.specs.Hypergraph.{Hyper, vertex_count, net_count, total_weight}
+use Rattle.hg_defs.specs.Hypergraph.{net_count, total_weight}
 use Rattle.trace_text.specs.Lines.{number_line}
 use Rattle.trace_text.proofs.PenLemmas.{wrote, cut, exit, spelt}
 use Rattle.trace_text.proofs.lines.put_sizes.Goals as goal
@@ -30,19 +30,19 @@ returns-in_err-put_line-2-clause-bytes g c =
     let h = c.args.h.now in
     let one = spelt (ap vertices_line (c.from.ensures ∙ c.vertices.ensures.count)) c.in_ok-put_line.ensures.bytes in
     exit c.from_residual-in_err-put_line-2.result c.from_residual-in_err-put_line-2.ensures.0
-    (cut (limit_line c.args.limit) (cut (blocks_line c.args.k) (cut (weight_line (total_weight h)) (wrote one (spelt (ap nets_line (c.from-2.ensures ∙ c.nets.ensures)) c.in_err-put_line-2.ensures.bytes)))))
+    (cut (limit_line c.args.limit) (cut (blocks_line c.args.k) (cut (weight_line (total_weight h)) (wrote one (spelt (ap nets_line (c.from-2.ensures ∙ c.nets.ensures.count)) c.in_err-put_line-2.ensures.bytes)))))
 
 pub returns-in_err-put_line-3-clause-bytes : goal.returns-in_err-put_line-3-clause-bytes
 returns-in_err-put_line-3-clause-bytes g c =
     let one = spelt (ap vertices_line (c.from.ensures ∙ c.vertices.ensures.count)) c.in_ok-put_line.ensures.bytes in
-    let two = wrote one (spelt (ap nets_line (c.from-2.ensures ∙ c.nets.ensures)) c.in_ok-put_line-2.ensures.bytes) in
+    let two = wrote one (spelt (ap nets_line (c.from-2.ensures ∙ c.nets.ensures.count)) c.in_ok-put_line-2.ensures.bytes) in
     exit c.from_residual-in_err-put_line-3.result c.from_residual-in_err-put_line-3.ensures.0
     (cut (limit_line c.args.limit) (cut (blocks_line c.args.k) (wrote two (spelt (ap weight_line c.total_weight.ensures) c.in_err-put_line-3.ensures.bytes))))
 
 pub returns-in_err-put_line-4-clause-bytes : goal.returns-in_err-put_line-4-clause-bytes
 returns-in_err-put_line-4-clause-bytes g c =
     let one = spelt (ap vertices_line (c.from.ensures ∙ c.vertices.ensures.count)) c.in_ok-put_line.ensures.bytes in
-    let two = wrote one (spelt (ap nets_line (c.from-2.ensures ∙ c.nets.ensures)) c.in_ok-put_line-2.ensures.bytes) in
+    let two = wrote one (spelt (ap nets_line (c.from-2.ensures ∙ c.nets.ensures.count)) c.in_ok-put_line-2.ensures.bytes) in
     let three = wrote two (spelt (ap weight_line c.total_weight.ensures) c.in_ok-put_line-3.ensures.bytes) in
     exit c.from_residual-in_err-put_line-4.result c.from_residual-in_err-put_line-4.ensures.0
     (cut (limit_line c.args.limit) (wrote three (spelt (ap blocks_line c.from-3.ensures) c.in_err-put_line-4.ensures.bytes)))
@@ -50,7 +50,7 @@ returns-in_err-put_line-4-clause-bytes g c =
 pub returns-clause-bytes : goal.returns-clause-bytes
 returns-clause-bytes g c =
     let one = spelt (ap vertices_line (c.from.ensures ∙ c.vertices.ensures.count)) c.in_ok-put_line.ensures.bytes in
-    let two = wrote one (spelt (ap nets_line (c.from-2.ensures ∙ c.nets.ensures)) c.in_ok-put_line-2.ensures.bytes) in
+    let two = wrote one (spelt (ap nets_line (c.from-2.ensures ∙ c.nets.ensures.count)) c.in_ok-put_line-2.ensures.bytes) in
     let three = wrote two (spelt (ap weight_line c.total_weight.ensures) c.in_ok-put_line-3.ensures.bytes) in
     let four = wrote three (spelt (ap blocks_line c.from-3.ensures) c.in_ok-put_line-4.ensures.bytes) in
     wrote four c.put_line-5.ensures.bytes

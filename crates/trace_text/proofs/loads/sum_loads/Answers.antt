@@ -1,7 +1,7 @@
-use Rattle.std.proofs.Common.{◌≡◌, ℕ, ◌+◌, ◌<◌, ◌≤◌, ◌^◌, slice_index, set, length, length-set, refl, ap, ◌∙◌, subst, arith}
+use Rattle.std.proofs.Common.{◌≡◌, ℕ, ◌+◌, ◌<◌, slice_index, set, length-set, refl, ap, ◌∙◌, subst, arith}
 use Rattle.std.proofs.lemmas.List.{get_or-replicate}
 use Rattle.hg_defs.specs.Hypergraph.{vertex_count}
-use Rattle.trace_text.proofs.LoadLemmas.{load-room, loads-more}
+use Rattle.trace_text.proofs.LoadLemmas.{AreLoads, AreLoads-all, load-room, loads-more}
 use Rattle.trace_text.proofs.loads.sum_loads.Goals as goal
 
 pub vertices-init : goal.vertices-init
@@ -23,3 +23,10 @@ vertices-preserved c =
     let long = c.vertices.invariant.0 in
     let more = loads-more loads c.args.h.now.weights p v long (omega arith) (omega arith) block c.vertices.invariant.1 in
     (length-set loads (slice_index p v) _ ∙ long, λ b small. ap (λ (w : ℕ). slice_index (set loads (slice_index p v) (slice_index loads (slice_index p v) + w)) b) c.vertex_weight.ensures.value ∙ more b small)
+
+pub returns-clause-loads : goal.returns-clause-loads
+returns-clause-loads c =
+    let h = c.args.h.now in
+    let p = c.args.blocks.now in
+    let last : c.vertices.v ≡ vertex_count h = omega arith in
+    AreLoads-all h p c.vertices.loads c.vertices.invariant.0 (omega arith) (subst (AreLoads c.vertices.loads h.weights p) last c.vertices.invariant.1)
