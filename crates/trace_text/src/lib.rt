@@ -4,5 +4,7 @@
 mod evaluation;
 mod lines;
 mod loads;
+mod summary;
 
 pub use evaluation::put_evaluation;
+pub use summary::put_summary;
