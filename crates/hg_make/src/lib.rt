@@ -2,5 +2,8 @@
 #![tactic(auto)]
 
 mod generate;
+mod numbers;
+mod text;
 
 pub use generate::make;
+pub use text::put_hypergraph;
