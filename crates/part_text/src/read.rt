@@ -73,8 +73,32 @@ fn read_entries(
 
 // The entry that a line spells.
 #[inline]
-fn read_entry(mut line: Kept, k: u32, entry: Entry) -> Result<u32, PartKind>
+fn read_entry(line: Kept, k: u32, entry: Entry) -> Result<u32, PartKind>
     ensures { result ≡ entry_in entry k line.entry.fields }
+{
+    match entry {
+        Entry::Block => read_block(line, k),
+        Entry::Fix => read_fixed(line, k),
+    }
+}
+
+// The block that a line spells.
+#[inline]
+fn read_block(mut line: Kept, k: u32) -> Result<u32, PartKind>
+    ensures { result ≡ block_entry k line.entry.fields }
+{
+    let Some(value) = line.next_number() else {
+        return Err(PartKind::FieldCount);
+    };
+    if line.next_field().is_some() {
+        return Err(PartKind::FieldCount);
+    }
+    block_in(value, k)
+}
+
+// The fix that a line spells.
+fn read_fixed(mut line: Kept, k: u32) -> Result<u32, PartKind>
+    ensures { result ≡ fix_entry k line.entry.fields }
 {
     let Some(field) = line.next_field() else {
         return Err(PartKind::FieldCount);
@@ -82,10 +106,10 @@ fn read_entry(mut line: Kept, k: u32, entry: Entry) -> Result<u32, PartKind>
     if line.next_field().is_some() {
         return Err(PartKind::FieldCount);
     }
-    match entry {
-        Entry::Fix if field == b"-1".as_slice() => Ok(FREE),
-        _ => block_in(number(field), k),
+    if field == b"-1".as_slice() {
+        return Ok(FREE);
     }
+    block_in(number(field), k)
 }
 
 // A block below `k`.
