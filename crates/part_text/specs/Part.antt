@@ -1,11 +1,11 @@
 -- The partition file: one line for each vertex, with its block.
-use Rattle.std.specs.Prelude.{ℕ, List, [], ◌∷◌, ◌++◌}
+use Rattle.std.specs.Prelude.{ℕ, List, [], ◌∷◌}
 use Rattle.std.specs.List.{flat_map}
-use Rattle.std.specs.Fmt.{decimal}
+use Rattle.part_text.specs.NumberLines.{numbers_line}
 
--- a number in decimal digits, and a line feed
+-- a line of one number
 abbrev pub number_line : ℕ → List ℕ
-number_line n = decimal n ++ 10 ∷ []
+number_line n = numbers_line (n ∷ [])
 
 -- the text of a partition
 abbrev pub part_text : List ℕ → List ℕ

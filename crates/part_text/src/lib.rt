@@ -2,9 +2,11 @@
 #![tactic(auto)]
 
 mod fault;
+mod laws;
 mod read;
 mod write;
 
 pub use fault::{FixFault, PartFault, PartKind};
+pub use laws::part_is_read_back;
 pub use read::{read_fix, read_part};
 pub use write::put_part;

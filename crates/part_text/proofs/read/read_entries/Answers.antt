@@ -1,5 +1,5 @@
-use Rattle.std.proofs.Common.{ℕ, List, ◌≡◌, ◌<◌, ◌≤◌, ◌+◌, ◌-◌, ◌++◌, suc, sym, ap, ◌∙◌, arith}
-use Rattle.part_text.specs.Entries.{Fault, entry_in, spelled}
+use Rattle.std.proofs.Common.{ℕ, List, ◌≡◌, ◌+◌, ◌-◌, suc, sym, ap, ◌∙◌, arith}
+use Rattle.part_text.specs.Entries.{entry_in, spelled}
 use Rattle.part_text.proofs.ReadLemmas.{behind, behind-fault, behind-next, length-lines}
 use Rattle.part_text.proofs.read.read_entries.Goals as goal
 

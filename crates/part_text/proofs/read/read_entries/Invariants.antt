@@ -1,4 +1,4 @@
-use Rattle.std.proofs.Common.{◌≡◌, ℕ, ◌-◌, ◌≤◌, ◌^◌}
+use Rattle.std.proofs.Common.{◌≡◌, ◌-◌}
 use Rattle.hg_text.specs.Kept.{reading}
 use Rattle.part_text.specs.Entries.{entry_in, spelled}
 use Rattle.part_text.proofs.ReadLemmas.{behind}
