@@ -1,21 +1,12 @@
 -- What a file with one entry a line spells, line by line.
-use Rattle.std.proofs.Common.{◌≡◌, ℕ, suc, ◌≤◌, Bool, true, false, cond, List, [], ◌∷◌, ◌++◌, length, map, take, drop, nat_lt, refl, sym, ap, ◌∙◌, append_assoc, arith}
+use Rattle.std.proofs.Common.{◌≡◌, ℕ, suc, Bool, true, cond, List, [], ◌∷◌, ◌++◌, length, map, take, drop, nat_lt, refl, sym, ap, ◌∙◌, append_assoc, arith}
 use Rattle.std.proofs.lemmas.Bool.Decides.{nat_tests}
 use Rattle.std.specs.Prelude.{Result, Ok, Err, option_map}
 use Rattle.std.specs.Result.{result_ok, result_err}
-use Rattle.std.specs.List.{filter_map, onto_first, cons_option}
-use Rattle.hg_text.specs.Kept.{Line, Reading, lines, is_line_feed}
+use Rattle.std.specs.List.{filter_map, cons_option}
+use Rattle.hg_text.specs.Kept.{Line, Reading}
 use Rattle.part_text.specs.declared.fault.PartKind.{PartKind}
 use Rattle.part_text.specs.Entries.{Fault, fault_of, entry_of, extra, missing, faults, unless_faulty, spelled}
-
--- a text has no more lines than bytes
-pub length-lines : (text : List ℕ) → length (lines text) ≤ length text
-length-lines [] = omega arith
-length-lines (byte ∷ text) = step (is_line_feed byte) (lines text) (length-lines text) where
-  step : (b : Bool) (ls : List (List ℕ)) → length ls ≤ length text → length (cond b ([] ∷ ls) (onto_first byte ls)) ≤ suc (length text)
-  step true ls h = omega arith
-  step false [] h = omega arith
-  step false (l ∷ ls) h = omega arith
 
 nat_lt-zero : (n : ℕ) → nat_lt 0 (suc n) ≡ true
 nat_lt-zero n = grind (arith, nat_tests)

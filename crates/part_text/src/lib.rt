@@ -4,6 +4,8 @@
 mod fault;
 mod laws;
 mod read;
+#[cfg(test)]
+mod tests;
 mod write;
 
 pub use fault::{FixFault, PartFault, PartKind};

@@ -90,7 +90,7 @@ fn read_block(mut line: Kept, k: u32) -> Result<u32, PartKind>
     let Some(value) = line.next_number() else {
         return Err(PartKind::FieldCount);
     };
-    if line.next_field().is_some() {
+    if line.next_number().is_some() {
         return Err(PartKind::FieldCount);
     }
     block_in(value, k)

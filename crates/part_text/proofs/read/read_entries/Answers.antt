@@ -1,10 +1,7 @@
 use Rattle.std.proofs.Common.{ℕ, List, ◌≡◌, ◌+◌, ◌-◌, suc, sym, ap, ◌∙◌, arith}
 use Rattle.part_text.specs.Entries.{entry_in, spelled}
-use Rattle.part_text.proofs.ReadLemmas.{behind, behind-fault, behind-next, length-lines}
+use Rattle.part_text.proofs.ReadLemmas.{behind, behind-fault, behind-next}
 use Rattle.part_text.proofs.read.read_entries.Goals as goal
-
-pub overflow_add-result : goal.overflow_add-result
-overflow_add-result c = omega (arith, c.lines.invariant.1, c.in_default.ensures.count, length-lines c.args.bytes.now)
 
 pub returns-in-Err : goal.returns-in-Err
 returns-in-Err c =
