@@ -1,0 +1,10 @@
+//! What is printed about partitions: evaluations and summaries.
+#![tactic(auto)]
+
+mod evaluation;
+mod lines;
+mod loads;
+mod summary;
+
+pub use evaluation::put_evaluation;
+pub use summary::put_summary;
