@@ -1,5 +1,5 @@
--- What a cut of a line begins with, and where its first field ends.
-use Rattle.std.specs.Prelude.{◌≡◌, ℕ, ◌<◌, ◌≤◌, ◌==◌, ◌||◌, true, false, Bool, List, [], ◌∷◌, length, slice_index}
+-- What a cut of a line begins with, where its first field ends, and numbers of 64 bits.
+use Rattle.std.specs.Prelude.{◌^◌, nat_lt, if◌then◌else◌, Option, Some, None, ◌≡◌, ℕ, ◌<◌, ◌≤◌, ◌==◌, ◌||◌, true, false, Bool, List, [], ◌∷◌, length, slice_index}
 use Rattle.hg_text.specs.Kept.{is_blank}
 
 -- a line that is empty or begins with a field
@@ -21,3 +21,7 @@ pub record EndsField (line : List ℕ) (end : ℕ) : Type 0 where
   pub high : end ≤ length line
   pub inside : FailsBelow is_blank line end
   pub ends : ends_field line end ≡ true
+
+-- this is the value, where it fits 64 bits
+abbrev pub IsFitting : ℕ → Option ℕ → Type 0
+IsFitting value answer = answer ≡ (if nat_lt value (2 ^ 64) then Some value else None)
