@@ -1,5 +1,5 @@
 -- Laws of counts packed into words: a change of one field leaves the others, where the field neither runs over nor falls below 0.
-use Rattle.std.proofs.Common.{◌≡◌, ◌≢◌, ℕ, Bool, true, false, nat_le, if◌then◌else◌, ◌+◌, ◌-◌, ◌*◌, ◌/◌, ◌%◌, ◌^◌, ◌<◌, ◌≤◌, ◌⊎◌, inl, inr, List, length, replicate, slice_index, slice_set, get_or-set_same, get_or-set_other, refl, sym, ap, ap₂, ◌∙◌, subst, ⊎_elim, arith}
+use Rattle.std.proofs.Common.{◌≡◌, ◌≢◌, ℕ, Bool, true, false, nat_le, if◌then◌else◌, ◌+◌, ◌-◌, ◌*◌, ◌/◌, ◌%◌, ◌^◌, ◌<◌, ◌≤◌, inl, inr, List, length, replicate, slice_index, slice_set, get_or-set_same, get_or-set_other, refl, sym, ap, ap₂, ◌∙◌, subst, ⊎_elim, arith}
 use Rattle.std.proofs.lemmas.Bool.{cases_eq, cases_lt}
 use Rattle.std.proofs.lemmas.List.{get_or-replicate, get_or_past, length-replicate}
 use Rattle.std.proofs.lemmas.Nat.{pow_pos, pow-add, div-mul-add, mod-mul-add, mod_below, div_below, div-add-mod'}
@@ -51,15 +51,15 @@ module _ (bits p w n : ℕ) (most : field w bits p + n < 2 ^ bits) where
   field-add_other q other =
       ⊎_elim
       (λ (l : q < p).
-        let d = p - (q + 1) in
-        let at : p ≡ q + 1 + d = omega arith in
-        ap (λ x. field (w + n * x) bits q) (ap (unit bits) at ∙ unit_later bits q d)
-        ∙ digit-below (unit bits q) (2 ^ (d * bits)) (2 ^ bits) w n (pow_pos (q * bits)))
+      let d = p - (q + 1) in
+      let at : p ≡ q + 1 + d = omega arith in
+      ap (λ x. field (w + n * x) bits q) (ap (unit bits) at ∙ unit_later bits q d)
+      ∙ digit-below (unit bits q) (2 ^ (d * bits)) (2 ^ bits) w n (pow_pos (q * bits)))
       (λ (l : p ≤ q).
-        let d = q - (p + 1) in
-        let at : q ≡ p + 1 + d = omega arith in
-        ap (λ x. x % 2 ^ bits)
-        (digit-above (unit bits p) (2 ^ bits) w n (pow_pos (p * bits)) most (unit bits q) (2 ^ (d * bits)) (ap (unit bits) at ∙ unit_later bits p d)))
+      let d = q - (p + 1) in
+      let at : q ≡ p + 1 + d = omega arith in
+      ap (λ x. x % 2 ^ bits)
+      (digit-above (unit bits p) (2 ^ bits) w n (pow_pos (p * bits)) most (unit bits q) (2 ^ (d * bits)) (ap (unit bits) at ∙ unit_later bits p d)))
       (cases_lt q p)
 
   -- the word stays within 64 bits
@@ -68,11 +68,11 @@ module _ (bits p w n : ℕ) (most : field w bits p + n < 2 ^ bits) where
       let rest = 64 - (p + 1) * bits in
       let t = unit bits p * (2 ^ bits * 1) in
       let whole : 2 ^ 64 ≡ 2 ^ rest * t =
-          (let a = pow-add 2 (p * bits) (bits + rest) in
-          let b = ap (λ x. unit bits p * x) (pow-add 2 bits rest) in
-          let c : unit bits p * (2 ^ bits * 2 ^ rest) ≡ 2 ^ rest * t = omega arith in
-          let exponent : 64 ≡ p * bits + (bits + rest) = omega arith in
-          ap (λ x. 2 ^ x) exponent ∙ a ∙ b ∙ c) in
+      (let a = pow-add 2 (p * bits) (bits + rest) in
+      let b = ap (λ x. unit bits p * x) (pow-add 2 bits rest) in
+      let c : unit bits p * (2 ^ bits * 2 ^ rest) ≡ 2 ^ rest * t = omega arith in
+      let exponent : 64 ≡ p * bits + (bits + rest) = omega arith in
+      ap (λ x. 2 ^ x) exponent ∙ a ∙ b ∙ c) in
       let some : 0 < t = (let a = pow-add 2 (p * bits) bits in let b = pow_pos (p * bits + bits) in omega arith) in
       let below = div_below w t (2 ^ rest) some (subst (λ x. w < x) whole small) in
       let same = digit-above (unit bits p) (2 ^ bits) w n (pow_pos (p * bits)) most t 1 refl in
@@ -126,12 +126,12 @@ module _ (bits : ℕ) (words : List ℕ) (b word : ℕ) (inside : b / fields_of 
   count_at-set_other keeps c other =
       ⊎_elim
       (λ (e : c / fields_of bits ≡ b / fields_of bits).
-        ap (λ i. field (slice_index (slice_set words (b / fields_of bits) word) i) bits (c % fields_of bits)) e
-        ∙ ap (λ w. field w bits (c % fields_of bits)) read_same
-        ∙ keeps (c % fields_of bits) (λ g. other (same_block (fields_of bits) c b e g))
-        ∙ ap (λ i. field (slice_index words i) bits (c % fields_of bits)) (sym e))
+      ap (λ i. field (slice_index (slice_set words (b / fields_of bits) word) i) bits (c % fields_of bits)) e
+      ∙ ap (λ w. field w bits (c % fields_of bits)) read_same
+      ∙ keeps (c % fields_of bits) (λ g. other (same_block (fields_of bits) c b e g))
+      ∙ ap (λ i. field (slice_index words i) bits (c % fields_of bits)) (sym e))
       (λ (e : c / fields_of bits ≢ b / fields_of bits).
-        ap (λ w. field w bits (c % fields_of bits)) (get_or-set_other words (b / fields_of bits) (c / fields_of bits) word 0 e))
+      ap (λ w. field w bits (c % fields_of bits)) (get_or-set_other words (b / fields_of bits) (c / fields_of bits) word 0 e))
       (cases_eq (c / fields_of bits) (b / fields_of bits))
 
 -- n more in block b

@@ -1,6 +1,5 @@
 -- Laws of the free vertices by falling weight.
-use Rattle.std.proofs.Common.{◌≡◌, ℕ, ◌+◌, ◌<◌, ◌≤◌, Bool, true, false, cond, List, [], ◌∷◌, ◌++◌, length, take, map, filter, All, subst, IsPermutation, IsSorted, Ordering, Equal, refl, sym, ap, ap₂, ◌∙◌, arith}
-use Rattle.std.specs.List.{range_with_len}
+use Rattle.std.proofs.Common.{◌≡◌, ℕ, ◌+◌, ◌<◌, ◌≤◌, true, false, cond, List, [], ◌∷◌, ◌++◌, take, map, filter, All, subst, IsPermutation, IsSorted, Ordering, Equal, refl, sym, ap, ◌∙◌, arith}
 use Rattle.std.specs.declared.cmp.Reverse.{Reverse}
 use Rattle.std.proofs.lemmas.List.{append-nil, map_push, map-id, get_or-map, length-map, take_all}
 use Rattle.std.proofs.lemmas.List.Elements.{filter_more}
@@ -11,7 +10,7 @@ use Rattle.hg_defs.specs.Sorting.{sorted}
 use Rattle.hg_defs.specs.LeastLoaded.{heavier_first, heaviest_first}
 use Rattle.hg_base.specs.Placing.{rank_of}
 use Rattle.hg_defs.proofs.SortLaws.{sort_is, map-sorted, heavier_first_total, heavier_first_exact}
-use Rattle.hg_defs.specs.Hypergraph.{Hyper, vertex_count, vertices, weight_of, is_free}
+use Rattle.hg_defs.specs.Hypergraph.{Hyper, vertex_count, vertices, is_free}
 
 -- the free ones of the vertices below v
 abbrev pub free_below : Hyper → ℕ → List ℕ

@@ -1,5 +1,5 @@
 -- Ranks stand for the vertices of the given order.
-use Rattle.std.proofs.Common.{◌≡◌, ℕ, List, map, All, IfOk, IfErr, OnOk, None, refl, ap, sym, ◌∙◌, subst}
+use Rattle.std.proofs.Common.{◌≡◌, ℕ, List, map, IfOk, IfErr, OnOk, None, refl, ap, sym, ◌∙◌, subst}
 use Rattle.std.specs.declared.cmp.Reverse.{Reverse}
 use Rattle.std.proofs.lemmas.List.Elements.{All-map, All-same}
 use Rattle.hg_defs.specs.Hypergraph.{Hyper, weight_of}

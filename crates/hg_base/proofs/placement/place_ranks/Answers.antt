@@ -1,7 +1,6 @@
 -- The fixed vertices are placed, and then the free ones.
-use Rattle.std.proofs.Common.{◌≡◌, ◌<◌, ◌≤◌, length, None, Some, arith, sym, ◌∙◌, subst, List, ℕ, map, All}
+use Rattle.std.proofs.Common.{◌<◌, None, Some, arith, sym, ◌∙◌, subst, ℕ, map}
 use Rattle.std.specs.declared.cmp.Reverse.{Reverse}
-use Rattle.hg_defs.specs.LeastLoaded.{least_loaded}
 use Rattle.hg_defs.specs.Partition.{IsPartition, Obeys, Fits}
 use Rattle.hg_defs.specs.PlacementLaws.{IsPlaceable}
 use Rattle.hg_defs.proofs.PlacementLaws.{least_loaded-partition, least_loaded-obeys, none_overfills}

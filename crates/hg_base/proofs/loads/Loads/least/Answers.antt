@@ -1,9 +1,7 @@
 -- The first least load of all groups is the least one.
-use Rattle.std.proofs.Common.{◌≡◌, ◌*◌, ◌<◌, ◌≤◌, ℕ, min, length, slice_index, ap, arith}
+use Rattle.std.proofs.Common.{◌≡◌, ◌*◌, ◌≤◌, length, slice_index, ap, arith}
 use Rattle.hg_defs.specs.LeastLoaded.{least}
-use Rattle.hg_defs.specs.PlacementLaws.{IsFirstLeast}
 use Rattle.hg_defs.proofs.PlacementLaws.{least_is, first_least_same}
-use Rattle.hg_base.specs.Placing.{IsLeastWithin}
 use Rattle.hg_base.proofs.loads.Loads.least.Goals as goal
 
 pub returns-clause-least : goal.returns-clause-least

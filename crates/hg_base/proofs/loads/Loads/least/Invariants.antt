@@ -1,5 +1,5 @@
 -- The best so far is the first least one of the groups below.
-use Rattle.std.proofs.Common.{◌≡◌, ◌*◌, ◌≤◌, min, length, slice_index}
+use Rattle.std.proofs.Common.{◌≡◌, ◌*◌, min, length, slice_index}
 use Rattle.hg_base.specs.Placing.{IsLeastWithin}
 use Rattle.hg_base.proofs.loads.Loads.least.Given as goal
 

@@ -25,14 +25,15 @@ loop-rank-preserved c =
     let weight = c.requires.weights i none inside in
     let free : is_free h v ≡ true = eq-eqb (fix_of h v) FREE (c.requires.free i none inside) in
     let taken : taken_block h s.loads v ≡ b =
-        taken-free h l s v rest free ∙ sym (c.least-block.ensures.least ∙ ap (λ (p : Placing). least p.loads) c.self.view_is) in
+    taken-free h l s v rest free ∙ sym (c.least-block.ensures.least ∙ ap (λ (p : Placing). least p.loads) c.self.view_is) in
     let within : nat_le (slice_index s.loads b + weight_of h v) l ≡ true =
-        ap (λ w. nat_le (slice_index s.loads b + w) l) (sym weight) ∙ sym c.place.ensures.fits ∙ c.if-not-place.false in
+    ap (λ w. nat_le (slice_index s.loads b + w) l) (sym weight) ∙ sym c.place.ensures.fits ∙ c.if-not-place.false in
     let state : c.place.new.self ≡ put h s v b =
-        c.if-not-place.ensures.placed
-        ∙ ap (λ w. record { loads = slice_set s.loads b (slice_index s.loads b + w); blocks = slice_set s.blocks v b }) weight in
-    rw state
-    (length-set s.blocks v b ∙ c.loop-rank.invariant.0,
+    c.if-not-place.ensures.placed
+    ∙ ap (λ w. record { loads = slice_set s.loads b (slice_index s.loads b + w); blocks = slice_set s.blocks v b }) weight in
+    rw state (
+      length-set s.blocks v b ∙ c.loop-rank.invariant.0,
       length-set s.loads b (slice_index s.loads b + weight_of h v) ∙ c.loop-rank.invariant.1,
       sym (ap (placed h s) step ∙ placed_next h l s v rest b taken) ∙ c.loop-rank.invariant.2,
-      sym (ap (first_overfilling h l s) step ∙ overfills_later h l s v rest b taken within) ∙ c.loop-rank.invariant.3)
+      sym (ap (first_overfilling h l s) step ∙ overfills_later h l s v rest b taken within) ∙ c.loop-rank.invariant.3,
+    )
