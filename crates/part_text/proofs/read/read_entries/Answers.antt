@@ -7,7 +7,7 @@ pub returns-in-Err : goal.returns-in-Err
 returns-in-Err c =
     let entry = entry_in c.args.entry c.args.k in
     let one_more : c.args.n - c.lines.counter ≡ suc (c.args.n - (c.lines.counter + 1)) = omega arith in
-    c.lines.invariant.0
+    c.lines.invariant.spelt
     ∙ behind-fault entry c.lines.values.items _ _ c.lines.lines c.in-Some.line c.next_kept.new.self.kept c.in-Err.kind c.line-number.result one_more c.in-Some.ensures.kept (sym c.in-Err.ensures) c.line-number.ensures
 
 pub lines-preserved : goal.lines-preserved
@@ -17,8 +17,8 @@ lines-preserved c =
     let left = c.args.n - (c.lines.counter + 1) in
     let one_more : c.args.n - c.lines.counter ≡ suc left = omega arith in
     let push = c.in_ok-push-in-Ok.ensures.items in (
-      c.lines.invariant.0
+      c.lines.invariant.spelt
           ∙ behind-next entry c.lines.values.items _ left c.lines.lines rest c.in-Some.line c.in-Ok.value one_more c.in-Some.ensures.kept c.in-Some.ensures.count (sym c.in-Ok.ensures)
           ∙ ap (λ (xs : List ℕ). behind xs (spelled entry left rest)) (sym push),
-      c.in-Some.ensures.count ∙ c.lines.invariant.1,
+      c.in-Some.ensures.count ∙ c.lines.invariant.same,
     )
