@@ -5,7 +5,8 @@ use Rattle.std.proofs.lemmas.Grind.{flat_map-append}
 use Rattle.std.specs.List.{flat_map}
 use Rattle.std.specs.Fmt.{decimal}
 use Rattle.hg_defs.specs.Hypergraph.{Net}
-use Rattle.hg_make.specs.Text.{separator, numbers_line, net_numbers}
+use Rattle.part_text.specs.NumberLines.{separator, numbers_line}
+use Rattle.hg_make.specs.Text.{net_numbers}
 
 -- one more piece of a text
 pub one_more : {whole rest : List ℕ} (done piece later : List ℕ) → whole ≡ done ++ rest → rest ≡ piece ++ later → (done ++ piece) ++ later ≡ whole

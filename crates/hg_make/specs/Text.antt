@@ -1,18 +1,8 @@
 -- The text of a hypergraph: lines of numbers in decimal digits, with one blank between them.
 use Rattle.std.specs.Prelude.{ℕ, ◌+◌, Bool, not, ◌||◌, ◌==◌, if◌then◌else◌, List, [], ◌∷◌, ◌++◌, length, map}
 use Rattle.std.specs.List.{flat_map, list_any}
-use Rattle.std.specs.Fmt.{decimal}
 use Rattle.hg_defs.specs.Hypergraph.{Net, Hyper, vertex_count, net_count}
-
--- a blank behind a number that others follow, and a line feed behind the last one
-abbrev pub separator : List ℕ → ℕ
-separator [] = 10
-separator (n ∷ ns) = 32
-
--- the numbers of a line
-abbrev pub numbers_line : List ℕ → List ℕ
-numbers_line [] = []
-numbers_line (n ∷ ns) = decimal n ++ separator ns ∷ numbers_line ns
+use Rattle.part_text.specs.NumberLines.{numbers_line}
 
 -- the weights of nets are written where one isn't 1, and where a net has no pins, since its line would be empty
 abbrev pub needs_weight : Net → Bool

@@ -2,8 +2,10 @@
 #![tactic(auto)]
 
 mod generate;
+mod laws;
 mod numbers;
 mod text;
 
 pub use generate::make;
+pub use laws::hypergraph_is_read_back;
 pub use text::put_hypergraph;

@@ -2,7 +2,7 @@
 ghost use Rattle.std.specs.Prelude.{◌≡◌, ℕ, ◌+◌, List, [], ◌∷◌, ◌++◌, length, map, decimal};
 ghost use Rattle.hg_io.specs.Faults.{HasCause};
 ghost use Rattle.hg_io.specs.Transfers.{Writes};
-ghost use Rattle.hg_make.specs.Text.{separator as separator_before, numbers_line};
+ghost use Rattle.part_text.specs.NumberLines.{separator as separator_before, numbers_line};
 
 use hg_io::{Failed, Pen, Sink};
 use itoa::write_digits;

@@ -3,7 +3,8 @@ ghost use Rattle.std.specs.List.{flat_map};
 ghost use Rattle.hg_io.specs.Faults.{HasCause};
 ghost use Rattle.hg_io.specs.Transfers.{PutsAll, Writes};
 ghost use Rattle.hg_defs.specs.Hypergraph.{net_count, vertex_count};
-ghost use Rattle.hg_make.specs.Text.{numbers_line, are_nets_weighted, are_vertices_weighted, format, net_numbers, hypergraph_text};
+ghost use Rattle.part_text.specs.NumberLines.{numbers_line};
+ghost use Rattle.hg_make.specs.Text.{are_nets_weighted, are_vertices_weighted, format, net_numbers, hypergraph_text};
 
 use crate::numbers::{put_numbers, put_pins, put_token, separator};
 use hg_base::FlatHyper;

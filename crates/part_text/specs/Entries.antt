@@ -1,5 +1,5 @@
 -- What a file spells that has one entry on each line: the entries, or the first fault.
-use Rattle.std.specs.Prelude.{ℕ, ◌+◌, List, [], ◌∷◌, ◌++◌, length, map, take, drop, nat_lt, if◌then◌else◌, Option, option_map, Result, Ok, Err, codes}
+use Rattle.std.specs.Prelude.{◌≢◌, ℕ, ◌+◌, ◌<◌, ◌≤◌, List, [], ◌∷◌, ◌++◌, length, map, take, drop, nat_lt, if◌then◌else◌, Option, option_map, Result, Ok, Err, codes}
 use Rattle.std.specs.List.{filter_map}
 use Rattle.std.specs.Result.{result_ok, result_err}
 use Rattle.std.specs.Str.{bytes_eq}
@@ -39,6 +39,11 @@ fix_entry k (field ∷ second ∷ later) = Err FieldCount
 abbrev pub entry_in : Entry → ℕ → List (List ℕ) → Result ℕ PartKind
 entry_in Block k = block_entry k
 entry_in Fix k = fix_entry k
+
+-- the values that lines may hold: blocks below k, and for fixes FREE too
+abbrev pub IsEntry : Entry → ℕ → ℕ → Type 0
+IsEntry Block k value = value < k
+IsEntry Fix k value = (value ≢ FREE → value < k) × (k ≤ FREE → value ≤ FREE)
 
 module _ (entry : List (List ℕ) → Result ℕ PartKind) where
   abbrev pub fault_of : Line → Option Fault

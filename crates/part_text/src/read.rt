@@ -1,5 +1,5 @@
-ghost use Rattle.std.specs.Prelude.{◌≡◌, ℕ, ◌^◌, ◌≤◌, length};
-ghost use Rattle.part_text.specs.Entries.{block_entry, fix_entry, entry_in, block_in as block_spelt, spelled, spelled_part, spelled_fixes};
+ghost use Rattle.std.specs.Prelude.{◌≡◌, ◌≢◌, ℕ, ◌^◌, ◌<◌, ◌≤◌, All, IfOk, length};
+ghost use Rattle.part_text.specs.Entries.{block_entry, fix_entry, entry_in, IsEntry, block_in as block_spelt, spelled, spelled_part, spelled_fixes};
 ghost use Rattle.part_text.specs.Answers.{AnswersPart, AnswersFixes};
 ghost use Rattle.hg_text.specs.Kept.{reading};
 
@@ -13,7 +13,9 @@ use std::alloc::Global;
 /// A refusal names the first line with a fault, and the first fault of that line.
 pub fn read_part(alloc: Global, bytes: &[u8], n: u32, k: u32) -> Result<Blocks, PartFault>
     requires { length bytes.now ≤ 2 ^ 29 }
-    ensures { AnswersPart (spelled_part bytes.now n k) result }
+    ensures part { AnswersPart (spelled_part bytes.now n k) result }
+    ensures vertices { IfOk result (λ blocks. length blocks ≡ n) }
+    ensures blocks { IfOk result (All (λ b. b < k)) }
 {
     read_entries(alloc, bytes, n, k, Entry::Block)
 }
@@ -24,7 +26,10 @@ pub fn read_part(alloc: Global, bytes: &[u8], n: u32, k: u32) -> Result<Blocks, 
 /// A refusal names the first line with a fault, and the first fault of that line.
 pub fn read_fix(alloc: Global, bytes: &[u8], n: u32, k: u32) -> Result<Blocks, FixFault>
     requires { length bytes.now ≤ 2 ^ 29 }
-    ensures { AnswersFixes (spelled_fixes bytes.now n k) result }
+    ensures fixes { AnswersFixes (spelled_fixes bytes.now n k) result }
+    ensures vertices { IfOk result (λ fixes. length fixes ≡ n) }
+    ensures below { IfOk result (All (λ fix. fix ≢ FREE → fix < k)) }
+    ensures within { k ≤ FREE → IfOk result (All (λ fix. fix ≤ FREE)) }
 {
     Ok(read_entries(alloc, bytes, n, k, Entry::Fix)?)
 }
@@ -45,7 +50,9 @@ fn read_entries(
     entry: Entry,
 ) -> Result<Blocks, PartFault>
     requires { length bytes.now ≤ 2 ^ 29 }
-    ensures { AnswersPart (spelled (entry_in entry k) n (reading bytes.now)) result }
+    ensures values { AnswersPart (spelled (entry_in entry k) n (reading bytes.now)) result }
+    ensures count { IfOk result (λ values. length values ≡ n) }
+    ensures each { IfOk result (All (IsEntry entry k)) }
 {
     let mut lines = Lines::over(bytes);
     let mut values = Vec::with_capacity(alloc, n as usize)?;
@@ -74,7 +81,8 @@ fn read_entries(
 // The entry that a line spells.
 #[inline]
 fn read_entry(line: Kept, k: u32, entry: Entry) -> Result<u32, PartKind>
-    ensures { result ≡ entry_in entry k line.entry.fields }
+    ensures value { result ≡ entry_in entry k line.entry.fields }
+    ensures within { IfOk result (IsEntry entry k) }
 {
     match entry {
         Entry::Block => read_block(line, k),
@@ -85,7 +93,8 @@ fn read_entry(line: Kept, k: u32, entry: Entry) -> Result<u32, PartKind>
 // The block that a line spells.
 #[inline]
 fn read_block(mut line: Kept, k: u32) -> Result<u32, PartKind>
-    ensures { result ≡ block_entry k line.entry.fields }
+    ensures value { result ≡ block_entry k line.entry.fields }
+    ensures within { IfOk result (λ block. block < k) }
 {
     let Some(value) = line.next_number() else {
         return Err(PartKind::FieldCount);
@@ -98,7 +107,9 @@ fn read_block(mut line: Kept, k: u32) -> Result<u32, PartKind>
 
 // The fix that a line spells.
 fn read_fixed(mut line: Kept, k: u32) -> Result<u32, PartKind>
-    ensures { result ≡ fix_entry k line.entry.fields }
+    ensures value { result ≡ fix_entry k line.entry.fields }
+    ensures below { IfOk result (λ fix. fix ≢ FREE → fix < k) }
+    ensures within { IfOk result (λ fix. k ≤ FREE → fix ≤ FREE) }
 {
     let Some(field) = line.next_field() else {
         return Err(PartKind::FieldCount);
@@ -115,7 +126,8 @@ fn read_fixed(mut line: Kept, k: u32) -> Result<u32, PartKind>
 // A block below `k`.
 #[inline]
 fn block_in(value: Result<u64, BadNumber>, k: u32) -> Result<u32, PartKind>
-    ensures { result ≡ block_spelt k value }
+    ensures value { result ≡ block_spelt k value }
+    ensures within { IfOk result (λ block. block < k) }
 {
     match value {
         Ok(block) if block < u64::from(k) => Ok(block as u32),

@@ -2,7 +2,7 @@ use Rattle.std.proofs.Common.{◌≡◌, ℕ, ◌+◌, ◌≤◌, List, ◌++◌
 use Rattle.std.specs.Prelude.{Ok}
 use Rattle.hg_io.specs.declared.traits.Failed.{Failed}
 use Rattle.hg_io.specs.Transfers.{Writes}
-use Rattle.hg_make.specs.Text.{numbers_line}
+use Rattle.part_text.specs.NumberLines.{numbers_line}
 use Rattle.hg_make.proofs.numbers.put_pins.Given as goal
 
 abbrev pub invariant-pins : goal.invariant-pins

@@ -3,7 +3,8 @@ use Rattle.std.specs.Prelude.{Ok}
 use Rattle.std.specs.List.{flat_map}
 use Rattle.hg_io.specs.declared.traits.Failed.{Failed}
 use Rattle.hg_io.specs.Transfers.{Writes}
-use Rattle.hg_make.specs.Text.{numbers_line, net_numbers}
+use Rattle.part_text.specs.NumberLines.{numbers_line}
+use Rattle.hg_make.specs.Text.{net_numbers}
 use Rattle.hg_make.proofs.text.put_nets.Given as goal
 
 abbrev pub invariant-nets : goal.invariant-nets

@@ -3,7 +3,7 @@ use Rattle.std.specs.Prelude.{Ok}
 use Rattle.std.specs.List.{flat_map}
 use Rattle.hg_io.specs.declared.traits.Failed.{Failed}
 use Rattle.hg_io.specs.Transfers.{Writes}
-use Rattle.hg_make.specs.Text.{numbers_line}
+use Rattle.part_text.specs.NumberLines.{numbers_line}
 use Rattle.hg_make.proofs.text.put_weights.Given as goal
 
 abbrev pub invariant-weights : goal.invariant-weights
