@@ -1,4 +1,4 @@
 mod Each
 mod Lines
-mod Told
+mod Placed
 mod Counted

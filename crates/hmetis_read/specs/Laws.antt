@@ -1,16 +1,26 @@
 -- Laws of what a text spells.
-use Rattle.std.specs.Prelude.{◌≡◌, ◌⊎◌, ◌+◌, length, Ok, Err}
+use Rattle.std.specs.Prelude.{◌≡◌, ◌⊎◌, ℕ, ◌+◌, List, [], ◌∷◌, length, Ok, Err}
 use Rattle.hg_defs.specs.Hypergraph.{Hyper, net_count, vertex_count}
-use Rattle.hg_text.specs.Kept.{Reading}
+use Rattle.hg_text.specs.Kept.{Line, Reading}
 use Rattle.hmetis_read.specs.Graph.{Read}
+use Rattle.hmetis_read.specs.declared.fault.GraphFault.{GraphFault}
 use Rattle.hmetis_read.specs.declared.fault.GraphFault.TheVariants.{Bad, TooLarge, NoMemory}
 
--- a value, or a fault of the text itself
-abbrev pub IsTold : {A : Type 0} → Read A → Type 0
-IsTold (Ok value) = Unit {0}
-IsTold (Err (Bad line kind)) = Unit {0}
-IsTold (Err (TooLarge line what)) = Unit {0}
-IsTold (Err NoMemory) = ⊥
+-- one of the lines has this number
+abbrev pub IsNumbered : ℕ → List Line → Type 0
+IsNumbered number [] = ⊥
+IsNumbered number (line ∷ lines) = (number ≡ line.number) ⊎ IsNumbered number lines
+
+-- a fault of a text stands at a kept line, or behind the last line; want of memory is none
+abbrev pub IsFaultOf : Reading → GraphFault → Type 0
+IsFaultOf text (Bad line kind) = (line ≡ text.count + 1) ⊎ IsNumbered line text.kept
+IsFaultOf text (TooLarge line what) = IsNumbered line text.kept
+IsFaultOf text NoMemory = ⊥
+
+-- a value, or a fault of the text
+abbrev pub IsPlaced : {A : Type 0} → Reading → Read A → Type 0
+IsPlaced text (Ok value) = Unit {0}
+IsPlaced text (Err fault) = IsFaultOf text fault
 
 -- the kept lines are the header, one for each net, and one for each vertex or none
 abbrev pub HasLines : Reading → Hyper → Type 0
