@@ -9,6 +9,8 @@ mod partition;
 mod places;
 mod reading;
 mod status;
+#[cfg(test)]
+mod tests;
 mod top;
 mod words;
 
