@@ -1,7 +1,7 @@
 use Rattle.std.proofs.Common.{◌≡◌, ℕ, ◌≤◌, List, ◌++◌, drop, map}
 use Rattle.std.specs.Prelude.{Ok}
 use Rattle.std.specs.List.{flat_map}
-use Rattle.hg_io.specs.declared.ends.Failed.{Failed}
+use Rattle.hg_io.specs.declared.traits.Failed.{Failed}
 use Rattle.hg_io.specs.Transfers.{Writes}
 use Rattle.part_text.specs.NumberLines.{numbers_line}
 use Rattle.hg_make.specs.Text.{net_numbers}

@@ -1,7 +1,7 @@
 use Rattle.std.proofs.Common.{◌≡◌, ℕ, ◌≤◌, List, ◌++◌, drop}
 use Rattle.std.specs.Prelude.{Ok}
 use Rattle.std.specs.List.{flat_map, enumerate_from}
-use Rattle.hg_io.specs.declared.ends.Failed.{Failed}
+use Rattle.hg_io.specs.declared.traits.Failed.{Failed}
 use Rattle.hg_io.specs.Transfers.{Writes}
 use Rattle.trace_text.specs.Lines.{load_line, loads_text}
 use Rattle.trace_text.proofs.lines.put_loads.Given as goal
