@@ -4,6 +4,8 @@
 mod generate;
 mod laws;
 mod numbers;
+#[cfg(test)]
+mod tests;
 mod text;
 
 pub use generate::make;

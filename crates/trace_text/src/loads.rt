@@ -11,7 +11,7 @@ const MOST_BLOCKS: usize = 256;
 // The loads of the 256 blocks that a vertex may be in.
 pub(crate) fn sum_loads(h: &FlatHyper, blocks: &[u32]) -> [u64; MOST_BLOCKS]
     requires vertices { length blocks.now ≡ vertex_count h.now }
-    requires blocks { All (λ b. b < 256) blocks.now }
+    requires below { All (λ b. b < 256) blocks.now }
     ensures loads { result ≡ loads_of h.now 256 blocks.now }
     ensures bounds { IsWithinLimits h.now }
 {
