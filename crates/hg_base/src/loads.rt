@@ -92,12 +92,12 @@ fn least_within(loads: &[u64], low: usize, high: usize) -> usize
     ensures { IsLeastWithin (slice_index loads.now) low high result }
 {
     let mut best = low;
-    let mut least = loads[low];
+    let mut lowest = loads[low];
     for i in low + 1..high {
         let load = loads[i];
-        if load < least {
+        if load < lowest {
             best = i;
-            least = load;
+            lowest = load;
         }
     }
     best

@@ -4,4 +4,4 @@ use Rattle.hg_base.specs.Placing.{IsLeastWithin}
 use Rattle.hg_base.proofs.loads.least_within.Given as goal
 
 abbrev pub invariant-loop-i : goal.invariant-loop-i
-invariant-loop-i l = IsLeastWithin (slice_index l.loads) l.low l.i l.best × (l.least ≡ slice_index l.loads l.best)
+invariant-loop-i l = IsLeastWithin (slice_index l.loads) l.low l.i l.best × (l.lowest ≡ slice_index l.loads l.best)
