@@ -6,6 +6,8 @@
 
 mod order;
 mod record;
+#[cfg(test)]
+mod tests;
 
 pub use hg_base::{Blocks, Gains, MapList, MapStack, Verts};
 pub use hg_defs::{Move, NoMemory};

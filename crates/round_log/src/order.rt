@@ -9,14 +9,11 @@ use std::alloc::Global;
 pub fn order_of(alloc: Global, n: u32, moves: &[Move]) -> Result<Verts, NoMemory>
     requires vertices { All (λ m. m.vertex < n) moves.now }
     requires distinct { AllPairs (λ a b. a.vertex ≢ b.vertex) moves.now }
-    requires few { length moves.now < 4294967295 }
     ensures { IfOk result (IsOrder n moves.now) }
 {
     let mut order = vec![in alloc; 0u32; n as usize]?;
-    let mut next = 1;
-    for step in moves {
-        order[step.vertex as usize] = next;
-        next += 1;
+    for (place, step) in moves.iter().enumerate() {
+        order[step.vertex as usize] = place as u32 + 1;
     }
     Ok(Items::from_vec(order))
 }
