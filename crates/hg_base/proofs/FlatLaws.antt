@@ -1,11 +1,12 @@
 -- Laws of nets in flat arrays.
-use Rattle.std.proofs.Common.{◌≡◌, ℕ, ◌^◌, ◌<◌, ◌≤◌, List, [], ◌∷◌, length, replicate, get_or, refl, sym, ap, ◌∙◌, arith, rules}
+use Rattle.std.proofs.Common.{◌≡◌, ℕ, ◌^◌, ◌<◌, ◌≤◌, List, [], ◌∷◌, length, replicate, get_or, refl, sym, ap, ◌∙◌, arith, rules, ⊎_elim}
 use Rattle.std.proofs.lemmas.List.FromFn.{length-map-range_with_len, get_or-map-range_with_len}
-use Rattle.std.proofs.lemmas.List.{length-replicate}
+use Rattle.std.proofs.lemmas.Bool.{cases_lt}
+use Rattle.std.proofs.lemmas.List.{length-replicate, get_or-replicate, get_or_past}
 use Rattle.std.proofs.lemmas.List.Elements.{All-nil, All-replicate}
 use Rattle.hg_defs.specs.declared.objective.Objective.{Objective}
 use Rattle.hg_defs.specs.declared.objective.TheConstants.{FREE}
-use Rattle.hg_defs.specs.Hypergraph.{Net, Hyper, net_count, net_of, IsNet}
+use Rattle.hg_defs.specs.Hypergraph.{Net, Hyper, net_count, net_of, IsNet, IsFixedWithin}
 use Rattle.hg_defs.proofs.SumLaws.{total-replicate}
 use Rattle.hg_base.specs.Flat.{net_at, nets_at, IsLaidOut, IsKept}
 
@@ -59,3 +60,14 @@ IsLaidOut-bare = record {
   within = λ e h. search (rules, arith);
   last = refl;
 }
+
+-- where every vertex is free, the fixes are within any number of blocks
+pub IsFixedWithin-free : (h : Hyper) (n k : ℕ) → h.fixes ≡ replicate n FREE → IsFixedWithin h k
+IsFixedWithin-free h n k e v l other = absurd (other (ap (λ (fs : List ℕ). get_or fs v FREE) e ∙ free))
+  where
+    free : get_or (replicate n FREE) v FREE ≡ FREE
+    free =
+        ⊎_elim
+        (λ (l : v < n). get_or-replicate n v FREE FREE l)
+        (λ (l : n ≤ v). get_or_past (replicate n FREE) v FREE (let m = length-replicate {A = ℕ} n FREE in omega arith))
+        (cases_lt v n)
