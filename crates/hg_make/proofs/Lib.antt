@@ -3,3 +3,4 @@ pub mod PenLemmas
 pub mod TextLemmas
 pub mod GraphLemmas
 pub mod GraphLaws
+pub mod MadeLaws

@@ -1,8 +1,9 @@
 -- The law of hypergraph files.
-use Rattle.std.specs.Prelude.{◌≡◌, ℕ, ◌^◌, ◌<◌, All, Ok}
+use Rattle.std.specs.Prelude.{◌≡◌, ℕ, ◌^◌, ◌<◌, ◌≤◌, All, Ok}
 use Rattle.hg_defs.specs.declared.objective.Objective.TheVariants.{Connectivity}
 use Rattle.hg_defs.specs.Hypergraph.{Hyper, vertex_count, IsFree, IsHypergraph, IsWithinLimits}
 use Rattle.hmetis_read.specs.Graph.{graph}
+use Rattle.hg_make.specs.Made.{made}
 use Rattle.hg_make.specs.Text.{hypergraph_text}
 
 -- a hypergraph that the text can say all of
@@ -17,3 +18,7 @@ pub record IsWritable (h : Hyper) : Type 0 where
 -- its text spells that hypergraph
 abbrev pub HypergraphIsReadBack : Type 0
 HypergraphIsReadBack = (h : Hyper) → IsWritable h → graph (hypergraph_text h) ≡ Ok h
+
+-- the text of a made hypergraph spells the made hypergraph
+abbrev pub MadeIsReadBack : Type 0
+MadeIsReadBack = (n : ℕ) → n ≤ 2 ^ 22 → graph (hypergraph_text (made n)) ≡ Ok (made n)

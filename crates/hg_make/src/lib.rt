@@ -9,5 +9,5 @@ mod tests;
 mod text;
 
 pub use generate::make;
-pub use laws::hypergraph_is_read_back;
+pub use laws::{hypergraph_is_read_back, made_is_read_back};
 pub use text::put_hypergraph;

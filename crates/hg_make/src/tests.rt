@@ -1,6 +1,6 @@
 ghost use Rattle.std.specs.Prelude.{◌≤◌, length};
 
-use crate::{hypergraph_is_read_back, make, put_hypergraph};
+use crate::{hypergraph_is_read_back, made_is_read_back, make, put_hypergraph};
 use hg_io::MemSink;
 use hmetis_read::read_hypergraph;
 use std::alloc::Global;
@@ -17,6 +17,7 @@ fn rewrite(alloc: Global, sink: &mut MemSink, text: &[u8]) -> Result<(), Fail>
 
 #[test]
 fn made_hypergraphs(rt: HostRuntime) -> Result<(), Fail> {
+    made_is_read_back();
     let h = make(rt.alloc(), 4)?;
     let mut sink = MemSink::of(rt.alloc(), 100, Vec::new(rt.alloc()), 100)?;
     put_hypergraph(&mut sink, &h)?;
