@@ -1,7 +1,7 @@
 -- A text that was put whole stays whole where the sink is flushed.
-use Rattle.std.proofs.Common.{[], append-nil, refl, ◌≡◌, ℕ, List, ◌++◌, length, take, sym, ap, ◌∙◌}
+use Rattle.std.proofs.Common.{[], append-nil, refl, ℕ, List, length, sym, ◌∙◌}
 use Rattle.std.proofs.Math.Seq.{take-length}
-use Rattle.std.specs.Prelude.{Option, Some, None, Result, Ok, Err, ⊤}
+use Rattle.std.specs.Prelude.{Option, Some, None, Result, Ok, Err}
 use Rattle.std.specs.Io.KnownBytes.{Appends, Keeps}
 use Rattle.hg_io.specs.Transfers.{AppendsPrefix, PutsAll}
 

@@ -1,6 +1,6 @@
 -- A hypergraph that a file spells has no fixed vertex.
-use Rattle.std.proofs.Common.{◌≡◌, ◌<◌, ℕ, zero, suc, List, [], ◌∷◌, refl, subst, replicate, get_or, arith}
-use Rattle.std.specs.Prelude.{Result, Ok, Err, IfOk, slice_index_or}
+use Rattle.std.proofs.Common.{◌≡◌, ℕ, zero, suc, List, [], ◌∷◌, refl, subst, replicate}
+use Rattle.std.specs.Prelude.{Ok, Err, IfOk, slice_index_or}
 use Rattle.hg_defs.specs.declared.objective.TheConstants.{FREE}
 use Rattle.hg_defs.specs.declared.objective.Objective.TheVariants.{Connectivity}
 use Rattle.hg_defs.specs.Hypergraph.{Hyper, Net, IsFree}

@@ -1,8 +1,8 @@
 -- Too few words, or too many, spell no command.
-use Rattle.std.proofs.Common.{◌≡◌, ◌<◌, ℕ, List, [], ◌∷◌, map, length, string_bytes, None, refl, arith}
+use Rattle.std.proofs.Common.{◌≡◌, ◌<◌, List, [], ◌∷◌, map, length, string_bytes, None, refl, arith}
 use Rattle.std.specs.Prelude.{String}
 use Rattle.std.proofs.Common.{Global}
-use Rattle.part_run.specs.Wanted.{partition_words, evaluate_words, generate_words}
+use Rattle.part_run.specs.Wanted.{partition_words, evaluate_words}
 
 pub partition_words-short : (words : List (String Global)) → length words < 3 → None ≡ partition_words (map string_bytes words)
 partition_words-short [] h = refl

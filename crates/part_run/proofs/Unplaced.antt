@@ -1,6 +1,6 @@
 -- The vertex at which greedy placement passes the limit is one of the hypergraph's.
 use Rattle.std.proofs.Common.{◌≡◌, ◌<◌, ℕ, sym, subst}
-use Rattle.std.specs.Prelude.{Some, slice_index}
+use Rattle.std.specs.Prelude.{Some}
 use Rattle.std.proofs.lemmas.List.Sorted.{All-permutation}
 use Rattle.hg_defs.specs.Hypergraph.{Hyper, IsHypergraph, IsFixedWithin, vertex_count, vertices}
 use Rattle.hg_defs.specs.LeastLoaded.{overfills, heaviest_first, placing_order}

@@ -38,10 +38,16 @@ pub record IsUnwritten (old new : Outputs) : Type 0 where
   pub out : Keeps old.out new.out
   pub report : Keeps old.report new.report
 
+-- a sink whose text is empty isn't called
+abbrev pub IsUnused : List ℕ → ℕ → ℕ → Type 0
+IsUnused text old_faults new_faults = text ≡ [] → new_faults ≡ old_faults
+
 -- both sinks got their whole texts
 pub record IsWritten (old new : Outputs) (out_text report_text : List ℕ) : Type 0 where
   pub out : Appends old.out new.out out_text
   pub report : Appends old.report new.report report_text
+  pub out_unused : IsUnused out_text old.out_faults new.out_faults
+  pub report_unused : IsUnused report_text old.report_faults new.report_faults
 
 -- out met a fault and got a prefix of its text, which isn't empty, and the report got nothing
 pub record IsOutFault (old new : Outputs) (out_text : List ℕ) : Type 0 where
@@ -54,6 +60,7 @@ pub record IsOutFault (old new : Outputs) (out_text : List ℕ) : Type 0 where
 pub record IsReportFault (old new : Outputs) (out_text report_text : List ℕ) : Type 0 where
   pub fault : Rose old.report_faults new.report_faults
   pub out : Appends old.out new.out out_text
+  pub out_unused : IsUnused out_text old.out_faults new.out_faults
   pub report : AppendsPrefix old.report new.report report_text
 
 -- why two texts weren't written: a sink met a fault

@@ -1,17 +1,15 @@
 -- What was read: the bytes that a source gave, what they spell, and why a source gives nothing that can be used.
-use Rattle.std.specs.Prelude.{◌≡◌, ℕ, ◌+◌, ◌*◌, ◌^◌, ◌<◌, ◌≤◌, List, length, Option, Some, None, Result, Ok, Err, ◌⊎◌}
+use Rattle.std.specs.Prelude.{◌≡◌, ℕ, ◌+◌, ◌*◌, ◌^◌, ◌<◌, ◌≤◌, List, length, Option, Some, None, Ok, Err, ◌⊎◌}
 use Rattle.std.specs.Io.KnownBytes.{Consumes, IsAtEnd}
 use Rattle.hg_defs.specs.declared.objective.Objective.{Objective}
 use Rattle.hg_defs.specs.Hypergraph.{Hyper, vertex_count, net_count, Suits}
 use Rattle.hg_io.specs.Faults.{Rose}
 use Rattle.hg_io.specs.Transfers.{ConsumesMoreThan, ConsumesAtMost}
-use Rattle.hmetis_read.specs.declared.fault.GraphFault.{GraphFault}
 use Rattle.hmetis_read.specs.declared.fault.GraphFault.TheVariants as graph_fault
 use Rattle.hmetis_read.specs.declared.fault.What.{What}
 use Rattle.hmetis_read.specs.declared.fault.What.TheVariants as what
 use Rattle.hmetis_read.specs.Graph.{graph}
-use Rattle.part_text.specs.declared.fault.PartKind.{PartKind}
-use Rattle.part_text.specs.Entries.{Fault, spelled_part, spelled_fixes}
+use Rattle.part_text.specs.Entries.{spelled_part, spelled_fixes}
 use Rattle.part_run.specs.declared.status.Status.{Status}
 use Rattle.part_run.specs.declared.status.Status.TheVariants.{Malformed, TooLarge, ReadFault, NoMemory, BadPartition, BadFix}
 

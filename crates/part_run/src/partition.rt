@@ -7,7 +7,7 @@ ghost use Rattle.hg_io.specs.Faults.{HasCause};
 ghost use Rattle.hg_io.specs.Transfers.{PutsAll};
 ghost use Rattle.part_text.specs.Part.{part_text};
 ghost use Rattle.part_run.specs.Reads.{IsFixedBy, IsFixRefusal};
-ghost use Rattle.part_run.specs.Answers.{Inputs, Outputs, IsAccepted, IsInputRefusal, IsResult, IsPlaceRefusal, IsWritten, IsWriteRefusal, IsPartitioned, IsPartitionRefused, limit_for, report_for};
+ghost use Rattle.part_run.specs.Answers.{Inputs, Outputs, IsAccepted, IsInputRefusal, IsResult, IsPlaceRefusal, IsWritten, IsWriteRefusal, IsPartitioned, IsPartitionRefused, IsUnused, limit_for, report_for};
 ghost use Rattle.part_run.specs.Spelled.{partitioning_of};
 
 use crate::evaluate::write_evaluation;
@@ -148,6 +148,7 @@ fn deliver<K: Sink, R: Sink>(
 /// Writes the partition; where there is no vertex the sink isn't called.
 fn write_blocks<K: Sink>(out: &mut K, blocks: &[u32]) -> Result<(), Failed>
     ensures some { OnErr result (part_text blocks.now ≢ []) }
+    ensures unused { IsUnused (part_text blocks.now) (K.faults out.old) (K.faults out.new) }
     ensures bytes { PutsAll (K.got out.old) (K.got out.new) result (part_text blocks.now) }
     ensures cause { HasCause (K.faults out.old) (K.faults out.new) result }
 {

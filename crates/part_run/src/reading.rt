@@ -1,11 +1,11 @@
 //! Reading what a command needs, each source to its end.
 
-ghost use Rattle.std.specs.Prelude.{◌≡◌, ◌≤◌, MatchResult, Ok};
+ghost use Rattle.std.specs.Prelude.{◌≡◌, ◌≤◌, ◌≢◌, ◌<◌, MatchResult, Ok, IfOk, All, length};
 ghost use Rattle.part_text.specs.Entries.{spelled_part, spelled_fixes};
 ghost use Rattle.part_run.specs.Reads.{Spells, IsSuited, IsGraphRefusal, IsFixRefusal, IsPartRefusal};
 
 use crate::Status;
-use hg_base::{Blocks, FlatHyper};
+use hg_base::{Blocks, FREE, FlatHyper};
 use hg_io::{ReadEnd, Source, read_all};
 use hmetis_read::{GraphFault, What, read_hypergraph};
 use part_text::{FixFault, PartFault, read_fix, read_part};
@@ -59,6 +59,9 @@ pub(crate) fn read_fixes<X: Source>(
     ensures answer { MatchResult result
         (λ fixes. Spells (X.left source.old) (X.left source.new) (λ bytes. spelled_fixes bytes n k ≡ Ok fixes))
         (IsFixRefusal n k (X.left source.old) (X.left source.new) (X.faults source.old) (X.faults source.new)) }
+    ensures vertices { IfOk result (λ fixes. length fixes ≡ n) }
+    ensures below { IfOk result (All (λ fix. fix ≢ FREE → fix < k)) }
+    ensures within { k ≤ FREE → IfOk result (All (λ fix. fix ≤ FREE)) }
     ensures later { X.faults source.old ≤ X.faults source.new }
 {
     let bytes = match read_all(alloc, source, MOST_BYTES) {
@@ -87,6 +90,8 @@ pub(crate) fn read_blocks<X: Source>(
     ensures answer { MatchResult result
         (λ blocks. Spells (X.left source.old) (X.left source.new) (λ bytes. spelled_part bytes n k ≡ Ok blocks))
         (IsPartRefusal n k (X.left source.old) (X.left source.new) (X.faults source.old) (X.faults source.new)) }
+    ensures vertices { IfOk result (λ blocks. length blocks ≡ n) }
+    ensures blocks { IfOk result (All (λ b. b < k)) }
     ensures later { X.faults source.old ≤ X.faults source.new }
 {
     let bytes = match read_all(alloc, source, MOST_BYTES) {

@@ -1,14 +1,13 @@
-use Rattle.std.proofs.Common.{◌≡◌, ◌<◌, ℕ, List, inl, inr, ap, ◌∙◌, sym, refl, subst, length}
+use Rattle.std.proofs.Common.{◌≡◌, ℕ, List, inl, inr, ap, ◌∙◌, sym, refl, subst, length}
 use Rattle.std.specs.Prelude.{Ok}
 use Rattle.std.specs.Io.KnownBytes.{Appends}
-use Rattle.std.proofs.lemmas.List.Elements.{All-from_recursion}
 use Rattle.hg_defs.specs.Hypergraph.{Hyper, vertex_count}
 use Rattle.hg_io.specs.Transfers.{AppendsPrefix}
 use Rattle.part_text.specs.Entries.{spelled_part}
 use Rattle.trace_text.specs.Evaluation.{evaluation_text}
-use Rattle.part_run.specs.Reads.{Spells, IsPartRefusal}
+use Rattle.part_run.specs.Reads.{IsPartRefusal}
 use Rattle.part_run.proofs.Flushed.{keeps_same, appends_nothing}
-use Rattle.part_run.proofs.Spelt.{AreGood, good_part}
+use Rattle.part_run.proofs.Nonempty.{evaluation_text-some, used}
 use Rattle.part_run.proofs.evaluate.evaluate.Goals as goal
 
 pub returns-in-Err-read_blocks-clause-answer : goal.returns-in-Err-read_blocks-clause-answer
@@ -26,14 +25,10 @@ returns-in-Err-read_blocks-clause-answer g c =
     })
 
 pub write_evaluation-requires-clause-partition : goal.write_evaluation-requires-clause-partition
-write_evaluation-requires-clause-partition g c =
-    let told = c.in-Ok-read_blocks.ensures.answer in
-    let good : AreGood (λ v. v < c.args.e.now.k) c.vertices.result c.in-Ok-read_blocks.blocks =
-    good_part told.bytes c.vertices.result c.args.e.now.k c.in-Ok-read_blocks.blocks told.spelled in
-    record {
-      vertices = ap length c.slice.ensures ∙ good.count_is ∙ c.vertices.ensures.count ∙ sym (ap (λ (h : Hyper). vertex_count h) c.set_objective.ensures);
-      blocks = rw c.slice.ensures (All-from_recursion (λ (v : ℕ). v < c.args.e.now.k) c.in-Ok-read_blocks.blocks good.all);
-    }
+write_evaluation-requires-clause-partition g c = record {
+  vertices = ap length c.slice.ensures ∙ c.in-Ok-read_blocks.ensures.vertices ∙ c.vertices.ensures.count ∙ sym (ap (λ (h : Hyper). vertex_count h) c.set_objective.ensures);
+  blocks = rw c.slice.ensures c.in-Ok-read_blocks.ensures.blocks;
+}
 
 pub returns-in-Ok-write_evaluation-clause-answer : goal.returns-in-Ok-write_evaluation-clause-answer
 returns-in-Ok-write_evaluation-clause-answer g c =
@@ -49,6 +44,8 @@ returns-in-Ok-write_evaluation-clause-answer g c =
         out = appends_nothing (g.K.Sink.got c.args.out.now);
         report = subst (λ (h : Hyper). Appends old new (evaluation_text h c.args.e.now.k c.args.e.now.eps c.in-Ok-read_blocks.blocks)) c.set_objective.ensures
             (subst (λ (b : List ℕ). Appends old new (evaluation_text c.set_objective.new.self c.args.e.now.k c.args.e.now.eps b)) c.slice.ensures c.in-Ok-write_evaluation.ensures.bytes.ok);
+        out_unused = λ e. refl;
+        report_unused = used _ _ _ (evaluation_text-some (record c.in-Ok.h { objective = c.args.e.now.objective }) c.args.e.now.k c.args.e.now.eps c.in-Ok-read_blocks.blocks);
       };
     }
 
@@ -66,6 +63,7 @@ returns-clause-answer g c =
       cause = record {
         fault = c.in-Err-write_evaluation.ensures.cause.failed;
         out = appends_nothing (g.K.Sink.got c.args.out.now);
+        out_unused = λ e. refl;
         report = subst (λ (h : Hyper). AppendsPrefix old new (evaluation_text h c.args.e.now.k c.args.e.now.eps c.in-Ok-read_blocks.blocks)) c.set_objective.ensures
             (subst (λ (b : List ℕ). AppendsPrefix old new (evaluation_text c.set_objective.new.self c.args.e.now.k c.args.e.now.eps b)) c.slice.ensures c.in-Err-write_evaluation.ensures.bytes.err);
       };

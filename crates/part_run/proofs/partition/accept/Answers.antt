@@ -1,4 +1,4 @@
-use Rattle.std.proofs.Common.{◌≡◌, ℕ, ap, ◌∙◌}
+use Rattle.std.proofs.Common.{ap, ◌∙◌}
 use Rattle.hg_defs.specs.Hypergraph.{Hyper, fix_of}
 use Rattle.part_run.proofs.FreeGraph.{free_graph}
 use Rattle.part_run.proofs.partition.accept.Goals as goal

@@ -1,4 +1,4 @@
-use Rattle.std.proofs.Common.{◌≡◌, ◌<◌, ◌+◌, ◌++◌, ℕ, List, length, take, drop, slice_index, slice_set, ap, arith, ◌∙◌}
+use Rattle.std.proofs.Common.{◌≡◌, ◌+◌, ◌++◌, ℕ, List, length, take, drop, slice_index, slice_set, ap, arith, ◌∙◌}
 use Rattle.hg_defs.specs.Hypergraph.{Hyper}
 use Rattle.part_run.proofs.Written.{written_more}
 use Rattle.part_run.proofs.partition.fix_all.Goals as goal

@@ -1,4 +1,4 @@
-use Rattle.std.proofs.Common.{inl, inr}
+use Rattle.std.proofs.Common.{inl}
 use Rattle.part_run.proofs.Flushed.{keeps_same}
 use Rattle.part_run.proofs.partition.partition.Goals as goal
 

@@ -1,5 +1,5 @@
 use Rattle.std.proofs.Common.{sym, ◌∙◌}
-use Rattle.part_run.proofs.Nonempty.{part_text-some, not_empty, on_err}
+use Rattle.part_run.proofs.Nonempty.{part_text-some, not_empty, on_err, used}
 use Rattle.part_run.proofs.Flushed.{flushed}
 use Rattle.part_run.proofs.partition.write_blocks.Goals as goal
 
@@ -13,3 +13,11 @@ returns-in_err-put_part-clause-some g c =
 pub returns-clause-some : goal.returns-clause-some
 returns-clause-some g c =
     on_err c.flush.result _ (part_text-some c.args.blocks.now (not_empty c.args.blocks.now (sym c.is_empty.ensures ∙ c.if-is_empty.false)))
+
+pub returns-in_err-put_part-clause-unused : goal.returns-in_err-put_part-clause-unused
+returns-in_err-put_part-clause-unused g c =
+    used _ _ _ (part_text-some c.args.blocks.now (not_empty c.args.blocks.now (sym c.is_empty.ensures ∙ c.if-is_empty.false)))
+
+pub returns-clause-unused : goal.returns-clause-unused
+returns-clause-unused g c =
+    used _ _ _ (part_text-some c.args.blocks.now (not_empty c.args.blocks.now (sym c.is_empty.ensures ∙ c.if-is_empty.false)))
