@@ -3,9 +3,11 @@ pub mod Sorting
 pub mod Hypergraph
 pub mod Partition
 pub mod Cost
+pub mod Pins
 pub mod LeastLoaded
 pub mod Moves
 pub mod Replay
 pub mod Contraction
 pub mod Clustering
 pub mod Placement
+pub mod PlacementLaws

@@ -4,6 +4,7 @@
 //! declared here, and the laws over them are the contracts of functions with empty bodies.
 #![tactic(auto)]
 
+pub mod laws;
 mod memory;
 mod moves;
 mod objective;
