@@ -1,1 +1,4 @@
 pub mod FlatLaws
+pub mod SetLaws
+pub mod PushLaws
+pub mod LimitLaws

@@ -1,7 +1,6 @@
 -- A hypergraph in flat arrays: the pins of all nets stand in one list, and each net has the place at which its pins start.
 use Rattle.std.specs.Prelude.{◌≡◌, ℕ, ◌+◌, ◌<◌, ◌≤◌, List, length, map, slice_index, slice_range}
 use Rattle.std.specs.List.{range_with_len}
-use Rattle.hg_defs.specs.declared.objective.Objective.{Objective}
 use Rattle.hg_defs.specs.Hypergraph.{Net, Hyper, pin_count, total_weight, IsHypergraph, IsWithinLimits}
 
 -- the net of a number

@@ -5,3 +5,4 @@ pub use Rattle.hg_defs.specs.Partition
 pub use Rattle.hg_defs.specs.Cost
 pub use Rattle.hg_defs.specs.LeastLoaded
 pub mod Flat
+pub mod Packed

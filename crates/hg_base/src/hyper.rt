@@ -1,8 +1,13 @@
 //! The hypergraph as flat arrays.
 
-ghost use Rattle.std.specs.Prelude.{◌≡◌, ℕ, ◌+◌, ◌*◌, ◌^◌, ◌<◌, ◌≤◌, [], ◌∷◌, ◌++◌, replicate, IsTrue, ◌↔◌, IfOk, OnOk, OnErr, slice_set};
-ghost use Rattle.hg_defs.specs.Hypergraph.{vertex_count, net_count, pin_count, weight_of, total_weight, net_of, fix_of, IsHypergraph, IsWithinLimits, IsFixedWithin, Suits};
+ghost use Rattle.std.specs.Prelude.{◌≡◌, ℕ, ◌+◌, ◌*◌, ◌^◌, ◌<◌, ◌≤◌, [], ◌∷◌, ◌++◌, length, replicate, All, IsTrue, ◌↔◌, IfOk, OnOk, OnErr, slice_set};
+ghost use Rattle.std.specs.List.Sorted.{IsStrictlyIncreasing};
+ghost use Rattle.std.specs.Ordering.{nat_cmp};
+ghost use Rattle.hg_defs.specs.Sorting.{set_of};
+ghost use Rattle.hg_defs.specs.Sums.{total};
+ghost use Rattle.hg_defs.specs.Hypergraph.{vertex_count, net_count, pin_count, weight_of, total_weight, total_net_weight, net_of, fix_of, IsHypergraph, IsWithinLimits, IsFixedWithin, Suits};
 
+use crate::sets::append_set;
 use hg_defs::{FREE, NoMemory, Objective};
 use std::alloc::Global;
 use std::marker::Model;
@@ -40,13 +45,13 @@ impl Model for FlatHyper {
     } };
 
     ghost invariant = { λ h.
-      IsLaidOut h.starts.items h.net_weights.items h.pins.items
-      × IsKept (record {
-        weights = h.vertex_weights.items;
-        nets = nets_at h.starts.items h.net_weights.items h.pins.items;
-        objective = h.objective;
-        fixes = h.fixes.items;
-      }) (length h.pins.items) h.total };
+        IsLaidOut h.starts.items h.net_weights.items h.pins.items
+        × IsKept (record {
+          weights = h.vertex_weights.items;
+          nets = nets_at h.starts.items h.net_weights.items h.pins.items;
+          objective = h.objective;
+          fixes = h.fixes.items;
+        }) (length h.pins.items) h.total };
 }
 
 impl FlatHyper {
@@ -72,6 +77,31 @@ impl FlatHyper {
         })
     }
 
+    /// Adds a net, whose pins are the set of the given vertices. Where there is no memory,
+    /// the hypergraph stays as it was.
+    ///
+    /// The given vertices may stand in any order and more than once; the work is least where
+    /// they rise. All nets, all pins, all weights and all products of a net's weight and its
+    /// given pins must stay within the limits of the type.
+    pub fn push_net(&mut self, weight: u64, pins: &[u32]) -> Result<(), NoMemory>
+        requires vertices { All (λ v. v < vertex_count self.old) pins.now }
+        requires nets { net_count self.old < 2 ^ 22 }
+        requires all_pins { pin_count self.old + length pins.now ≤ 2 ^ 25 }
+        requires net_weight { total_net_weight self.old + weight < 2 ^ 54 }
+        requires pin_weight { total (λ e. e.weight * length e.pins) self.old.nets + weight * length pins.now < 2 ^ 57 }
+        ensures ok { OnOk result (self.new ≡ record self.old {
+          nets = self.old.nets ++ record { weight = weight; pins = set_of nat_cmp pins.now } ∷ [];
+        }) }
+        ensures err { OnErr result (self.new ≡ self.old) }
+    {
+        self.net_weights.reserve(1)?;
+        self.starts.reserve(1)?;
+        append_set(&mut self.pins, pins)?;
+        self.starts.push(self.pins.len() as u32)?;
+        self.net_weights.push(weight)?;
+        Ok(())
+    }
+
     /// How many vertices there are.
     pub fn vertices(&self) -> u32
         ensures count { result ≡ vertex_count self.now }
@@ -91,7 +121,9 @@ impl FlatHyper {
     /// The pins of a net, in strictly rising order.
     pub fn pins(&self, e: u32) -> &[u32]
         requires { e < net_count self.now }
-        ensures { result.now ≡ (net_of self.now e).pins }
+        ensures value { result.now ≡ (net_of self.now e).pins }
+        ensures rising { IsStrictlyIncreasing result.now }
+        ensures below { All (λ v. v < vertex_count self.now) result.now }
     {
         let start = self.starts[e as usize] as usize;
         let end = self.starts[e as usize + 1] as usize;
@@ -101,7 +133,8 @@ impl FlatHyper {
     /// The weight of a net.
     pub fn net_weight(&self, e: u32) -> u64
         requires { e < net_count self.now }
-        ensures { result ≡ (net_of self.now e).weight }
+        ensures value { result ≡ (net_of self.now e).weight }
+        ensures bound { result < 2 ^ 54 }
     {
         self.net_weights[e as usize]
     }
@@ -109,7 +142,8 @@ impl FlatHyper {
     /// The weight of a vertex.
     pub fn vertex_weight(&self, v: u32) -> u64
         requires { v < vertex_count self.now }
-        ensures { result ≡ weight_of self.now v }
+        ensures value { result ≡ weight_of self.now v }
+        ensures bound { result < 2 ^ 54 }
     {
         self.vertex_weights[v as usize]
     }
@@ -123,7 +157,6 @@ impl FlatHyper {
 
     /// Whether the counts of `k` blocks for all vertices and nets are at most 2^26.
     pub fn suits(&self, k: u32) -> bool
-        requires { k ≤ 256 }
         ensures { IsTrue result ↔ Suits self.now k }
     {
         (u64::from(self.vertices()) + u64::from(self.nets())) * u64::from(k) <= MOST_COUNTS

@@ -1,5 +1,4 @@
-use Rattle.std.proofs.Common.{arith, ap, ◌∙◌, ◌≤◌, ◌^◌, subst, sym, refl, ◌≡◌, length}
-use Rattle.hg_defs.specs.Hypergraph.{net_count}
+use Rattle.std.proofs.Common.{arith}
 use Rattle.hg_base.proofs.FlatLaws.{length-nets_at}
 use Rattle.hg_base.proofs.hyper.FlatHyper.nets.Goals as goal
 

@@ -1,6 +1,6 @@
-use Rattle.std.proofs.Common.{◌∙◌, ◌≤◌, ◌<◌, ◌+◌, ◌≡◌, length, take, drop, slice_index, ap, sym, arith, rules}
+use Rattle.std.proofs.Common.{[], ◌+◌, length, All, ap, subst, sym, arith}
 use Rattle.std.proofs.lemmas.List.{get_or_read}
-use Rattle.hg_defs.specs.Hypergraph.{Net, Hyper}
+use Rattle.hg_defs.specs.Hypergraph.{Net, Hyper, vertex_count, IsNet}
 use Rattle.hg_base.proofs.FlatLaws.{below_nets, net_of-flat}
 use Rattle.hg_base.proofs.hyper.FlatHyper.pins.Goals as goal
 
@@ -21,7 +21,7 @@ index-requires-2 c =
     omega arith
 
 pub slice_bounds-result-count : goal.slice_bounds-result-count
-slice_bounds-result-count c = 
+slice_bounds-result-count c =
     let h = c.self.inside in
     let is = ap (λ (x : Hyper). x.nets) c.self.view_is in
     let below = below_nets c.args.self.now h.starts.items h.net_weights.items h.pins.items is c.args.e c.requires in
@@ -32,7 +32,7 @@ slice_bounds-result-count c =
     omega arith
 
 pub slice_bounds-result-start : goal.slice_bounds-result-start
-slice_bounds-result-start c = 
+slice_bounds-result-start c =
     let h = c.self.inside in
     let is = ap (λ (x : Hyper). x.nets) c.self.view_is in
     let below = below_nets c.args.self.now h.starts.items h.net_weights.items h.pins.items is c.args.e c.requires in
@@ -53,8 +53,8 @@ slice_bounds-result-end c =
     let all = ap length c.deref.ensures.value in
     omega arith
 
-pub returns : goal.returns
-returns c =
+pub returns-clause-value : goal.returns-clause-value
+returns-clause-value c =
     let h = c.self.inside in
     let x = c.args.self.now in
     let is = ap (λ (x : Hyper). x.nets) c.self.view_is in
@@ -64,3 +64,15 @@ returns c =
     let second = get_or_read h.starts.items _ _ (omega arith) c.index-2.ensures 0 in
     let net = net_of-flat x h.starts.items h.net_weights.items h.pins.items is c.args.e c.requires in
     rw (first, second, c.deref.ensures.value) (sym (ap (λ (n : Net). n.pins) net))
+
+pub returns-clause-rising : goal.returns-clause-rising
+returns-clause-rising c =
+    let x = c.args.self.now in
+    let sound = subst (λ (x : Hyper). All (IsNet (vertex_count x)) x.nets) c.self.view_is c.self.invariant.1.sound.nets in
+    rw (returns-clause-value c) (sound c.args.e (record { weight = 0; pins = [] }) c.requires).rising
+
+pub returns-clause-below : goal.returns-clause-below
+returns-clause-below c =
+    let x = c.args.self.now in
+    let sound = subst (λ (x : Hyper). All (IsNet (vertex_count x)) x.nets) c.self.view_is c.self.invariant.1.sound.nets in
+    rw (returns-clause-value c) (sound c.args.e (record { weight = 0; pins = [] }) c.requires).pins

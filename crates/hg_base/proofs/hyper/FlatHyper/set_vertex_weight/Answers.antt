@@ -1,7 +1,6 @@
-use Rattle.std.proofs.Common.{◌∙◌, ◌≤◌, ◌<◌, ◌+◌, ◌≡◌, length, slice_index, slice_set, ap, sym, arith}
+use Rattle.std.proofs.Common.{◌∙◌, ◌<◌, length, ap, sym, arith}
 use Rattle.std.proofs.lemmas.List.{get_or_read, length-set}
-use Rattle.hg_defs.specs.Sums.{total}
-use Rattle.hg_defs.specs.Hypergraph.{Net, Hyper}
+use Rattle.hg_defs.specs.Hypergraph.{Hyper}
 use Rattle.hg_defs.proofs.SumLaws.{total_at-le, total-set}
 use Rattle.hg_base.proofs.hyper.FlatHyper.set_vertex_weight.Goals as goal
 
@@ -26,17 +25,19 @@ invariant_of-self c =
     let changed = total-set (λ w. w) h.vertex_weights.items c.args.v c.args.weight 0 below in
     let same = length-set h.vertex_weights.items c.args.v c.args.weight in
     let old = c.self.invariant.1 in
-    let fits = rw (← c.self.view_is) at c.requires.fits in
-    (c.self.invariant.0, record {
-      sound = record { fixes = old.sound.fixes ∙ sym same; fixed = old.sound.fixed; nets = rw same old.sound.nets };
-      bounds = record {
-        vertices = omega (arith, old.bounds.vertices);
-        nets = old.bounds.nets;
-        pins = old.bounds.pins;
-        weight = omega arith;
-        net_weight = old.bounds.net_weight;
-        pin_weight = old.bounds.pin_weight;
-      };
-      all_pins = old.all_pins;
-      all_weight = omega arith;
-    })
+    let fits = rw (← c.self.view_is) at c.requires.fits in (
+      c.self.invariant.0,
+      record {
+        sound = record { fixes = old.sound.fixes ∙ sym same; fixed = old.sound.fixed; nets = rw same old.sound.nets };
+        bounds = record {
+          vertices = omega (arith, old.bounds.vertices);
+          nets = old.bounds.nets;
+          pins = old.bounds.pins;
+          weight = omega arith;
+          net_weight = old.bounds.net_weight;
+          pin_weight = old.bounds.pin_weight;
+        };
+        all_pins = old.all_pins;
+        all_weight = omega arith;
+      },
+    )

@@ -1,0 +1,41 @@
+//! Counts packed into words of 64 bits. The count of block `b` stands in the field at place
+//! `b % (64 / bits)` of word `b / (64 / bits)` of its net.
+
+ghost use Rattle.std.specs.Prelude.{◌≡◌, ◌<◌, ◌≤◌, ◌^◌};
+ghost use Rattle.hg_base.specs.Packed as packed;
+ghost use Rattle.hg_base.specs.Packed.{IsWidth, fields_of};
+
+/// How many bits a count takes in a net of this many pins: 16 where they are at most 65,535, else 32.
+pub fn bits_of(pins: u32) -> u32
+    ensures value { result ≡ packed.bits_of pins }
+    ensures width { IsWidth result }
+{
+    if pins <= 65535 { 16 } else { 32 }
+}
+
+/// How many words the counts of `k` blocks take in a net of this many pins; `k` is at most 256.
+pub fn words_of(pins: u32, k: u32) -> u32
+    requires { k ≤ 256 }
+    ensures { result ≡ packed.words_of pins k }
+{
+    (k * bits_of(pins)).div_ceil(64)
+}
+
+/// The number in the field at a place, below `64 / bits`, of a word with fields of 16 or 32 bits.
+pub fn field(word: u64, bits: u32, place: u32) -> u64
+    requires width { IsWidth bits }
+    requires place { place < fields_of bits }
+    ensures value { result ≡ packed.field word bits place }
+    ensures bound { result < 2 ^ bits }
+{
+    (word >> (place * bits)) & ((1 << bits) - 1)
+}
+
+/// The word with 1 in the field at a place, below `64 / bits`, and 0 elsewhere.
+pub fn unit(bits: u32, place: u32) -> u64
+    requires width { IsWidth bits }
+    requires place { place < fields_of bits }
+    ensures { result ≡ packed.unit bits place }
+{
+    1 << (place * bits)
+}
