@@ -152,10 +152,10 @@ module _ (h : Hyper) (k : ℕ) (good : IsHypergraph h) (fixed : IsFixedWithin h 
           other (inl e) = absurd (n (sym e))
           other (inr t) = inr t
 
-Contains_vertices : (h : Hyper) (v : ℕ) → v < vertex_count h → Contains (vertices h) v
+pub Contains_vertices : (h : Hyper) (v : ℕ) → v < vertex_count h → Contains (vertices h) v
 Contains_vertices h v l = (v, (let e = length-range_with_len 0 (vertex_count h) in omega arith), (let e : 0 + v ≡ v = omega arith in get_or-range_with_len 0 (vertex_count h) v v l ∙ e))
 
-Contains_filter : {A : Type 0} (test : A → Bool) (xs : List A) (x : A) → Contains xs x → test x ≡ true → Contains (filter test xs) x
+pub Contains_filter : {A : Type 0} (test : A → Bool) (xs : List A) (x : A) → Contains xs x → test x ≡ true → Contains (filter test xs) x
 Contains_filter test [] x c e = absurd (Contains-nil x c)
 Contains_filter {A} test (y ∷ ys) x c e = by (Contains-cons_cases y ys x c) (Contains_filter test ys x)
   where
@@ -295,7 +295,7 @@ module _ (h : Hyper) (k : ℕ) (good : IsHypergraph h) (fixed : IsFixedWithin h 
 
 -- ---- the order of placing
 
-distinct_vertices : (h : Hyper) → IsDistinct nat_eq (vertices h)
+pub distinct_vertices : (h : Hyper) → IsDistinct nat_eq (vertices h)
 distinct_vertices h = IsDistinct-from_apart nat_eq (vertices h) apart_at
   where
     apart_at : (i j : ℕ) (d : ℕ) → i < j → j < length (vertices h) → nat_eq (get_or (vertices h) i d) (get_or (vertices h) j d) ≡ false
@@ -305,7 +305,7 @@ distinct_vertices h = IsDistinct-from_apart nat_eq (vertices h) apart_at
         let b = get_or-range_with_len 0 (vertex_count h) j d (omega arith) in
         ne_eqb (get_or (vertices h) i d) (get_or (vertices h) j d) (λ e. absurd (omega arith))
 
-vertices_within : (h : Hyper) → All (λ v. v < vertex_count h) (vertices h)
+pub vertices_within : (h : Hyper) → All (λ v. v < vertex_count h) (vertices h)
 vertices_within h i d l =
     let n = length-range_with_len 0 (vertex_count h) in
     let a = get_or-range_with_len 0 (vertex_count h) i d (omega arith) in

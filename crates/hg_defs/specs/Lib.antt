@@ -11,3 +11,5 @@ pub mod Contraction
 pub mod Clustering
 pub mod Placement
 pub mod PlacementLaws
+pub mod ReplayLaws
+pub mod MoveLaws

@@ -1,6 +1,8 @@
 //! The laws over the definitions. Each is the contract of a function that does nothing.
 
 ghost use Rattle.hg_defs.specs.PlacementLaws.{AllWeightsArePlaced, GreedyDoesNotFit, GreedyFits, GreedyIsPartition, GreedyObeys, HeaviestFirstListsFree, HeaviestGoFirst, LeastIsFirstLeast, LeastLoadedIsInTurn, LeastLoadedIsPartition, LeastLoadedObeys, LoadsAreKept, NoneOverfillsWhereItFits, OneOverfillsWhereItDoesNotFit, OnlyLeastLoadedIsInTurn, OverfillingIsFirst};
+ghost use Rattle.hg_defs.specs.MoveLaws.{AllowedMoveFits, AllowedMoveIsPartition, AllowedMoveObeys, BestBlockIsBest, ConnectivityCountsBlocks, EmptySweepIsSettled, GainIsLocal, MoveKeepsOtherLoads, MoveLowersLoad, MoveRaisesLoad, NoBestBlockGainsNothing, OnlyBestBlockIsBest, SettledSweepIsEmpty, SweepMakesBestMoves, SweepRises, SweepSavesWhatItBooks};
+ghost use Rattle.hg_defs.specs.ReplayLaws.{BestPrefixIsBest, FittingIsTested, OnlyBestPrefixIsBest};
 
 /// Least loaded placement gives each vertex a block and obeys the fixes. It places the vertices in
 /// turn, each free one into the block of least load so far, and nothing else does.
@@ -35,4 +37,47 @@ pub fn greedy_placement()
     ensures fixes { GreedyObeys }
     ensures fits { GreedyFits }
     ensures overfilled { GreedyDoesNotFit }
+{}
+
+/// The test whether a partition fits answers yes exactly where it does. The best prefix of a list of
+/// moves is the shortest of the cheapest that fit, and no other one is.
+pub fn best_prefix_of_moves()
+    ensures tested { FittingIsTested }
+    ensures best { BestPrefixIsBest }
+    ensures only { OnlyBestPrefixIsBest }
+{}
+
+/// The best block of a vertex is an allowed one of the highest gain above 0, the lowest at a tie, and
+/// no other block is. Where there is none, no allowed move of the vertex gains.
+pub fn best_block_of_vertex()
+    ensures best { BestBlockIsBest }
+    ensures only { OnlyBestBlockIsBest }
+    ensures none { NoBestBlockGainsNothing }
+{}
+
+/// A sweep is empty exactly where the partition is settled. Each of its moves is the best of its
+/// vertex in its turn, the vertices rise, and the cost falls by what is booked.
+pub fn sweep_of_partition()
+    ensures settled { EmptySweepIsSettled }
+    ensures empty { SettledSweepIsEmpty }
+    ensures best { SweepMakesBestMoves }
+    ensures rising { SweepRises }
+    ensures saved { SweepSavesWhatItBooks }
+{}
+
+/// An allowed move leaves a partition that obeys the fixes and fits.
+pub fn allowed_move()
+    ensures partition { AllowedMoveIsPartition }
+    ensures fixes { AllowedMoveObeys }
+    ensures fits { AllowedMoveFits }
+{}
+
+/// A move changes the loads of the two blocks alone, and its gain is what the nets of the vertex
+/// save, by their pin counts in the two blocks.
+pub fn change_by_move()
+    ensures raised { MoveRaisesLoad }
+    ensures lowered { MoveLowersLoad }
+    ensures others { MoveKeepsOtherLoads }
+    ensures connectivity { ConnectivityCountsBlocks }
+    ensures gain { GainIsLocal }
 {}

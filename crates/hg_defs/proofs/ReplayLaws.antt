@@ -1,0 +1,214 @@
+-- Laws of the best prefix of a list of moves.
+use Rattle.std.proofs.Common.{◌≡◌, ℕ, zero, suc, ◌+◌, ◌<◌, ◌≤◌, ◌⊎◌, inl, inr, Bool, true, false, not, ◌&&◌, ◌||◌, cond, nat_le, List, [], ◌∷◌, ◌++◌, length, All, Some, find, unwrap_or, refl, sym, ap, ◌∙◌, subst, arith, true≢false, slice_set}
+use Rattle.std.proofs.lemmas.List.{take_all}
+use Rattle.std.proofs.lemmas.List.FromFn.{length-range_with_len, get_or-range_with_len}
+use Rattle.std.proofs.lemmas.List.Sums.{AllPass-from_list_all, list_all-from_AllPass}
+use Rattle.std.proofs.lemmas.Bool.{leb-true, le-leb, and_parts, and_from, cases_order, cases_lt}
+use Rattle.std.specs.List.{list_all, range_with_len}
+use Rattle.hg_defs.specs.declared.moves.Move.{Move}
+use Rattle.hg_defs.specs.Hypergraph.{Hyper}
+use Rattle.hg_defs.specs.Partition.{Fits, is_fitting, load}
+use Rattle.hg_defs.specs.Cost.{cost}
+use Rattle.hg_defs.specs.Replay.{replay, replay_first, best_prefix}
+use Rattle.hg_defs.specs.ReplayLaws.{IsBestPrefix, FittingIsTested, BestPrefixIsBest, OnlyBestPrefixIsBest}
+
+-- ---- a test of all numbers below a bound
+
+pub all_below : (test : ℕ → Bool) (n : ℕ) → list_all test (range_with_len 0 n) ≡ true → (i : ℕ) → i < n → test i ≡ true
+all_below test n e i l =
+    let e0 : 0 + i ≡ i = omega arith in
+    let m = length-range_with_len 0 n in
+    subst (λ j. test j ≡ true) (get_or-range_with_len 0 n i 0 l ∙ e0) (AllPass-from_list_all test (range_with_len 0 n) e i 0 (omega arith))
+
+pub from_all_below : (test : ℕ → Bool) (n : ℕ) → ((i : ℕ) → i < n → test i ≡ true) → list_all test (range_with_len 0 n) ≡ true
+from_all_below test n h = list_all-from_AllPass test (range_with_len 0 n) each
+  where
+    each : All (λ i. test i ≡ true) (range_with_len 0 n)
+    each i d l =
+        let m = length-range_with_len 0 n in
+        let e0 : 0 + i ≡ i = omega arith in
+        subst (λ j. test j ≡ true) (sym (get_or-range_with_len 0 n i d (omega arith) ∙ e0)) (h i (omega arith))
+
+pub fitting_is_tested : FittingIsTested
+fitting_is_tested h k l p = (
+  λ e b m. leb-true (load h p b) l (all_below (λ c. nat_le (load h p c) l) k e b m),
+  λ f. from_all_below (λ c. nat_le (load h p c) l) k (λ b m. le-leb (load h p b) l (f b m)),
+)
+
+-- ---- the first number that passes a test
+
+-- the first of n numbers from a on that passes
+record FindsFirst (test : ℕ → Bool) (a n : ℕ) (i : ℕ) : Type 0 where
+  within : i < n
+  is : find test (range_with_len a n) ≡ Some (a + i)
+  passes : test (a + i) ≡ true
+  first : (j : ℕ) → j < i → test (a + j) ≡ false
+
+finds : (test : ℕ → Bool) (a n i : ℕ) → i < n → test (a + i) ≡ true → (j : ℕ) × FindsFirst test a n j
+finds test a zero i l e = absurd (omega arith)
+finds test a (suc n) i l e = by (test a) refl (finds test (a + 1) n)
+  where
+    none : a ≡ a + 0
+    none = omega arith
+
+    by : (b : Bool) → test a ≡ b → ((c : ℕ) → c < n → test (a + 1 + c) ≡ true → (j : ℕ) × FindsFirst test (a + 1) n j) → (j : ℕ) × FindsFirst test a (suc n) j
+    by true f r = (
+      0,
+      record {
+        within = omega arith;
+        is = ap (λ b. cond b (Some a) (find test (range_with_len (a + 1) n))) f ∙ ap Some none;
+        passes = subst (λ c. test c ≡ true) none f;
+        first = λ j m. absurd (omega arith);
+      },
+    )
+    by false f r = later i l e
+      where
+        later : (c : ℕ) → c < suc n → test (a + c) ≡ true → (j : ℕ) × FindsFirst test a (suc n) j
+        later zero m g = absurd (true≢false (sym g ∙ ap test (sym none) ∙ f))
+        later (suc c) m g =
+            let more : a + suc c ≡ a + 1 + c = omega arith in
+            moved (r c (omega arith) (subst (λ x. test x ≡ true) more g))
+          where
+            moved : (j : ℕ) × FindsFirst test (a + 1) n j → (j : ℕ) × FindsFirst test a (suc n) j
+            moved x = (
+              suc x.0,
+              record {
+                within = let w = x.1.within in omega arith;
+                is = ap (λ b. cond b (Some a) (find test (range_with_len (a + 1) n))) f ∙ x.1.is ∙ ap Some same;
+                passes = subst (λ y. test y ≡ true) same x.1.passes;
+                first = before;
+              },
+            )
+              where
+                same : a + 1 + x.0 ≡ a + suc x.0
+                same = omega arith
+
+                before : (j : ℕ) → j < suc x.0 → test (a + j) ≡ false
+                before zero q = subst (λ y. test y ≡ false) none f
+                before (suc j) q = let s : a + 1 + j ≡ a + suc j = omega arith in subst (λ y. test y ≡ false) s (x.1.first j (omega arith))
+
+-- ---- the shortest of the cheapest
+
+module _ (fit : ℕ → Bool) (c : ℕ → ℕ) (n : ℕ) where
+  abbrev is_best : ℕ → Bool
+  is_best j = fit j && list_all (λ i. not (fit i) || nat_le (c j) (c i)) (range_with_len 0 (n + 1))
+
+  IsCheapest : ℕ → Type 0
+  IsCheapest j = (i : ℕ) → i < n + 1 → fit i ≡ true → c j ≤ c i
+
+  passes_best : (j : ℕ) → is_best j ≡ true → (fit j ≡ true) × IsCheapest j
+  unfolding IsCheapest
+  passes_best j e = (both.0, λ i l f. by i f (all_below (λ x. not (fit x) || nat_le (c j) (c x)) (n + 1) both.1 i l))
+    where
+      both : (fit j ≡ true) × (list_all (λ i. not (fit i) || nat_le (c j) (c i)) (range_with_len 0 (n + 1)) ≡ true)
+      both = and_parts (fit j) (list_all (λ i. not (fit i) || nat_le (c j) (c i)) (range_with_len 0 (n + 1))) e
+
+      by : (i : ℕ) → fit i ≡ true → (not (fit i) || nat_le (c j) (c i)) ≡ true → c j ≤ c i
+      by i f g = leb-true (c j) (c i) (ap (λ b. not b || nat_le (c j) (c i)) (sym f) ∙ g)
+
+  best_passes : (j : ℕ) → fit j ≡ true → IsCheapest j → is_best j ≡ true
+  unfolding IsCheapest
+  best_passes j f h = and_from (fit j) (list_all (λ i. not (fit i) || nat_le (c j) (c i)) (range_with_len 0 (n + 1))) f (from_all_below (λ i. not (fit i) || nat_le (c j) (c i)) (n + 1) (λ i l. by i l (fit i) refl))
+    where
+      by : (i : ℕ) → i < n + 1 → (b : Bool) → fit i ≡ b → (not b || nat_le (c j) (c i)) ≡ true
+      by i l true e = le-leb (c j) (c i) (h i l e)
+      by i l false e = refl
+
+  -- one that passes is among the first m
+  cheapest_of : fit 0 ≡ true → (m : ℕ) → (j : ℕ) × (j < m + 1) × (fit j ≡ true) × ((i : ℕ) → i < m + 1 → fit i ≡ true → c j ≤ c i)
+  cheapest_of z zero = (0, omega arith, z, λ i l f. let e : 0 ≡ i = omega arith in subst (λ x. c 0 ≤ c x) e (omega arith))
+  cheapest_of z (suc m) = by (fit (suc m)) refl (cheapest_of z m)
+    where
+      by : (b : Bool) → fit (suc m) ≡ b → (j : ℕ) × (j < m + 1) × (fit j ≡ true) × ((i : ℕ) → i < m + 1 → fit i ≡ true → c j ≤ c i) → (j : ℕ) × (j < suc m + 1) × (fit j ≡ true) × ((i : ℕ) → i < suc m + 1 → fit i ≡ true → c j ≤ c i)
+      by true e r = two (cases_lt (c (suc m)) (c r.0))
+        where
+          two : (c (suc m) < c r.0) ⊎ (c r.0 ≤ c (suc m)) → (j : ℕ) × (j < suc m + 1) × (fit j ≡ true) × ((i : ℕ) → i < suc m + 1 → fit i ≡ true → c j ≤ c i)
+          two (inl l) = (suc m, omega arith, e, λ i q f. last i q f (cases_lt i (m + 1)))
+            where
+              last : (i : ℕ) → i < suc m + 1 → fit i ≡ true → (i < m + 1) ⊎ (m + 1 ≤ i) → c (suc m) ≤ c i
+              last i q f (inl w) = let a = r.3 i w f in omega arith
+              last i q f (inr w) = let s : suc m ≡ i = omega arith in subst (λ x. c (suc m) ≤ c x) s (omega arith)
+          two (inr l) = (r.0, (let a = r.1 in omega arith), r.2, λ i q f. last i q f (cases_lt i (m + 1)))
+            where
+              last : (i : ℕ) → i < suc m + 1 → fit i ≡ true → (i < m + 1) ⊎ (m + 1 ≤ i) → c r.0 ≤ c i
+              last i q f (inl w) = r.3 i w f
+              last i q f (inr w) = let s : suc m ≡ i = omega arith in subst (λ x. c r.0 ≤ c x) s l
+      by false e r = (r.0, (let a = r.1 in omega arith), r.2, λ i q f. last i q f (cases_lt i (m + 1)))
+        where
+          last : (i : ℕ) → i < suc m + 1 → fit i ≡ true → (i < m + 1) ⊎ (m + 1 ≤ i) → c r.0 ≤ c i
+          last i q f (inl w) = r.3 i w f
+          last i q f (inr w) = let s : suc m ≡ i = omega arith in absurd (true≢false (sym f ∙ ap fit (sym s) ∙ e))
+
+  record IsPick (j : ℕ) : Type 0 where
+    within : j < n + 1
+    fits : fit j ≡ true
+    cheapest : (i : ℕ) → i < n + 1 → fit i ≡ true → c j ≤ c i
+    shortest : (i : ℕ) → i < j → fit i ≡ true → c j < c i
+
+  pick_is : fit 0 ≡ true → IsPick (unwrap_or (find is_best (range_with_len 0 (n + 1))) 0)
+  unfolding IsCheapest
+  pick_is z = by (finds is_best 0 (n + 1) least.0 least.1 (subst (λ i. is_best i ≡ true) start (best_passes least.0 least.2 least.3)))
+    where
+      least : (j : ℕ) × (j < n + 1) × (fit j ≡ true) × ((i : ℕ) → i < n + 1 → fit i ≡ true → c j ≤ c i)
+      least = cheapest_of z n
+
+      start : least.0 ≡ 0 + least.0
+      start = omega arith
+
+      by : (j : ℕ) × FindsFirst is_best 0 (n + 1) j → IsPick (unwrap_or (find is_best (range_with_len 0 (n + 1))) 0)
+      by x = subst IsPick (sym (ap (λ o. unwrap_or o 0) x.1.is ∙ same)) picked
+        where
+          same : 0 + x.0 ≡ x.0
+          same = omega arith
+
+          best : (fit x.0 ≡ true) × IsCheapest x.0
+          best = passes_best x.0 (subst (λ i. is_best i ≡ true) same x.1.passes)
+
+          picked : IsPick x.0
+          picked = record {
+            within = x.1.within;
+            fits = best.0;
+            cheapest = best.1;
+            shortest = λ i l f. two i l f (cases_lt (c x.0) (c i));
+          }
+            where
+              two : (i : ℕ) → i < x.0 → fit i ≡ true → (c x.0 < c i) ⊎ (c i ≤ c x.0) → c x.0 < c i
+              two i l f (inl a) = a
+              two i l f (inr a) =
+                  let s : 0 + i ≡ i = omega arith in
+                  absurd (true≢false (sym (best_passes i f (λ q m g. let b = best.1 q m g in omega arith)) ∙ subst (λ j. is_best j ≡ false) s (x.1.first i l)))
+
+pub best_prefix_is : BestPrefixIsBest
+best_prefix_is h k l p moves start = record {
+  within = let w = pick.within in omega arith;
+  fits = (fitting_is_tested h k l (replay_first p moves (best_prefix h k l p moves))).0 pick.fits;
+  cheapest = λ i f. two i f (cases_lt i (length moves + 1));
+  shortest = λ i m f. pick.shortest i m ((fitting_is_tested h k l (replay_first p moves i)).1 f);
+}
+  where
+    pick : IsPick (λ i. is_fitting h k l (replay_first p moves i)) (λ i. cost h (replay_first p moves i)) (length moves) (best_prefix h k l p moves)
+    pick = pick_is (λ i. is_fitting h k l (replay_first p moves i)) (λ i. cost h (replay_first p moves i)) (length moves) ((fitting_is_tested h k l p).1 start)
+
+    two : (i : ℕ) → Fits h k l (replay_first p moves i) → (i < length moves + 1) ⊎ (length moves + 1 ≤ i) → cost h (replay_first p moves (best_prefix h k l p moves)) ≤ cost h (replay_first p moves i)
+    two i f (inl m) = pick.cheapest i m ((fitting_is_tested h k l (replay_first p moves i)).1 f)
+    two i f (inr m) = subst (λ q. cost h (replay_first p moves (best_prefix h k l p moves)) ≤ cost h q) (sym same) (pick.cheapest (length moves) (omega arith) ((fitting_is_tested h k l (replay_first p moves (length moves))).1 (subst (Fits h k l) same f)))
+      where
+        same : replay_first p moves i ≡ replay_first p moves (length moves)
+        same = ap (replay p) (take_all i moves (omega arith) ∙ sym (take_all (length moves) moves (omega arith)))
+
+pub best_prefix_same : (h : Hyper) (k l : ℕ) (p : List ℕ) (moves : List Move) (i j : ℕ) → IsBestPrefix h k l p moves i → IsBestPrefix h k l p moves j → i ≡ j
+best_prefix_same h k l p moves i j x y = by (cases_order i j)
+  where
+    by : (i ≡ j) ⊎ ((i < j) ⊎ (j < i)) → i ≡ j
+    by (inl e) = e
+    by (inr (inl m)) = let a = y.shortest i m x.fits in let b = x.cheapest j y.fits in absurd (omega arith)
+    by (inr (inr m)) = let a = x.shortest j m y.fits in let b = y.cheapest i x.fits in absurd (omega arith)
+
+pub only_best_prefix : OnlyBestPrefixIsBest
+only_best_prefix h k l p moves j start is = best_prefix_same h k l p moves j (best_prefix h k l p moves) is (best_prefix_is h k l p moves start)
+
+-- ---- replaying
+
+pub replay-append : (p : List ℕ) (us vs : List Move) → replay p (us ++ vs) ≡ replay (replay p us) vs
+replay-append p [] vs = refl
+replay-append p (m ∷ us) vs = replay-append (slice_set p m.vertex m.to) us vs
