@@ -1,11 +1,12 @@
 -- The nets of a vertex.
 use Rattle.std.specs.Prelude.{ℕ, List, filter, Bool, nat_eq}
-use Rattle.std.specs.List.{list_any, range_with_len}
+use Rattle.std.specs.List.{range_with_len}
+use Rattle.std.specs.Set.{is_member}
 use Rattle.hg_defs.specs.Hypergraph.{Hyper, net_count, net_of}
 
 -- whether the vertex is one of the pins
 abbrev pub is_pin : List ℕ → ℕ → Bool
-is_pin pins v = list_any (λ u. nat_eq u v) pins
+is_pin pins v = is_member nat_eq pins v
 
 -- whether the net of this number holds the vertex
 abbrev pub is_on : Hyper → ℕ → ℕ → Bool
