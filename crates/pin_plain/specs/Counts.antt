@@ -1,0 +1,35 @@
+-- The pin counts of all nets, packed into words: the words of each net stand after those of the nets before it.
+use Rattle.std.specs.Prelude.{◌≡◌, ℕ, ◌+◌, ◌*◌, ◌/◌, ◌%◌, ◌<◌, List, length, slice_index}
+use Rattle.hg_defs.specs.Sums.{sum_below}
+use Rattle.hg_defs.specs.Hypergraph.{Hyper, net_count, net_of}
+use Rattle.hg_defs.specs.Pins.{pins_in}
+use Rattle.hg_base.specs.Packed.{bits_of, fields_of, words_of, field}
+
+-- the count of block b, where the counts of its net start at a word and take so many bits
+abbrev pub count_at : List ℕ → ℕ → ℕ → ℕ → ℕ
+count_at words start bits b = field (slice_index words (start + b / fields_of bits)) bits (b % fields_of bits)
+
+-- the bits, words and start of a net's counts
+abbrev pub net_bits : Hyper → ℕ → ℕ
+net_bits h e = bits_of (length (net_of h e).pins)
+
+abbrev pub net_words : Hyper → ℕ → ℕ → ℕ
+net_words h k e = words_of (length (net_of h e).pins) k
+
+abbrev pub net_start : Hyper → ℕ → ℕ → ℕ
+net_start h k e = sum_below (net_words h k) e
+
+-- each net has a part of the words
+pub record IsLaidOut (h : Hyper) (k : ℕ) (starts words : List ℕ) : Type 0 where
+  pub nets : length starts ≡ net_count h
+  pub starts_at : (e : ℕ) → e < net_count h → slice_index starts e ≡ net_start h k e
+  pub all : length words ≡ net_start h k (net_count h)
+
+-- the words hold these counts, also in the fields past block k
+abbrev pub HoldsCounts : Hyper → ℕ → List ℕ → (ℕ → ℕ → ℕ) → Type 0
+HoldsCounts h k words counts =
+    (e b : ℕ) → e < net_count h → b < net_words h k e * fields_of (net_bits h e) → count_at words (net_start h k e) (net_bits h e) b ≡ counts e b
+
+-- the pin counts of a partition
+abbrev pub counts_of : Hyper → List ℕ → ℕ → ℕ → ℕ
+counts_of h p e b = pins_in p (net_of h e).pins b
