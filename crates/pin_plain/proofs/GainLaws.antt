@@ -125,7 +125,7 @@ others_zero f k a l e j m q =
     let parts = sum_apart f k a l in
     sym (apart_other f a j q) ∙ sum_below-zero_each (apart_from f a) k (omega arith) j m
 
-two_within : (f : ℕ → ℕ) (k a b : ℕ) → a < k → b < k → b ≢ a → f a + f b ≤ sum_below f k
+pub two_within : (f : ℕ → ℕ) (k a b : ℕ) → a < k → b < k → b ≢ a → f a + f b ≤ sum_below f k
 two_within f k a b l m q =
     let parts = sum_apart f k a l in
     let one = sum_below_at-le (apart_from f a) k b m in
@@ -165,7 +165,7 @@ scaled w before after saving losing e =
     omega (arith, ints)
 
 -- the nets of a vertex hold it
-nets_of-hold : (h : Hyper) (v : ℕ) → All (λ e. Contains (net_of h e).pins v) (nets_of h v)
+pub nets_of-hold : (h : Hyper) (v : ℕ) → All (λ e. Contains (net_of h e).pins v) (nets_of h v)
 nets_of-hold h v i d l =
     (is_member-Decides Decides-eqb (net_of h (get_or (nets_of h v) i d)).pins v).0 (filter_passes (is_on h v) (range_with_len 0 (net_count h)) i d l)
 

@@ -1,5 +1,6 @@
 -- The pin counts of all nets, packed into words: the words of each net stand after those of the nets before it.
-use Rattle.std.specs.Prelude.{◌≡◌, ℕ, ◌+◌, ◌*◌, ◌/◌, ◌%◌, ◌<◌, List, length, slice_index}
+use Rattle.std.specs.Prelude.{◌≡◌, ℕ, ◌+◌, ◌*◌, ◌/◌, ◌%◌, ◌<◌, List, length, slice_index, nat_eq, nat_lt, if◌then◌else◌}
+use Rattle.std.specs.Set.{is_member}
 use Rattle.hg_defs.specs.Sums.{sum_below}
 use Rattle.hg_defs.specs.Hypergraph.{Hyper, net_count, net_of}
 use Rattle.hg_defs.specs.Pins.{pins_in}
@@ -33,3 +34,11 @@ HoldsCounts h k words counts =
 -- the pin counts of a partition
 abbrev pub counts_of : Hyper → List ℕ → ℕ → ℕ → ℕ
 counts_of h p e b = pins_in p (net_of h e).pins b
+
+-- nets below e hold their pin counts, and the later ones 0
+abbrev pub counts_before : Hyper → List ℕ → ℕ → ℕ → ℕ → ℕ
+counts_before h p e i b = if nat_lt i e then counts_of h p i b else 0
+
+-- the nets among these hold the counts after a move, and the others those before it
+abbrev pub counts_between : Hyper → List ℕ → List ℕ → List ℕ → ℕ → ℕ → ℕ
+counts_between h before after nets e b = if is_member nat_eq nets e then counts_of h after e b else counts_of h before e b

@@ -1,11 +1,17 @@
 //! Pin counts packed into words: one count raised or lowered, and the pins of one net counted or moved.
 
-ghost use Rattle.std.specs.Prelude.{◌≡◌, ◌≢◌, ℕ, ◌+◌, ◌*◌, ◌/◌, ◌%◌, ◌^◌, ◌<◌, ◌≤◌, All, length, slice_index, if◌then◌else◌, nat_eq};
+ghost use Rattle.std.specs.Prelude.{◌≡◌, ◌≢◌, ℕ, ◌+◌, ◌*◌, ◌/◌, ◌%◌, ◌^◌, ◌<◌, ◌≤◌, All, length, slice_index, replicate, IfOk, if◌then◌else◌, nat_eq};
 ghost use Rattle.hg_base.specs.Packed.{IsWidth, fields_of};
+ghost use Rattle.hg_defs.specs.Hypergraph.{vertex_count, net_count, Suits};
+ghost use Rattle.hg_defs.specs.Partition.{block_of};
+ghost use Rattle.hg_defs.specs.Moves.{moved};
 ghost use Rattle.hg_defs.specs.Pins.{pins_in};
-ghost use Rattle.pin_plain.specs.Counts.{count_at};
+ghost use Rattle.pin_plain.specs.Counts.{count_at, net_start, counts_of, IsLaidOut, HoldsCounts};
+ghost use Rattle.pin_plain.specs.Parted.{IsParted};
 
-use hg_base::{field, unit};
+use hg_base::{NoMemory, bits_of, field, unit, words_of};
+use incidence::Hypergraph;
+use std::alloc::Global;
 
 /// The word and the place in it at which the count of block `b` stands.
 fn split(bits: u32, b: u32) -> (u32, u32)
@@ -55,4 +61,76 @@ pub fn lower(words: &mut [u64], start: u32, bits: u32, b: u32)
 {
     let (word, place) = split(bits, b);
     words[(start + word) as usize] -= unit(bits, place);
+}
+
+/// Counts the pins of one net in the blocks.
+fn count_net(words: &mut [u64], start: u32, bits: u32, pins: &[u32], blocks: &[u32])
+    requires width { IsWidth bits }
+    requires few { length words.old < 2 ^ 32 }
+    requires pins { All (λ v. v < length blocks.now) pins.now }
+    requires inside { All (λ b. start + b / fields_of bits < length words.old) blocks.now }
+    requires room { All (λ b. count_at words.old start bits b + length pins.now < 2 ^ bits) blocks.now }
+    ensures counts {
+        (b : ℕ) → count_at words.new start bits b ≡ count_at words.old start bits b + pins_in blocks.now pins.now b
+    }
+    ensures others {
+        (i : ℕ) → All (λ b. i ≢ start + b / fields_of bits) blocks.now → slice_index words.new i ≡ slice_index words.old i
+    }
+{
+    for v in pins {
+        raise(words, start, bits, blocks[*v as usize]);
+    }
+}
+
+/// Counts the pins of all nets in `k` blocks, from words of 0.
+pub fn count_nets(h: &Hypergraph, blocks: &[u32], starts: &[u32], words: &mut [u64])
+    ghost k: { ℕ }
+    requires parted { IsParted h.now k blocks.now }
+    requires laid { IsLaidOut h.now k starts.now words.old }
+    requires zeros { words.old ≡ replicate (length words.old) 0 }
+    ensures { HoldsCounts h.now k words.new (counts_of h.now blocks.now) }
+{
+    for e in 0..h.nets() {
+        let pins = h.pins(e);
+        count_net(words, starts[e as usize], bits_of(pins.len() as u32), pins, blocks);
+    }
+}
+
+/// Moves the pin of a vertex to another block in the counts of each of its nets.
+pub fn move_pin(h: &Hypergraph, blocks: &[u32], starts: &[u32], words: &mut [u64], v: u32, to: u32)
+    ghost k: { ℕ }
+    requires parted { IsParted h.now k blocks.now }
+    requires laid { IsLaidOut h.now k starts.now words.old }
+    requires counted { HoldsCounts h.now k words.old (counts_of h.now blocks.now) }
+    requires vertex { v < vertex_count h.now }
+    requires block { to < k }
+    requires other { to ≢ block_of blocks.now v }
+    ensures { HoldsCounts h.now k words.new (counts_of h.now (moved blocks.now v to)) }
+{
+    let from = blocks[v as usize];
+    for e in h.nets_of(v) {
+        let start = starts[*e as usize];
+        let bits = bits_of(h.pins(*e).len() as u32);
+        lower(words, start, bits, from);
+        raise(words, start, bits, to);
+    }
+}
+
+/// The word at which the counts of each net start, and the number of words, for `k` blocks.
+pub fn lay_out(alloc: Global, h: &Hypergraph, k: u32) -> Result<(Vec<u32>, u32), NoMemory>
+    requires some { 2 ≤ k }
+    requires few { k ≤ 256 }
+    requires suits { Suits h.now k }
+    ensures { IfOk result (λ r. (length r.0.items ≡ net_count h.now)
+        × ((e : ℕ) → e < net_count h.now → slice_index r.0.items e ≡ net_start h.now k e)
+        × (r.1 ≡ net_start h.now k (net_count h.now))) }
+{
+    let nets = h.nets();
+    let mut starts = Vec::with_capacity(alloc, nets as usize)?;
+    let mut next = 0;
+    for e in 0..nets {
+        starts.push(next)?;
+        next += words_of(h.pins(e).len() as u32, k);
+    }
+    Ok((starts, next))
 }

@@ -1,0 +1,34 @@
+-- A hypergraph that is parted into blocks, and what a partition keeps beside the blocks.
+use Rattle.std.specs.Prelude.{◌≡◌, ℕ, ◌<◌, ◌≤◌, List, length, slice_index}
+use Rattle.hg_defs.specs.Hypergraph.{Hyper, IsHypergraph, IsWithinLimits, IsFixedWithin, Suits}
+use Rattle.hg_defs.specs.Partition.{IsPartition, load}
+use Rattle.pin_plain.specs.Counts.{IsLaidOut, HoldsCounts, counts_of}
+
+-- the hypergraph, the number of blocks, the limit on a load, and the block of each vertex
+pub record Parted : Type 0 where
+  pub hyper : Hyper
+  pub k : ℕ
+  pub limit : ℕ
+  pub blocks : List ℕ
+
+-- the load of each block
+pub record IsLoaded (h : Hyper) (k : ℕ) (p loads : List ℕ) : Type 0 where
+  pub all : length loads ≡ k
+  pub each : (b : ℕ) → b < k → slice_index loads b ≡ load h p b
+
+-- a sound hypergraph parted into 2 to 256 blocks
+pub record IsParted (h : Hyper) (k : ℕ) (p : List ℕ) : Type 0 where
+  pub sound : IsHypergraph h
+  pub bounds : IsWithinLimits h
+  pub suits : Suits h k
+  pub fixed : IsFixedWithin h k
+  pub some : 2 ≤ k
+  pub few : k ≤ 256
+  pub partition : IsPartition h k p
+
+-- the loads and the pin counts are those of the hypergraph and the blocks
+pub record IsKept (h : Hyper) (k : ℕ) (p loads starts words : List ℕ) : Type 0 where
+  pub parted : IsParted h k p
+  pub loaded : IsLoaded h k p loads
+  pub laid : IsLaidOut h k starts words
+  pub counted : HoldsCounts h k words (counts_of h p)
