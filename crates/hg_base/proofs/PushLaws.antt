@@ -12,7 +12,7 @@ use Rattle.hg_defs.specs.Sorting.{set_of}
 use Rattle.hg_defs.specs.Hypergraph.{Net, Hyper, vertex_count, net_count, pin_count, total_net_weight, IsNet}
 use Rattle.hg_defs.proofs.SumLaws.{total_push}
 use Rattle.hg_defs.proofs.SortLaws.{nat_cmp_exact, length-set_of-le, increasing-set_of, Contains-from_set_of}
-use Rattle.hg_base.specs.Flat.{net_at, nets_at, IsLaidOut, IsKept}
+use Rattle.hg_base.specs.Flat.{net_at, nets_at, IsLaidOut, IsKept, GrowsBy}
 use Rattle.hg_base.proofs.FlatLaws.{length-nets_at, get_or-nets_at}
 
 -- a part of a list stays as more is appended
@@ -131,3 +131,13 @@ module _ (h : Hyper) (w : ℕ) (qs : List ℕ) (count weight : ℕ) (kept : IsKe
         all_pins = let a = kept.all_pins in omega arith;
         all_weight = kept.all_weight;
       }
+
+pub GrowsBy_push : (h : Hyper) (w : ℕ) (qs : List ℕ) → GrowsBy h (record h { nets = h.nets ++ spelt_net w qs ∷ [] }) w (length qs)
+GrowsBy_push h w qs =
+    let short = length-set_of-le nat_cmp qs in
+    let more = length_push h.nets (spelt_net w qs) in
+    let pins = total_push (λ (e : Net). length e.pins) h.nets (spelt_net w qs) in
+    let weights = total_push (λ (e : Net). e.weight) h.nets (spelt_net w qs) in
+    let products = total_push (λ (e : Net). e.weight * length e.pins) h.nets (spelt_net w qs) in
+    let product = mul-le-mul_left w short in
+    record { vertices = refl; nets = omega arith; pins = omega arith; net_weight = omega arith; pin_weight = omega arith }

@@ -1,7 +1,8 @@
 -- A hypergraph in flat arrays: the pins of all nets stand in one list, and each net has the place at which its pins start.
-use Rattle.std.specs.Prelude.{◌≡◌, ℕ, ◌+◌, ◌<◌, ◌≤◌, List, length, map, slice_index, slice_range}
+use Rattle.std.specs.Prelude.{◌≡◌, ℕ, ◌+◌, ◌*◌, ◌<◌, ◌≤◌, List, length, map, slice_index, slice_range}
 use Rattle.std.specs.List.{range_with_len}
-use Rattle.hg_defs.specs.Hypergraph.{Net, Hyper, pin_count, total_weight, IsHypergraph, IsWithinLimits}
+use Rattle.hg_defs.specs.Sums.{total}
+use Rattle.hg_defs.specs.Hypergraph.{Net, Hyper, vertex_count, net_count, pin_count, total_weight, total_net_weight, IsHypergraph, IsWithinLimits}
 
 -- the net of a number
 abbrev pub net_at : List ℕ → List ℕ → List ℕ → ℕ → Net
@@ -27,3 +28,11 @@ pub record IsKept (h : Hyper) (pins weight : ℕ) : Type 0 where
   pub bounds : IsWithinLimits h
   pub all_pins : pin_count h ≡ pins
   pub all_weight : total_weight h ≡ weight
+
+-- the sizes after one more net of this weight, with this many pins as given
+pub record GrowsBy (old new : Hyper) (weight given : ℕ) : Type 0 where
+  pub vertices : vertex_count new ≡ vertex_count old
+  pub nets : net_count new ≡ net_count old + 1
+  pub pins : pin_count new ≤ pin_count old + given
+  pub net_weight : total_net_weight new ≡ total_net_weight old + weight
+  pub pin_weight : total (λ e. e.weight * length e.pins) new.nets ≤ total (λ e. e.weight * length e.pins) old.nets + weight * given

@@ -4,5 +4,10 @@ pub use Rattle.hg_defs.specs.Hypergraph
 pub use Rattle.hg_defs.specs.Partition
 pub use Rattle.hg_defs.specs.Cost
 pub use Rattle.hg_defs.specs.LeastLoaded
+pub use Rattle.hg_defs.specs.PlacementLaws
+pub use Rattle.hg_defs.specs.Pins
 pub mod Flat
 pub mod Packed
+pub mod BlockSet
+pub mod Placing
+pub mod GreedyEnd

@@ -5,6 +5,7 @@ ghost use Rattle.std.specs.List.Sorted.{IsStrictlyIncreasing};
 ghost use Rattle.std.specs.Ordering.{nat_cmp};
 ghost use Rattle.hg_defs.specs.Sorting.{set_of};
 ghost use Rattle.hg_defs.specs.Sums.{total};
+ghost use Rattle.hg_base.specs.Flat.{GrowsBy};
 ghost use Rattle.hg_defs.specs.Hypergraph.{vertex_count, net_count, pin_count, weight_of, total_weight, total_net_weight, net_of, fix_of, IsHypergraph, IsWithinLimits, IsFixedWithin, Suits};
 
 use crate::sets::append_set;
@@ -58,12 +59,13 @@ impl FlatHyper {
     /// Makes a hypergraph of vertices of weight 1, all free, without nets; at most 2^22 vertices.
     pub fn start(alloc: Global, vertices: u32) -> Result<Self, NoMemory>
         requires { vertices ≤ 2 ^ 22 }
-        ensures { IfOk result (λ h. h ≡ record {
+        ensures value { IfOk result (λ h. h ≡ record {
           weights = replicate vertices 1;
           nets = [];
           objective = Objective.Connectivity;
           fixes = replicate vertices FREE;
         }) }
+        ensures total { IfOk result (λ h. total_weight h ≡ vertices) }
     {
         let count = vertices as usize;
         Ok(FlatHyper {
@@ -92,6 +94,7 @@ impl FlatHyper {
         ensures ok { OnOk result (self.new ≡ record self.old {
           nets = self.old.nets ++ record { weight = weight; pins = set_of nat_cmp pins.now } ∷ [];
         }) }
+        ensures sizes { OnOk result (GrowsBy self.old self.new weight (length pins.now)) }
         ensures err { OnErr result (self.new ≡ self.old) }
     {
         self.net_weights.reserve(1)?;
@@ -113,7 +116,9 @@ impl FlatHyper {
 
     /// How many nets there are.
     pub fn nets(&self) -> u32
-        ensures { result ≡ net_count self.now }
+        ensures count { result ≡ net_count self.now }
+        ensures sound { IsHypergraph self.now }
+        ensures bounds { IsWithinLimits self.now }
     {
         self.net_weights.len() as u32
     }
@@ -166,7 +171,8 @@ impl FlatHyper {
     pub fn set_vertex_weight(&mut self, v: u32, weight: u64)
         requires vertex { v < vertex_count self.old }
         requires fits { total_weight self.old + weight < 2 ^ 54 + weight_of self.old v }
-        ensures { self.new ≡ record self.old { weights = slice_set self.old.weights v weight } }
+        ensures value { self.new ≡ record self.old { weights = slice_set self.old.weights v weight } }
+        ensures total { total_weight self.new + weight_of self.old v ≡ total_weight self.old + weight }
     {
         self.total = self.total - self.vertex_weights[v as usize] + weight;
         self.vertex_weights[v as usize] = weight;

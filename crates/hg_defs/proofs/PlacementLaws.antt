@@ -82,7 +82,7 @@ first_least-same f g k b e h = record {
 
 -- ---- fixes
 
-fixed_below : (h : Hyper) (v : ℕ) → IsHypergraph h → fix_of h v ≢ FREE → v < vertex_count h
+pub fixed_below : (h : Hyper) (v : ℕ) → IsHypergraph h → fix_of h v ≢ FREE → v < vertex_count h
 fixed_below h v g f = by (cases_lt v (vertex_count h))
   where
     by : (v < vertex_count h) ⊎ (vertex_count h ≤ v) → v < vertex_count h

@@ -13,3 +13,4 @@ pub mod Placement
 pub mod PlacementLaws
 pub mod ReplayLaws
 pub mod MoveLaws
+pub mod ContractionLaws

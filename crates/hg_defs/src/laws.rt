@@ -1,6 +1,7 @@
 //! The laws over the definitions. Each is the contract of a function that does nothing.
 
 ghost use Rattle.hg_defs.specs.PlacementLaws.{AllWeightsArePlaced, GreedyDoesNotFit, GreedyFits, GreedyIsPartition, GreedyObeys, HeaviestFirstListsFree, HeaviestGoFirst, LeastIsFirstLeast, LeastLoadedIsInTurn, LeastLoadedIsPartition, LeastLoadedObeys, LoadsAreKept, NoneOverfillsWhereItFits, OneOverfillsWhereItDoesNotFit, OnlyLeastLoadedIsInTurn, OverfillingIsFirst};
+ghost use Rattle.hg_defs.specs.ContractionLaws.{ContractionIsHypergraph, ContractionKeepsCost, ContractionKeepsLimits, ContractionKeepsLoads, ContractionKeepsWeight, FittingIsLifted, FittingIsProjected, FixesAreLifted, FixesAreProjected, FixesStayWithin, PartitionIsLifted, PartitionIsProjected};
 ghost use Rattle.hg_defs.specs.MoveLaws.{AllowedMoveFits, AllowedMoveIsPartition, AllowedMoveObeys, BestBlockIsBest, ConnectivityCountsBlocks, EmptySweepIsSettled, GainIsLocal, MoveKeepsOtherLoads, MoveLowersLoad, MoveRaisesLoad, NoBestBlockGainsNothing, OnlyBestBlockIsBest, SettledSweepIsEmpty, SweepMakesBestMoves, SweepRises, SweepSavesWhatItBooks};
 ghost use Rattle.hg_defs.specs.ReplayLaws.{BestPrefixIsBest, FittingIsTested, OnlyBestPrefixIsBest};
 
@@ -80,4 +81,28 @@ pub fn change_by_move()
     ensures others { MoveKeepsOtherLoads }
     ensures connectivity { ConnectivityCountsBlocks }
     ensures gain { GainIsLocal }
+{}
+
+/// The contraction of a hypergraph by a full map is a hypergraph of the same weight, and it keeps
+/// the limits.
+pub fn contraction_of_hypergraph()
+    ensures hypergraph { ContractionIsHypergraph }
+    ensures weight { ContractionKeepsWeight }
+    ensures limits { ContractionKeepsLimits }
+    ensures within { FixesStayWithin }
+{}
+
+/// A partition of the contraction has the cost and the loads of the fine partition that it stands
+/// for. The one is a partition into k blocks and fits exactly where the other does. It obeys the
+/// fixes where the other does; the other way round each vertex that isn't free is alone in its
+/// cluster.
+pub fn projection_of_partition()
+    ensures cost { ContractionKeepsCost }
+    ensures loads { ContractionKeepsLoads }
+    ensures fits { FittingIsProjected }
+    ensures fitted { FittingIsLifted }
+    ensures partition { PartitionIsProjected }
+    ensures lifted { PartitionIsLifted }
+    ensures obeys { FixesAreProjected }
+    ensures obeyed { FixesAreLifted }
 {}

@@ -9,8 +9,8 @@ overflow_cast-result c =
     let most = c.self.invariant.1.bounds.nets in
     omega arith
 
-pub returns : goal.returns
-returns c =
+pub returns-clause-count : goal.returns-clause-count
+returns-clause-count c =
     let h = c.self.inside in
     let same = length-nets_at h.starts.items h.net_weights.items h.pins.items in
     rw (← c.self.view_is) (omega arith)

@@ -3,7 +3,7 @@ use Rattle.std.proofs.Common.{◌≡◌, ◌+◌, ◌++◌, [], ◌∷◌, lengt
 use Rattle.std.proofs.lemmas.List.{length-append}
 use Rattle.hg_defs.specs.Sorting.{set_of}
 use Rattle.hg_defs.proofs.SortLaws.{length-set_of-le}
-use Rattle.hg_base.proofs.PushLaws.{nets_at_push, IsLaidOut_push, IsKept_push}
+use Rattle.hg_base.proofs.PushLaws.{nets_at_push, IsLaidOut_push, IsKept_push, GrowsBy_push}
 use Rattle.hg_base.proofs.hyper.FlatHyper.push_net.Goals as goal
 
 pub overflow_cast-len : goal.overflow_cast-len
@@ -44,3 +44,6 @@ returns-clause-ok c =
     let end : c.len.result ≡ length h.pins.items + length set = (let l = ap length pins in omega arith) in
     let nets = nets_at_push h.starts.items h.net_weights.items h.pins.items set c.args.weight c.len.result c.self.invariant.0 end in
     rw (← c.self.view_is, starts, weights, pins, nets)
+
+pub returns-clause-sizes : goal.returns-clause-sizes
+returns-clause-sizes c = rw (returns-clause-ok c) (GrowsBy_push c.args.self.now c.args.weight c.args.pins.now)

@@ -41,3 +41,10 @@ invariant_of-self c =
         all_weight = omega arith;
       },
     )
+
+pub returns-clause-total : goal.returns-clause-total
+returns-clause-total c =
+    let h = c.self.inside in
+    let ws = ap (λ (x : Hyper). x.weights) c.self.view_is in
+    let below : c.args.v < length h.vertex_weights.items = (let l = ap length ws in omega (arith, c.requires.vertex)) in
+    rw (← c.self.view_is) (total-set (λ w. w) h.vertex_weights.items c.args.v c.args.weight 0 below)
