@@ -1,5 +1,5 @@
 -- Laws of single moves, of sweeps, and of what a move changes.
-use Rattle.std.proofs.Common.{◌≡◌, ◌≢◌, ℕ, zero, suc, ◌+◌, ◌*◌, ◌<◌, ◌≤◌, ◌⊎◌, inl, inr, Bool, true, false, not, ◌&&◌, cond, if◌then◌else◌, nat_eq, nat_lt, nat_le, List, [], ◌∷◌, ◌++◌, map, filter, length, get_or, slice_set, All, AllPairs, Contains, Option, Some, None, option_map, option_to_list, ℤ, pos, ◌+ℤ◌, ◌-ℤ◌, ◌<ℤ◌, ◌≤ℤ◌, refl, sym, ap, ◌∙◌, subst, arith, true≢false, length-set, get_or-set_other}
+use Rattle.std.proofs.Common.{◌≡◌, ◌≢◌, ℕ, zero, suc, ◌+◌, ◌*◌, ◌<◌, ◌≤◌, ◌⊎◌, inl, inr, Bool, true, false, not, ◌&&◌, if◌then◌else◌, nat_eq, nat_lt, nat_le, List, [], ◌∷◌, ◌++◌, map, length, get_or, slice_set, All, AllPairs, Contains, Option, Some, None, option_map, option_to_list, ℤ, pos, ◌+ℤ◌, ◌-ℤ◌, ◌<ℤ◌, ◌≤ℤ◌, refl, sym, ap, ◌∙◌, subst, arith, true≢false, length-set, get_or-set_other}
 use Rattle.std.proofs.lemmas.Bool.{and_parts, and_from, not-true, not_from_false, eqb-true, eqb-false, ne_eqb, eq-eqb, leb-true, le-leb, ltb-true, ltb-false, cases_lt, cases_eq, cases_order}
 use Rattle.std.proofs.lemmas.Bool.Decides.{Decides-eqb}
 use Rattle.std.proofs.lemmas.Int.{ints}
@@ -13,12 +13,12 @@ use Rattle.hg_defs.specs.declared.moves.Move.{Move}
 use Rattle.hg_defs.specs.declared.objective.TheConstants.{FREE}
 use Rattle.hg_defs.specs.Sums.{total_z}
 use Rattle.hg_defs.specs.Hypergraph.{IsNet, Hyper, IsHypergraph, vertex_count, net_count, net_of, vertices, weight_of, is_free, fix_of}
-use Rattle.hg_defs.specs.Partition.{block_of, load}
+use Rattle.hg_defs.specs.Partition.{IsPartition, Obeys, Fits, block_of, load}
 use Rattle.hg_defs.specs.Cost.{connectivity, price, net_cost, cost}
-use Rattle.hg_defs.specs.Moves.{IsAllowed, moved, gain, is_allowed, is_better, best_block, move_of, visits}
+use Rattle.hg_defs.specs.Moves.{sweep, IsAllowed, moved, gain, is_allowed, is_better, best_block, move_of, visits}
 use Rattle.hg_defs.specs.Replay.{replay, replay_first}
-use Rattle.hg_defs.specs.MoveLaws.{IsBestBlock, IsBestMove, connectivity_after, net_gain, nets_with, BestBlockIsBest, OnlyBestBlockIsBest, NoBestBlockGainsNothing, EmptySweepIsSettled, SettledSweepIsEmpty, SweepMakesBestMoves, SweepRises, SweepSavesWhatItBooks, AllowedMoveIsPartition, AllowedMoveObeys, AllowedMoveFits, MoveRaisesLoad, MoveLowersLoad, MoveKeepsOtherLoads, ConnectivityCountsBlocks, GainIsLocal}
-use Rattle.hg_defs.proofs.SumLaws.{weight_in-set_new, weight_in-set_old, weight_in-set_other, total_z-map, total_z-same, total_z-difference}
+use Rattle.hg_defs.specs.MoveLaws.{IsBestBlock, IsBestMove, connectivity_after, net_gain, nets_with, BestBlockIsBest, OnlyBestBlockIsBest, NoBestBlockGainsNothing, EmptySweepIsSettled, SettledSweepIsEmpty, SweepMakesBestMoves, SweepRises, SweepSavesWhatItBooks, SweepLowersCost, SweepIsAllowed, AreAllowedInTurn, AllowedMovesArePartition, AllowedMovesObey, AllowedMovesFit, AllowedMoveIsPartition, AllowedMoveObeys, AllowedMoveFits, MoveRaisesLoad, MoveLowersLoad, MoveKeepsOtherLoads, ConnectivityCountsBlocks, GainIsLocal}
+use Rattle.hg_defs.proofs.SumLaws.{weight_in-set_new, weight_in-set_old, weight_in-set_other, total_z-map, total_z-filter, total_z-same, total_z-difference}
 use Rattle.hg_defs.proofs.DistinctLaws.{connectivity-sum, blocks_of_pins, connectivity-set, connectivity-set_apart}
 use Rattle.hg_defs.proofs.PlacementLaws.{Contains_vertices, vertices_within}
 use Rattle.hg_defs.proofs.SortLaws.{Contains_head, Contains_later, Contains-cons_cases, Contains-nil}
@@ -347,6 +347,57 @@ moved-fits h k l p v b whole f a c low = by (cases_eq c b) (cases_eq c (block_of
         subst (λ d. load h (moved p v b) d ≤ l) (sym e) (let z : load h p (block_of p v) ≤ l = subst (λ d. load h p d ≤ l) e y in omega arith)
     by (inr n) (inr q) = let x = load-moved_other h p v b c whole.vertices a.vertex q n in let y = f c low in omega arith
 
+-- ---- moves that are allowed in turn
+
+module _ (h : Hyper) (k l : ℕ) where
+  first_allowed : (p : List ℕ) (m : Move) (moves : List Move) → AreAllowedInTurn h k l p (m ∷ moves) → IsAllowed h k l p m.vertex m.to
+  first_allowed p m moves a = a 0 m (omega arith)
+
+  rest_allowed : (p : List ℕ) (m : Move) (moves : List Move) → AreAllowedInTurn h k l p (m ∷ moves) → AreAllowedInTurn h k l (slice_set p m.vertex m.to) moves
+  rest_allowed p m moves a i d n = a (suc i) d (omega arith)
+
+  replay_partition : (p : List ℕ) (moves : List Move) → IsPartition h k p → AreAllowedInTurn h k l p moves → IsPartition h k (replay p moves)
+  replay_partition p [] w a = w
+  replay_partition p (m ∷ moves) w a = replay_partition (slice_set p m.vertex m.to) moves (moved-partition h k l p m.vertex m.to w (first_allowed p m moves a)) (rest_allowed p m moves a)
+
+  replay_obeys : (p : List ℕ) (moves : List Move) → Obeys h p → AreAllowedInTurn h k l p moves → Obeys h (replay p moves)
+  replay_obeys p [] w a = w
+  replay_obeys p (m ∷ moves) w a = replay_obeys (slice_set p m.vertex m.to) moves (moved-obeys h k l p m.vertex m.to w (first_allowed p m moves a)) (rest_allowed p m moves a)
+
+  replay_fits : (p : List ℕ) (moves : List Move) → IsPartition h k p → Fits h k l p → AreAllowedInTurn h k l p moves → Fits h k l (replay p moves)
+  replay_fits p [] w f a = f
+  replay_fits p (m ∷ moves) w f a =
+      replay_fits (slice_set p m.vertex m.to) moves (moved-partition h k l p m.vertex m.to w (first_allowed p m moves a))
+      (moved-fits h k l p m.vertex m.to w f (first_allowed p m moves a)) (rest_allowed p m moves a)
+
+pub replay-partition : AllowedMovesArePartition
+replay-partition h k l p moves w a = replay_partition h k l p moves w a
+
+pub replay-obeys : AllowedMovesObey
+replay-obeys h k l p moves w a = replay_obeys h k l p moves w a
+
+pub replay-fits : AllowedMovesFit
+replay-fits h k l p moves w f a = replay_fits h k l p moves w f a
+
+pub sweep_allowed : SweepIsAllowed
+sweep_allowed h k l p i d m = (sweep_best h k l p i d m).best.allowed
+
+positive_sum : (moves : List Move) → 0 < length moves → All (λ (m : Move). pos 0 <ℤ m.booked) moves → pos 0 <ℤ total_z (λ (m : Move). m.booked) moves
+positive_sum [] l a = absurd (omega arith)
+positive_sum (m ∷ []) l a = let x = All-head (λ (n : Move). pos 0 <ℤ n.booked) m [] a in omega (arith, ints)
+positive_sum (m ∷ n ∷ moves) l a =
+    let x = All-head (λ (n : Move). pos 0 <ℤ n.booked) m (n ∷ moves) a in
+    let r = positive_sum (n ∷ moves) (omega arith) (All-tail (λ (n : Move). pos 0 <ℤ n.booked) m (n ∷ moves) a) in
+    omega (arith, ints)
+
+pub sweep_lowers : SweepLowersCost
+sweep_lowers h k l p s =
+    above_gain (cost h p) (cost h (replay p (sweep h k l p)))
+    (subst (λ z. pos 0 <ℤ z) (sweep_saves h k l p) (positive_sum (sweep h k l p) s each))
+  where
+    each : All (λ (m : Move). pos 0 <ℤ m.booked) (sweep h k l p)
+    each i d m = let b = sweep_best h k l p i d m in subst (λ z. pos 0 <ℤ z) (sym b.booked) b.best.gains
+
 pub net_is : (h : Hyper) (e : ℕ) → IsHypergraph h → e < net_count h → IsNet (vertex_count h) (net_of h e)
 net_is h e good l = good.nets e (record { weight = 0; pins = [] }) l
 
@@ -355,17 +406,6 @@ connectivity_counts h k p e good whole l =
     connectivity-sum k p (net_of h e).pins (blocks_of_pins k p (net_of h e).pins whole.blocks (subst (λ n. All (λ v. v < n) (net_of h e).pins) (sym whole.vertices) (net_is h e good l).pins))
 
 -- ---- gains are local
-
-pub total_z-filter : {A : Type 0} (f : A → ℤ) (test : A → Bool) (xs : List A) → All (λ x. test x ≡ false → f x ≡ pos 0) xs → total_z f (filter test xs) ≡ total_z f xs
-total_z-filter f test [] h = refl
-total_z-filter f test (x ∷ xs) h = by (test x) refl (total_z-filter f test xs (All-tail (λ y. test y ≡ false → f y ≡ pos 0) x xs h))
-  where
-    nothing : (y z w : ℤ) → y ≡ pos 0 → z ≡ w → z ≡ y +ℤ w
-    nothing y z w e g = omega (arith, ints)
-
-    by : (b : Bool) → test x ≡ b → total_z f (filter test xs) ≡ total_z f xs → total_z f (cond b (x ∷ filter test xs) (filter test xs)) ≡ f x +ℤ total_z f xs
-    by true e r = ap (λ z. f x +ℤ z) r
-    by false e r = nothing (f x) (total_z f (filter test xs)) (total_z f xs) (All-head (λ y. test y ≡ false → f y ≡ pos 0) x xs h e) r
 
 -- the nets in the order of their numbers
 pub nets_by_number : (h : Hyper) → h.nets ≡ map (net_of h) (range_with_len 0 (net_count h))

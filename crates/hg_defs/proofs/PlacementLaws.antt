@@ -1,5 +1,5 @@
 -- Laws of least loaded placement.
-use Rattle.std.proofs.Common.{◌≡◌, ◌≢◌, ℕ, zero, suc, ◌+◌, ◌<◌, ◌≤◌, ◌⊎◌, inl, inr, Bool, true, false, not, if◌then◌else◌, nat_eq, nat_le, List, [], ◌∷◌, ◌++◌, map, filter, length, get_or, take, slice_index, slice_set, All, Contains, IsPermutation, Some, None, refl, sym, ap, ap₂, cond, ◌∙◌, subst, subst₂, Ordering, Less, Equal, Greater, is_lt, nat_cmp, arith, append_assoc, append-nil, add-one, length-set, get_or-set_same, get_or-set_other, true≢false, ◌&&◌}
+use Rattle.std.proofs.Common.{◌≡◌, ◌≢◌, ℕ, zero, suc, ◌+◌, ◌<◌, ◌≤◌, ◌⊎◌, inl, inr, Bool, true, false, not, if◌then◌else◌, nat_eq, nat_le, List, [], ◌∷◌, ◌++◌, map, filter, length, get_or, take, slice_index, slice_set, All, Contains, IsPermutation, IsSorted, Some, None, refl, sym, ap, ap₂, cond, ◌∙◌, subst, subst₂, Ordering, Less, Equal, Greater, is_lt, nat_cmp, arith, append_assoc, append-nil, add-one, length-set, get_or-set_same, get_or-set_other, true≢false, ◌&&◌}
 use Rattle.std.proofs.lemmas.List.{get_or-map, length-map, length-replicate, get_or-replicate, get_or_past, get_or_default, ext_get_or, take_all, get_or-take, length-take, take_more}
 use Rattle.std.proofs.lemmas.List.Elements.{All-map, Contains-get_or, All-head, All-tail, All-set, All-replicate, Contains-push_cases, Contains-append_left}
 use Rattle.std.proofs.lemmas.List.FromFn.{length-range_with_len, get_or-range_with_len}
@@ -20,7 +20,8 @@ use Rattle.hg_defs.specs.LeastLoaded.{Placing, placed, placed_one, unplaced, tak
 use Rattle.hg_defs.specs.PlacementLaws.{IsFirstLeast, weight_placed, IsPlacedAt, IsPlacedInTurn, IsFirstOverfilling, ListsFree, GoesFirst, IsPlaceable, LeastLoadedIsPartition, LeastLoadedObeys, LeastLoadedIsInTurn, OnlyLeastLoadedIsInTurn, LeastIsFirstLeast, LoadsAreKept, AllWeightsArePlaced, OverfillingIsFirst, NoneOverfillsWhereItFits, OneOverfillsWhereItDoesNotFit, HeaviestFirstListsFree, HeaviestGoFirst, GreedyIsPartition, GreedyObeys, GreedyFits, GreedyDoesNotFit}
 use Rattle.hg_defs.proofs.SumLaws.{weight_if, weight_if-same, weight_if-other, total_push, total-same, total-permutation, total-range, total-take-le, weight_in-by_index}
 use Rattle.hg_defs.specs.Sorting.{sorted}
-use Rattle.hg_defs.proofs.SortLaws.{sorted_permutation, IsSorted-sorted, heavier_first_total, heavier_first_exact, Contains_head, Contains_later, Contains-cons_cases, Contains-nil}
+use Rattle.std.specs.declared.cmp.Reverse.{Reverse}
+use Rattle.hg_defs.proofs.SortLaws.{heavy_key, heavy_key_cmp, heavy_keys_sorted, sorted_permutation, IsSorted-sorted, heavier_first_total, heavier_first_exact, Contains_head, Contains_later, Contains-cons_cases, Contains-nil}
 
 -- ---- the least element
 
@@ -628,3 +629,13 @@ greedy-fits h k l good fixed some e = none_overfills h k l (heaviest_first h) (g
 
 pub greedy-does_not_fit : GreedyDoesNotFit
 greedy-does_not_fit h k l v good fixed some e = one_overfills h k l (heaviest_first h) v (greedy-placeable h k good fixed some) e
+
+-- keys of the free vertices, sorted, give the order of greedy placement
+pub heaviest_first_is : (h : Hyper) (keys sorted_keys : List (Reverse ℕ × ℕ)) → map heavy_key keys ≡ map (λ v. (weight_of h v, v)) (filter (is_free h) (vertices h)) → IsPermutation keys sorted_keys → IsSorted heavy_key_cmp sorted_keys
+    → map (λ (a : Reverse ℕ × ℕ). a.1) sorted_keys ≡ heaviest_first h
+heaviest_first_is h keys sorted_keys e p s =
+    seconds_of sorted_keys ∙ ap (map (λ (a : ℕ × ℕ). a.1)) (heavy_keys_sorted keys sorted_keys p s ∙ ap (sorted heavier_first) e)
+  where
+    seconds_of : (xs : List (Reverse ℕ × ℕ)) → map (λ (a : Reverse ℕ × ℕ). a.1) xs ≡ map (λ (a : ℕ × ℕ). a.1) (map heavy_key xs)
+    seconds_of [] = refl
+    seconds_of (x ∷ xs) = ap (λ us. x.1 ∷ us) (seconds_of xs)

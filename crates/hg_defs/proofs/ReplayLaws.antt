@@ -1,13 +1,16 @@
 -- Laws of the best prefix of a list of moves.
-use Rattle.std.proofs.Common.{◌≡◌, ℕ, zero, suc, ◌+◌, ◌<◌, ◌≤◌, ◌⊎◌, inl, inr, Bool, true, false, not, ◌&&◌, ◌||◌, cond, nat_le, List, [], ◌∷◌, ◌++◌, length, All, Some, find, unwrap_or, refl, sym, ap, ◌∙◌, subst, arith, true≢false, slice_set}
-use Rattle.std.proofs.lemmas.List.{take_all}
+use Rattle.std.proofs.Common.{take, ◌≢◌, AllPairs, IsPermutation, Contains, get_or, length-set, get_or-set_same, get_or-set_other, ◌≡◌, ℕ, zero, suc, ◌+◌, ◌<◌, ◌≤◌, ◌⊎◌, inl, inr, Bool, true, false, not, ◌&&◌, ◌||◌, cond, nat_le, List, [], ◌∷◌, ◌++◌, length, All, Some, find, unwrap_or, refl, sym, ap, ◌∙◌, subst, arith, true≢false, slice_set}
+use Rattle.std.proofs.lemmas.List.{take_more, take-take, ext_get_or, take_all}
 use Rattle.std.proofs.lemmas.List.FromFn.{length-range_with_len, get_or-range_with_len}
 use Rattle.std.proofs.lemmas.List.Sums.{AllPass-from_list_all, list_all-from_AllPass}
-use Rattle.std.proofs.lemmas.Bool.{leb-true, le-leb, and_parts, and_from, cases_order, cases_lt}
+use Rattle.std.proofs.lemmas.Bool.{cases_eq, leb-true, le-leb, and_parts, and_from, cases_order, cases_lt}
+use Rattle.std.proofs.lemmas.List.Elements.{All-nil, All-cons, All-head, All-tail, All-set}
+use Rattle.std.proofs.lemmas.List.Sorted.{All-permutation, Contains-permutation}
+use Rattle.hg_defs.proofs.SortLaws.{Contains_head, Contains_later, Contains-cons_cases, Contains-nil}
 use Rattle.std.specs.List.{list_all, range_with_len}
 use Rattle.hg_defs.specs.declared.moves.Move.{Move}
 use Rattle.hg_defs.specs.Hypergraph.{Hyper}
-use Rattle.hg_defs.specs.Partition.{Fits, is_fitting, load}
+use Rattle.hg_defs.specs.Partition.{Fits, is_fitting, load, block_of}
 use Rattle.hg_defs.specs.Cost.{cost}
 use Rattle.hg_defs.specs.Replay.{replay, replay_first, best_prefix}
 use Rattle.hg_defs.specs.ReplayLaws.{IsBestPrefix, FittingIsTested, BestPrefixIsBest, OnlyBestPrefixIsBest}
@@ -212,3 +215,77 @@ only_best_prefix h k l p moves j start is = best_prefix_same h k l p moves j (be
 pub replay-append : (p : List ℕ) (us vs : List Move) → replay p (us ++ vs) ≡ replay (replay p us) vs
 replay-append p [] vs = refl
 replay-append p (m ∷ us) vs = replay-append (slice_set p m.vertex m.to) us vs
+
+pub replay_first-all : (p : List ℕ) (moves : List Move) → replay_first p moves (length moves) ≡ replay p moves
+replay_first-all p moves = ap (replay p) (take_all (length moves) moves (omega arith))
+
+pub replay_first_more : (p : List ℕ) (moves : List Move) (i : ℕ) (d : Move) → i < length moves
+    → replay_first p moves (i + 1) ≡ slice_set (replay_first p moves i) (get_or moves i d).vertex (get_or moves i d).to
+replay_first_more p moves i d l = ap (replay p) (take_more moves i d l) ∙ replay-append p (take i moves) (get_or moves i d ∷ [])
+
+pub replay_first-take : (p : List ℕ) (moves : List Move) (i n : ℕ) → i ≤ n → replay_first p (take n moves) i ≡ replay_first p moves i
+replay_first-take p moves i n l = ap (replay p) (take-take i n moves l)
+
+pub length-replay : (p : List ℕ) (moves : List Move) → length (replay p moves) ≡ length p
+length-replay p [] = refl
+length-replay p (m ∷ moves) = length-replay (slice_set p m.vertex m.to) moves ∙ length-set p m.vertex m.to
+
+pub replay-blocks : (k : ℕ) (p : List ℕ) (moves : List Move) → All (λ b. b < k) p → All (λ m. m.to < k) moves → All (λ b. b < k) (replay p moves)
+replay-blocks k p [] h a = h
+replay-blocks k p (m ∷ moves) h a =
+    replay-blocks k (slice_set p m.vertex m.to) moves (All-set (λ b. b < k) p m.vertex m.to (All-head (λ n. n.to < k) m moves a) h)
+    (All-tail (λ n. n.to < k) m moves a)
+
+-- a vertex that doesn't move keeps its block
+pub replay-apart : (p : List ℕ) (moves : List Move) (u : ℕ) → All (λ m. m.vertex ≢ u) moves → block_of (replay p moves) u ≡ block_of p u
+replay-apart p [] u a = refl
+replay-apart p (m ∷ moves) u a =
+    replay-apart (slice_set p m.vertex m.to) moves u (All-tail (λ n. n.vertex ≢ u) m moves a)
+    ∙ get_or-set_other p m.vertex u m.to 0 (λ e. All-head (λ n. n.vertex ≢ u) m moves a (sym e))
+
+-- a vertex that moves once goes to that block
+pub replay-once : (p : List ℕ) (moves : List Move) (m : Move) → AllPairs (λ x y. x.vertex ≢ y.vertex) moves → All (λ n. n.vertex < length p) moves → Contains moves m
+    → block_of (replay p moves) m.vertex ≡ m.to
+replay-once p [] m a l c = absurd (Contains-nil m c)
+replay-once p (n ∷ moves) m a l c = by (Contains-cons_cases n moves m c) (replay-once (slice_set p n.vertex n.to) moves m rest low)
+  where
+    rest : AllPairs (λ x y. x.vertex ≢ y.vertex) moves
+    rest i j d q r = a (suc i) (suc j) d (omega arith) (omega arith)
+
+    low : All (λ x. x.vertex < length (slice_set p n.vertex n.to)) moves
+    low = subst (λ k. All (λ x. x.vertex < k) moves) (sym (length-set p n.vertex n.to)) (All-tail (λ x. x.vertex < length p) n moves l)
+
+    others : All (λ x. x.vertex ≢ n.vertex) moves
+    others i d q = λ e. a 0 (suc i) d (omega arith) (omega arith) (sym e)
+
+    by : (n ≡ m) ⊎ Contains moves m → (Contains moves m → block_of (replay (slice_set p n.vertex n.to) moves) m.vertex ≡ m.to) → block_of (replay (slice_set p n.vertex n.to) moves) m.vertex ≡ m.to
+    by (inl e) r =
+        subst (λ x. block_of (replay (slice_set p n.vertex n.to) moves) x.vertex ≡ x.to) e
+        (replay-apart (slice_set p n.vertex n.to) moves n.vertex others ∙ get_or-set_same p n.vertex n.to 0 (All-head (λ x. x.vertex < length p) n moves l))
+    by (inr t) r = r t
+
+-- where each vertex moves once, the order of the moves doesn't count
+pub replay-permutation : (p : List ℕ) (us vs : List Move) → AllPairs (λ x y. x.vertex ≢ y.vertex) us → AllPairs (λ x y. x.vertex ≢ y.vertex) vs → All (λ m. m.vertex < length p) us → IsPermutation us vs
+    → replay p vs ≡ replay p us
+replay-permutation p us vs a b l h = ext_get_or 0 (replay p vs) (replay p us) (length-replay p vs ∙ sym (length-replay p us)) each
+  where
+    low : All (λ m. m.vertex < length p) vs
+    low = All-permutation (λ m. m.vertex < length p) us vs h l
+
+    moves_it : (ms : List Move) (u : ℕ) → ((m : Move) × Contains ms m × (m.vertex ≡ u)) ⊎ All (λ m. m.vertex ≢ u) ms
+    moves_it [] u = inr (All-nil (λ m. m.vertex ≢ u))
+    moves_it (m ∷ ms) u = by (cases_eq m.vertex u) (moves_it ms u)
+      where
+        by : (m.vertex ≡ u) ⊎ (m.vertex ≡ u → ⊥) → ((n : Move) × Contains ms n × (n.vertex ≡ u)) ⊎ All (λ n. n.vertex ≢ u) ms → ((n : Move) × Contains (m ∷ ms) n × (n.vertex ≡ u)) ⊎ All (λ n. n.vertex ≢ u) (m ∷ ms)
+        by (inl e) r = inl (m, Contains_head m ms, e)
+        by (inr q) (inl r) = inl (r.0, Contains_later m ms r.0 r.1, r.2)
+        by (inr q) (inr r) = inr (All-cons (λ n. n.vertex ≢ u) m ms q r)
+
+    each : (u : ℕ) → u < length (replay p vs) → block_of (replay p vs) u ≡ block_of (replay p us) u
+    each u q = by (moves_it us u)
+      where
+        by : ((m : Move) × Contains us m × (m.vertex ≡ u)) ⊎ All (λ m. m.vertex ≢ u) us → block_of (replay p vs) u ≡ block_of (replay p us) u
+        by (inl r) =
+            subst (λ x. block_of (replay p vs) x ≡ block_of (replay p us) x) r.2
+            (replay-once p vs r.0 b low (Contains-permutation us vs r.0 h r.1) ∙ sym (replay-once p us r.0 a l r.1))
+        by (inr r) = replay-apart p vs u (All-permutation (λ m. m.vertex ≢ u) us vs h r) ∙ sym (replay-apart p us u r)

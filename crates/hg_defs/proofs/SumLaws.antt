@@ -1,10 +1,12 @@
 -- Laws of sums: over a list, over the numbers below a bound, and of the weights of a block.
-use Rattle.std.proofs.Common.{◌≡◌, ℕ, zero, suc, ◌+◌, ◌*◌, ◌<◌, ◌≤◌, ◌≢◌, Bool, true, false, cond, if◌then◌else◌, nat_eq, List, [], ◌∷◌, ◌++◌, map, filter, length, get_or, take, drop, set, replicate, slice_index, slice_set, ℤ, pos, ◌+ℤ◌, ◌-ℤ◌, All, IsPermutation, refl, sym, ap, ◌∙◌, subst, arith, add-one, sum_by}
+use Rattle.std.proofs.Common.{◌⊎◌, inl, inr, ◌-◌, ◌≤ℤ◌, length-set, get_or-set_same, get_or-set_other, add-zero, add-suc, ◌≡◌, ℕ, zero, suc, ◌+◌, ◌*◌, ◌<◌, ◌≤◌, ◌≢◌, Bool, true, false, cond, if◌then◌else◌, nat_eq, List, [], ◌∷◌, ◌++◌, map, filter, length, get_or, take, drop, set, replicate, slice_index, slice_set, ℤ, pos, ◌+ℤ◌, ◌-ℤ◌, All, IsPermutation, refl, sym, ap, ◌∙◌, subst, arith, add-one, sum_by}
 use Rattle.std.proofs.lemmas.List.{drop_more}
 use Rattle.std.proofs.lemmas.List.Sums.{sum_by-cons}
 use Rattle.std.proofs.lemmas.List.Sorted.{sum_by-IsPermutation}
 use Rattle.std.proofs.lemmas.List.Elements.{All-head, All-tail}
-use Rattle.std.proofs.lemmas.Bool.{eqb-true, eqb-false, eq-eqb, ne_eqb}
+use Rattle.std.proofs.lemmas.List.Sorted.{IsPermutation-keeps}
+use Rattle.std.specs.List.{swap}
+use Rattle.std.proofs.lemmas.Bool.{cases_lt, cases_eq, eqb-true, eqb-false, eq-eqb, ne_eqb}
 use Rattle.std.proofs.lemmas.Int.{ints}
 use Rattle.std.specs.List.{range_with_len}
 use Rattle.hg_defs.specs.Sums.{total, total_z, sum_below}
@@ -408,3 +410,117 @@ weight_in-none (w ∷ ws) (x ∷ p) b h =
     let e = weight_in-none ws p b (All-tail (λ x. x ≢ b) x p h) in
     let a = weight_if-other x b w (All-head (λ x. x ≢ b) x p h) in
     omega arith
+
+-- the loads of the first k blocks are within the whole weight
+pub weight_in-blocks-le : (ws p : List ℕ) (k : ℕ) → sum_below (weight_in ws p) k ≤ total (λ w. w) ws
+weight_in-blocks-le [] p k = let e = sum_below-zero (weight_in [] p) k (λ i m. refl) in omega arith
+weight_in-blocks-le (w ∷ ws) [] k = let e = sum_below-zero (weight_in (w ∷ ws) []) k (λ i m. refl) in omega arith
+weight_in-blocks-le (w ∷ ws) (x ∷ p) k =
+    let e = weight_in-blocks-le ws p k in
+    let a = sum_below-add (λ b. weight_if x b w) (weight_in ws p) k in
+    by (cases_lt x k) e a
+  where
+    by : (x < k) ⊎ (k ≤ x) → sum_below (weight_in ws p) k ≤ total (λ w. w) ws → sum_below (weight_in (w ∷ ws) (x ∷ p)) k ≡ sum_below (λ b. weight_if x b w) k + sum_below (weight_in ws p) k → sum_below (weight_in (w ∷ ws) (x ∷ p)) k ≤ w + total (λ w. w) ws
+    by (inl l) e a = let s = sum_below-weight_if x w k l in omega arith
+    by (inr l) e a = let s = sum_below-zero (λ b. weight_if x b w) k (λ b m. weight_if-other x b w (λ q. absurd (omega arith))) in omega arith
+
+-- ---- more on sums below a bound
+
+pub sum_below-split : (f : ℕ → ℕ) (m n : ℕ) → sum_below f (m + n) ≡ sum_below f m + sum_below (λ i. f (m + i)) n
+sum_below-split f m zero = ap (sum_below f) (add-zero m) ∙ omega arith
+sum_below-split f m (suc n) = let e = sum_below-split f m n in ap (sum_below f) (add-suc m n) ∙ omega arith
+
+pub sum_below-le_more : (f : ℕ → ℕ) (m n : ℕ) → m ≤ n → sum_below f m ≤ sum_below f n
+sum_below-le_more f m n l =
+    let e = sum_below-split f m (n - m) in
+    let t : m + (n - m) ≡ n = omega arith in
+    let r = ap (sum_below f) t in
+    omega arith
+
+-- ---- sums by groups
+
+-- the sums of the groups are the whole sum
+pub total-groups : {A : Type 0} (f key : A → ℕ) (n : ℕ) (xs : List A) → All (λ x. key x < n) xs → sum_below (λ i. total (λ x. weight_if (key x) i (f x)) xs) n ≡ total f xs
+total-groups f key n xs h =
+    sum_below-total (λ i x. weight_if (key x) i (f x)) n xs
+    ∙ total-same (λ x. sum_below (λ i. weight_if (key x) i (f x)) n) f xs (λ k d l. sum_below-weight_if (key (get_or xs k d)) (f (get_or xs k d)) n (h k d l))
+
+-- ---- more on signed sums
+
+pub total_z-permutation : {A : Type 0} (f : A → ℤ) (xs ys : List A) → IsPermutation xs ys → total_z f ys ≡ total_z f xs
+total_z-permutation {A} f xs ys h = IsPermutation-keeps xs (λ l. total_z f l ≡ total_z f xs) refl step ys h
+  where
+    step : (l : List A) (i j : ℕ) → i < length l → j < length l → total_z f l ≡ total_z f xs → total_z f (swap l i j) ≡ total_z f xs
+    step [] i j p q e = absurd (omega arith)
+    step (d ∷ l) i j p q e = moved (cases_eq j i)
+      where
+        long : length (set (d ∷ l) i (get_or (d ∷ l) j d)) ≡ suc (length l)
+        long = length-set (d ∷ l) i (get_or (d ∷ l) j d)
+
+        moved : (j ≡ i) ⊎ (j ≡ i → ⊥) → total_z f (swap (d ∷ l) i j) ≡ total_z f xs
+        moved c =
+            let there : get_or (set (d ∷ l) i (get_or (d ∷ l) j d)) j d ≡ get_or (d ∷ l) j d = two c in
+            let read = ap f there in
+            let first = total_z-set f (d ∷ l) i (get_or (d ∷ l) j d) d p in
+            let second = total_z-set f (set (d ∷ l) i (get_or (d ∷ l) j d)) j (get_or (d ∷ l) i d) d (let n = long in omega arith) in
+            omega (arith, ints)
+          where
+            two : (j ≡ i) ⊎ (j ≡ i → ⊥) → get_or (set (d ∷ l) i (get_or (d ∷ l) j d)) j d ≡ get_or (d ∷ l) j d
+            two (inl r) = ap (λ n. get_or (set (d ∷ l) i (get_or (d ∷ l) j d)) n d) r ∙ get_or-set_same (d ∷ l) i (get_or (d ∷ l) j d) d p
+            two (inr r) = get_or-set_other (d ∷ l) i j (get_or (d ∷ l) j d) d r
+
+pub total_z-le : {A : Type 0} (f g : A → ℤ) (xs : List A) → All (λ x. f x ≤ℤ g x) xs → total_z f xs ≤ℤ total_z g xs
+total_z-le f g [] h = omega (arith, ints)
+total_z-le f g (x ∷ xs) h =
+    let a = All-head (λ y. f y ≤ℤ g y) x xs h in
+    let e = total_z-le f g xs (All-tail (λ y. f y ≤ℤ g y) x xs h) in
+    omega (arith, ints)
+
+-- where the test fails nothing is added
+pub total_z-filter : {A : Type 0} (f : A → ℤ) (test : A → Bool) (xs : List A) → All (λ x. test x ≡ false → f x ≡ pos 0) xs → total_z f (filter test xs) ≡ total_z f xs
+total_z-filter f test [] h = refl
+total_z-filter f test (x ∷ xs) h = by (test x) refl (total_z-filter f test xs (All-tail (λ y. test y ≡ false → f y ≡ pos 0) x xs h))
+  where
+    nothing : (y z w : ℤ) → y ≡ pos 0 → z ≡ w → z ≡ y +ℤ w
+    nothing y z w e g = omega (arith, ints)
+
+    by : (b : Bool) → test x ≡ b → total_z f (filter test xs) ≡ total_z f xs → total_z f (cond b (x ∷ filter test xs) (filter test xs)) ≡ f x +ℤ total_z f xs
+    by true e r = ap (λ z. f x +ℤ z) r
+    by false e r = nothing (f x) (total_z f (filter test xs)) (total_z f xs) (All-head (λ y. test y ≡ false → f y ≡ pos 0) x xs h e) r
+
+abbrev pub value_if : ℕ → ℕ → ℤ → ℤ
+value_if x i z = if nat_eq x i then z else pos 0
+
+value_none : (n : ℕ) (x : ℕ) (z : ℤ) (a : ℕ) → x < a → total_z (λ i. value_if x i z) (range_with_len a n) ≡ pos 0
+value_none zero x z a l = refl
+value_none (suc n) x z a l =
+    let e = value_none n x z (a + 1) (omega arith) in
+    let q = ap (λ (t : Bool). if t then z else pos 0) (ne_eqb x a (λ r. absurd (omega arith))) in
+    add_nothing (value_if x a z) (total_z (λ i. value_if x i z) (range_with_len (a + 1) n)) q e
+  where
+    add_nothing : (u w : ℤ) → u ≡ pos 0 → w ≡ pos 0 → u +ℤ w ≡ pos 0
+    add_nothing u w e g = omega (arith, ints)
+
+total_z-value_if : (n : ℕ) (x : ℕ) (z : ℤ) (a : ℕ) → a ≤ x → x < a + n → total_z (λ i. value_if x i z) (range_with_len a n) ≡ z
+total_z-value_if zero x z a l m = absurd (omega arith)
+total_z-value_if (suc n) x z a l m = by (cases_eq x a) (total_z-value_if n x z (a + 1))
+  where
+    one : (u w : ℤ) → u ≡ z → w ≡ pos 0 → u +ℤ w ≡ z
+    one u w e g = omega (arith, ints)
+
+    other : (u w : ℤ) → u ≡ pos 0 → w ≡ z → u +ℤ w ≡ z
+    other u w e g = omega (arith, ints)
+
+    by : (x ≡ a) ⊎ (x ≡ a → ⊥) → (a + 1 ≤ x → x < a + 1 + n → total_z (λ i. value_if x i z) (range_with_len (a + 1) n) ≡ z) → value_if x a z +ℤ total_z (λ i. value_if x i z) (range_with_len (a + 1) n) ≡ z
+    by (inl e) r = one (value_if x a z) (total_z (λ i. value_if x i z) (range_with_len (a + 1) n)) (ap (λ (t : Bool). if t then z else pos 0) (eq-eqb x a e)) (value_none n x z (a + 1) (omega arith))
+    by (inr q) r = other (value_if x a z) (total_z (λ i. value_if x i z) (range_with_len (a + 1) n)) (ap (λ (t : Bool). if t then z else pos 0) (ne_eqb x a q)) (r (grind arith) (omega arith))
+
+pub total_z-swap : {A B : Type 0} (f : A → B → ℤ) (xs : List A) (ys : List B) → total_z (λ x. total_z (f x) ys) xs ≡ total_z (λ y. total_z (λ x. f x y) xs) ys
+total_z-swap f [] ys = sym (total_z-zero (λ y. pos 0) ys (λ k d l. refl))
+total_z-swap f (x ∷ xs) ys = ap (λ n. total_z (f x) ys +ℤ n) (total_z-swap f xs ys) ∙ sym (total_z-add (f x) (λ y. total_z (λ x. f x y) xs) ys)
+
+pub total_z-groups : {A : Type 0} (f : A → ℤ) (key : A → ℕ) (n : ℕ) (xs : List A) → All (λ x. key x < n) xs → total_z (λ i. total_z (λ x. value_if (key x) i (f x)) xs) (range_with_len 0 n) ≡ total_z f xs
+total_z-groups f key n xs h =
+    total_z-swap (λ i x. value_if (key x) i (f x)) (range_with_len 0 n) xs
+    ∙ total_z-same (λ x. total_z (λ i. value_if (key x) i (f x)) (range_with_len 0 n)) f xs
+    (λ k d l. total_z-value_if n (key (get_or xs k d)) (f (get_or xs k d)) 0 (omega arith) (let m = h k d l in omega arith))

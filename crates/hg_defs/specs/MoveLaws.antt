@@ -25,6 +25,12 @@ pub record IsBestMove (h : Hyper) (k l : ℕ) (p : List ℕ) (m : Move) : Type 0
   pub worker : m.worker ≡ 0
   pub booked : m.booked ≡ gain h p m.vertex m.to
 
+-- each of the moves is allowed in its turn
+abbrev pub AreAllowedInTurn : Hyper → ℕ → ℕ → List ℕ → List Move → Type 0
+AreAllowedInTurn h k l p moves =
+    (i : ℕ) (d : Move) → i < length moves
+    → IsAllowed h k l (replay_first p moves i) (slice_index_or moves i d).vertex (slice_index_or moves i d).to
+
 -- the connectivity of pins after one of them goes from block a to block b: one less where it was the last in a, one more where it is the first in b
 abbrev pub connectivity_after : List ℕ → List ℕ → ℕ → ℕ → ℕ
 connectivity_after p pins a b =
@@ -78,6 +84,14 @@ SweepSavesWhatItBooks =
     (h : Hyper) (k l : ℕ) (p : List ℕ)
     → total_z (λ m. m.booked) (sweep h k l p) ≡ pos (cost h p) -ℤ pos (cost h (replay p (sweep h k l p)))
 
+-- a sweep that isn't empty lowers the cost
+abbrev pub SweepLowersCost : Type 0
+SweepLowersCost = (h : Hyper) (k l : ℕ) (p : List ℕ) → 0 < length (sweep h k l p) → cost h (replay p (sweep h k l p)) < cost h p
+
+-- its moves are allowed in turn
+abbrev pub SweepIsAllowed : Type 0
+SweepIsAllowed = (h : Hyper) (k l : ℕ) (p : List ℕ) → AreAllowedInTurn h k l p (sweep h k l p)
+
 -- an allowed move leaves a partition that obeys the fixes, and fits where the one before it fits
 abbrev pub AllowedMoveIsPartition : Type 0
 AllowedMoveIsPartition =
@@ -89,6 +103,20 @@ AllowedMoveObeys = (h : Hyper) (k l : ℕ) (p : List ℕ) (v b : ℕ) → Obeys 
 abbrev pub AllowedMoveFits : Type 0
 AllowedMoveFits =
     (h : Hyper) (k l : ℕ) (p : List ℕ) (v b : ℕ) → IsPartition h k p → Fits h k l p → IsAllowed h k l p v b → Fits h k l (moved p v b)
+
+-- and so do moves that are allowed in turn
+abbrev pub AllowedMovesArePartition : Type 0
+AllowedMovesArePartition =
+    (h : Hyper) (k l : ℕ) (p : List ℕ) (moves : List Move) → IsPartition h k p → AreAllowedInTurn h k l p moves → IsPartition h k (replay p moves)
+
+abbrev pub AllowedMovesObey : Type 0
+AllowedMovesObey =
+    (h : Hyper) (k l : ℕ) (p : List ℕ) (moves : List Move) → Obeys h p → AreAllowedInTurn h k l p moves → Obeys h (replay p moves)
+
+abbrev pub AllowedMovesFit : Type 0
+AllowedMovesFit =
+    (h : Hyper) (k l : ℕ) (p : List ℕ) (moves : List Move) → IsPartition h k p → Fits h k l p → AreAllowedInTurn h k l p moves
+    → Fits h k l (replay p moves)
 
 -- a move changes the loads of two blocks
 abbrev pub MoveRaisesLoad : Type 0

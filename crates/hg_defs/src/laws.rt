@@ -2,7 +2,7 @@
 
 ghost use Rattle.hg_defs.specs.PlacementLaws.{AllWeightsArePlaced, GreedyDoesNotFit, GreedyFits, GreedyIsPartition, GreedyObeys, HeaviestFirstListsFree, HeaviestGoFirst, LeastIsFirstLeast, LeastLoadedIsInTurn, LeastLoadedIsPartition, LeastLoadedObeys, LoadsAreKept, NoneOverfillsWhereItFits, OneOverfillsWhereItDoesNotFit, OnlyLeastLoadedIsInTurn, OverfillingIsFirst};
 ghost use Rattle.hg_defs.specs.ContractionLaws.{ContractionIsHypergraph, ContractionKeepsCost, ContractionKeepsLimits, ContractionKeepsLoads, ContractionKeepsWeight, FittingIsLifted, FittingIsProjected, FixesAreLifted, FixesAreProjected, FixesStayWithin, PartitionIsLifted, PartitionIsProjected};
-ghost use Rattle.hg_defs.specs.MoveLaws.{AllowedMoveFits, AllowedMoveIsPartition, AllowedMoveObeys, BestBlockIsBest, ConnectivityCountsBlocks, EmptySweepIsSettled, GainIsLocal, MoveKeepsOtherLoads, MoveLowersLoad, MoveRaisesLoad, NoBestBlockGainsNothing, OnlyBestBlockIsBest, SettledSweepIsEmpty, SweepMakesBestMoves, SweepRises, SweepSavesWhatItBooks};
+ghost use Rattle.hg_defs.specs.MoveLaws.{AllowedMoveFits, AllowedMoveIsPartition, AllowedMoveObeys, AllowedMovesArePartition, AllowedMovesFit, AllowedMovesObey, BestBlockIsBest, ConnectivityCountsBlocks, EmptySweepIsSettled, GainIsLocal, MoveKeepsOtherLoads, MoveLowersLoad, MoveRaisesLoad, NoBestBlockGainsNothing, OnlyBestBlockIsBest, SettledSweepIsEmpty, SweepIsAllowed, SweepLowersCost, SweepMakesBestMoves, SweepRises, SweepSavesWhatItBooks};
 ghost use Rattle.hg_defs.specs.ReplayLaws.{BestPrefixIsBest, FittingIsTested, OnlyBestPrefixIsBest};
 
 /// Least loaded placement gives each vertex a block and obeys the fixes. It places the vertices in
@@ -64,13 +64,19 @@ pub fn sweep_of_partition()
     ensures best { SweepMakesBestMoves }
     ensures rising { SweepRises }
     ensures saved { SweepSavesWhatItBooks }
+    ensures lower { SweepLowersCost }
+    ensures allowed { SweepIsAllowed }
 {}
 
-/// An allowed move leaves a partition that obeys the fixes and fits.
-pub fn allowed_move()
+/// An allowed move leaves a partition that obeys the fixes and fits, and so do moves that are allowed
+/// in turn.
+pub fn allowed_moves()
     ensures partition { AllowedMoveIsPartition }
     ensures fixes { AllowedMoveObeys }
     ensures fits { AllowedMoveFits }
+    ensures partitions { AllowedMovesArePartition }
+    ensures obeyed { AllowedMovesObey }
+    ensures fitting { AllowedMovesFit }
 {}
 
 /// A move changes the loads of the two blocks alone, and its gain is what the nets of the vertex
