@@ -1,3 +1,4 @@
 pub mod FieldLaws
 pub mod GainLaws
 pub mod CountLaws
+pub mod LoadLaws

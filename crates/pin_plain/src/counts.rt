@@ -83,13 +83,13 @@ fn count_net(words: &mut [u64], start: u32, bits: u32, pins: &[u32], blocks: &[u
 }
 
 /// Counts the pins of all nets in `k` blocks, from words of 0.
-pub fn count_nets(h: &Hypergraph, blocks: &[u32], starts: &[u32], words: &mut [u64])
-    ghost k: { ℕ }
+pub fn count_nets(h: &Hypergraph, k: u32, blocks: &[u32], starts: &[u32], words: &mut [u64])
     requires parted { IsParted h.now k blocks.now }
     requires laid { IsLaidOut h.now k starts.now words.old }
     requires zeros { words.old ≡ replicate (length words.old) 0 }
     ensures { HoldsCounts h.now k words.new (counts_of h.now blocks.now) }
 {
+    prove!(k <= 256);
     for e in 0..h.nets() {
         let pins = h.pins(e);
         count_net(words, starts[e as usize], bits_of(pins.len() as u32), pins, blocks);
@@ -97,8 +97,7 @@ pub fn count_nets(h: &Hypergraph, blocks: &[u32], starts: &[u32], words: &mut [u
 }
 
 /// Moves the pin of a vertex to another block in the counts of each of its nets.
-pub fn move_pin(h: &Hypergraph, blocks: &[u32], starts: &[u32], words: &mut [u64], v: u32, to: u32)
-    ghost k: { ℕ }
+pub fn move_pin(h: &Hypergraph, k: u32, blocks: &[u32], starts: &[u32], words: &mut [u64], v: u32, to: u32)
     requires parted { IsParted h.now k blocks.now }
     requires laid { IsLaidOut h.now k starts.now words.old }
     requires counted { HoldsCounts h.now k words.old (counts_of h.now blocks.now) }
@@ -107,6 +106,7 @@ pub fn move_pin(h: &Hypergraph, blocks: &[u32], starts: &[u32], words: &mut [u64
     requires other { to ≢ block_of blocks.now v }
     ensures { HoldsCounts h.now k words.new (counts_of h.now (moved blocks.now v to)) }
 {
+    prove!(to < k);
     let from = blocks[v as usize];
     for e in h.nets_of(v) {
         let start = starts[*e as usize];

@@ -2,5 +2,7 @@
 #![tactic(auto)]
 
 mod counts;
+mod partition;
 
 pub use hg_base::NoMemory;
+pub use partition::Partition;

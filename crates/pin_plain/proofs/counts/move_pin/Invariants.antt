@@ -4,4 +4,4 @@ use Rattle.pin_plain.specs.Counts.{HoldsCounts, counts_between}
 use Rattle.pin_plain.proofs.counts.move_pin.Given as goal
 
 abbrev pub invariant-loop-e : goal.invariant-loop-e
-invariant-loop-e g l = HoldsCounts l.h g.k l.words (counts_between l.h l.blocks (moved l.blocks l.v l.to) (take l.e-index l.e-items))
+invariant-loop-e l = HoldsCounts l.h l.k l.words (counts_between l.h l.blocks (moved l.blocks l.v l.to) (take l.e-index l.e-items))

@@ -1,0 +1,126 @@
+//! The plain partition.
+
+ghost use Rattle.std.specs.Prelude.{◌≡◌, ◌≢◌, ℕ, ◌<◌, ◌≤◌, ◌^◌, All, length, map, slice_index, replicate, IsTrue, ◌↔◌, IfOk};
+ghost use Rattle.hg_defs.specs.Hypergraph.{vertex_count, net_count, net_of, Suits, IsFixedWithin};
+ghost use Rattle.hg_defs.specs.Partition.{IsPartition, block_of, load, Fits};
+ghost use Rattle.hg_defs.specs.Cost.{cost};
+ghost use Rattle.hg_defs.specs.Pins.{pins_in};
+ghost use Rattle.hg_defs.specs.Moves.{moved, gain};
+ghost use Rattle.hg_defs.specs.Contraction.{after};
+ghost use Rattle.pin_plain.specs.Parted.{IsParted, IsLoaded};
+
+use crate::counts::{count, count_nets, lay_out, move_pin};
+use hg_base::{Blocks, NoMemory, bits_of, cost_of};
+use incidence::Hypergraph;
+use std::alloc::Global;
+use std::marker::Model;
+use std::snapshot::Snapshot;
+
+/// A partition of a hypergraph into `k` blocks, with the load of each block and the pin counts of
+/// each net.
+///
+/// It doesn't hold the hypergraph: the calls that need it are given it again.
+pub struct Partition {
+    hyper: Snapshot<Hypergraph>,
+    k: u32,
+    limit: u64,
+    blocks: Blocks,
+    loads: Vec<u64>,
+    starts: Vec<u32>,
+    words: Vec<u64>,
+}
+
+impl Model for Partition {
+    ghost use Rattle.pin_plain.specs.Parted.{Parted, IsKept};
+
+    ghost Value = { Parted };
+
+    ghost view = { λ p. record { hyper = p.hyper.value; k = p.k; limit = p.limit; blocks = p.blocks } };
+
+    ghost invariant = { λ p. IsKept p.hyper.value p.k p.blocks p.loads.items p.starts.items p.words.items };
+}
+
+/// Adds the weight of each vertex to the load of its block.
+fn add_weights(h: &Hypergraph, blocks: &[u32], loads: &mut [u64])
+    requires partition { IsPartition h.now (length loads.old) blocks.now }
+    requires zeros { loads.old ≡ replicate (length loads.old) 0 }
+    ensures { IsLoaded h.now (length loads.old) blocks.now loads.new }
+{
+    for v in 0..h.vertices() {
+        loads[blocks[v as usize] as usize] += h.vertex_weight(v);
+    }
+}
+
+impl Partition {
+    /// Makes a partition of the blocks, one below `k` for each vertex, `k` being from 2 to 256.
+    pub fn of(alloc: Global, h: &Hypergraph, k: u32, limit: u64, blocks: Blocks) -> Result<Self, NoMemory>
+        requires some { 2 ≤ k }
+        requires few { k ≤ 256 }
+        requires partition { IsPartition h.now k blocks }
+        requires suits { Suits h.now k }
+        requires fixed { IsFixedWithin h.now k }
+        ensures { IfOk result (λ p. p ≡ record { hyper = h.now; k = k; limit = limit; blocks = blocks }) }
+    {
+        let _vertices = h.vertices();
+        let mut loads = vec![in alloc; 0u64; k as usize]?;
+        let (starts, count) = lay_out(alloc, h, k)?;
+        let mut words = vec![in alloc; 0u64; count as usize]?;
+        add_weights(h, blocks.slice(), loads.as_mut_slice());
+        count_nets(h, k, blocks.slice(), starts.as_slice(), words.as_mut_slice());
+        Ok(Partition {
+            hyper: Snapshot::of(h),
+            k,
+            limit,
+            blocks,
+            loads,
+            starts,
+            words,
+        })
+    }
+
+    /// The block of each vertex.
+    pub fn blocks(&self) -> &[u32]
+        ensures value { result.now ≡ self.now.blocks }
+        ensures parted { IsParted self.now.hyper self.now.k self.now.blocks }
+    {
+        self.blocks.slice()
+    }
+
+    /// The number of blocks.
+    pub fn k(&self) -> u32
+        ensures { result ≡ self.now.k }
+    {
+        self.k
+    }
+
+    /// The limit on the load of a block.
+    pub fn limit(&self) -> u64
+        ensures { result ≡ self.now.limit }
+    {
+        self.limit
+    }
+
+    /// The load of a block: the weight of its vertices.
+    pub fn weight(&self, b: u32) -> u64
+        requires { b < self.now.k }
+        ensures { result ≡ load self.now.hyper self.now.blocks b }
+    {
+        self.loads[b as usize]
+    }
+
+    /// Whether no block is loaded past the limit.
+    pub fn fits(&self) -> bool
+        ensures { IsTrue result ↔ Fits self.now.hyper self.now.k self.now.limit self.now.blocks }
+    {
+        self.loads.iter().all(|load| *load <= self.limit)
+    }
+
+    /// The cost of the partition of its hypergraph, by the hypergraph's objective.
+    pub fn cost(&self, h: &Hypergraph) -> u64
+        requires { self.now.hyper ≡ h.now }
+        ensures value { result ≡ cost h.now self.now.blocks }
+        ensures bound { result < 2 ^ 57 }
+    {
+        cost_of(h.flat(), self.blocks.slice(), self.k)
+    }
+}
