@@ -1,5 +1,5 @@
 -- Laws of the loads that a partition keeps.
-use Rattle.std.proofs.Common.{◌≡◌, ◌≢◌, ◌⊎◌, inl, inr, ℕ, ◌+◌, ◌-◌, ◌<◌, ◌≤◌, List, length, take, slice_index, slice_set, refl, sym, ap, subst, ◌∙◌, arith}
+use Rattle.std.proofs.Common.{◌≡◌, ◌≢◌, ◌⊎◌, inl, inr, ℕ, ◌+◌, ◌-◌, ◌<◌, ◌≤◌, List, ◌++◌, All, length, take, drop, slice_index, slice_set, refl, sym, ap, subst, ◌∙◌, arith}
 use Rattle.std.proofs.lemmas.List.{length-set, get_or-set_same, get_or-set_other}
 use Rattle.std.proofs.lemmas.Bool.{cases_eq}
 use Rattle.hg_defs.specs.Hypergraph.{Hyper, vertex_count, weight_of}
@@ -7,7 +7,10 @@ use Rattle.hg_defs.specs.Partition.{weight_in, load, block_of}
 use Rattle.hg_defs.specs.Moves.{moved}
 use Rattle.hg_defs.proofs.SumLaws.{weight_in-take_more, weight_if-same, weight_if-other}
 use Rattle.hg_defs.proofs.MoveLaws.{load-moved_new, load-moved_old, load-moved_other}
-use Rattle.pin_plain.specs.Parted.{IsLoaded}
+use Rattle.pin_plain.specs.Parted.{IsLoaded, IsParted, IsKept, loads_after}
+use Rattle.pin_plain.specs.Counts.{HoldsCounts, counts_of}
+use Rattle.incidence.proofs.IndexLaws.{written_back}
+use Rattle.std.proofs.lemmas.List.Elements.{All-set}
 
 -- the weight of the next vertex added to the load of its block
 pub weight_added :
@@ -39,8 +42,7 @@ weight_added ws p loads v l m low known b inside = by (cases_eq b (slice_index p
 -- the weight of a vertex moved from the load of its block to that of another one
 pub weight_moved :
   (h : Hyper) (k : ℕ) (p loads : List ℕ) (v to : ℕ) → IsLoaded h k p loads → length p ≡ vertex_count h → v < vertex_count h → block_of p v < k → to < k → to ≢ block_of p v
-  → IsLoaded h k (moved p v to)
-  (slice_set (slice_set loads (block_of p v) (slice_index loads (block_of p v) - weight_of h v)) to (slice_index (slice_set loads (block_of p v) (slice_index loads (block_of p v) - weight_of h v)) to + weight_of h v))
+  → IsLoaded h k (moved p v to) (loads_after loads (block_of p v) to (weight_of h v))
 weight_moved h k p loads v to loaded long vertex from block other = record {
   all = length-set (slice_set loads (block_of p v) (slice_index loads (block_of p v) - weight_of h v)) to _ ∙ length-set loads (block_of p v) _ ∙ loaded.all;
   each = λ b low. by b low (cases_eq b to) (cases_eq b (block_of p v));
@@ -52,4 +54,68 @@ weight_moved h k p loads v to loaded long vertex from block other = record {
     by : (b : ℕ) → b < k → (b ≡ to) ⊎ (b ≢ to) → (b ≡ block_of p v) ⊎ (b ≢ block_of p v)
         → slice_index (slice_set (slice_set loads (block_of p v) (slice_index loads (block_of p v) - weight_of h v)) to (slice_index (slice_set loads (block_of p v) (slice_index loads (block_of p v) - weight_of h v)) to + weight_of h v)) b
         ≡ load h (moved p v to) b
-    by b low e f = ?
+    by b low (inl e) f =
+        subst
+        (λ c. slice_index (slice_set (slice_set loads (block_of p v) (slice_index loads (block_of p v) - weight_of h v)) to (slice_index (slice_set loads (block_of p v) (slice_index loads (block_of p v) - weight_of h v)) to + weight_of h v)) c
+          ≡ load h (moved p v to) c)
+        (sym e)
+        (let len = length-set loads (block_of p v) (slice_index loads (block_of p v) - weight_of h v) in
+          let all = loaded.all in
+          let at = get_or-set_same (slice_set loads (block_of p v) (slice_index loads (block_of p v) - weight_of h v)) to (slice_index (slice_set loads (block_of p v) (slice_index loads (block_of p v) - weight_of h v)) to + weight_of h v) 0 (omega arith) in
+          let was = get_or-set_other loads (block_of p v) to (slice_index loads (block_of p v) - weight_of h v) 0 other in
+          let known = loaded.each to block in
+          let law = load-moved_new h p v to long vertex other in
+          omega arith)
+    by b low (inr q) (inl f) =
+        subst
+        (λ c. slice_index (slice_set (slice_set loads (block_of p v) (slice_index loads (block_of p v) - weight_of h v)) to (slice_index (slice_set loads (block_of p v) (slice_index loads (block_of p v) - weight_of h v)) to + weight_of h v)) c
+          ≡ load h (moved p v to) c)
+        (sym f)
+        (let all = loaded.all in
+          let at = get_or-set_other (slice_set loads (block_of p v) (slice_index loads (block_of p v) - weight_of h v)) to (block_of p v) (slice_index (slice_set loads (block_of p v) (slice_index loads (block_of p v) - weight_of h v)) to + weight_of h v) 0 (λ r. other (sym r)) in
+          let was = get_or-set_same loads (block_of p v) (slice_index loads (block_of p v) - weight_of h v) 0 (omega arith) in
+          let known = loaded.each (block_of p v) from in
+          let law = load-moved_old h p v to long vertex other in
+          omega arith)
+    by b low (inr q) (inr r) =
+        let at = get_or-set_other (slice_set loads (block_of p v) (slice_index loads (block_of p v) - weight_of h v)) to b (slice_index (slice_set loads (block_of p v) (slice_index loads (block_of p v) - weight_of h v)) to + weight_of h v) 0 q in
+        let was = get_or-set_other loads (block_of p v) b (slice_index loads (block_of p v) - weight_of h v) 0 r in
+        let known = loaded.each b low in
+        let law = load-moved_other h p v to b long vertex r q in
+        omega arith
+
+-- a vertex weighs no more than its block
+pub weight_within : (h : Hyper) (k : ℕ) (p loads : List ℕ) (v to : ℕ) → IsLoaded h k p loads → length p ≡ vertex_count h → v < vertex_count h → block_of p v < k → to ≢ block_of p v → weight_of h v ≤ slice_index loads (block_of p v)
+weight_within h k p loads v to loaded long vertex from other =
+    let law = load-moved_old h p v to long vertex other in
+    let known = loaded.each (block_of p v) from in
+    omega arith
+
+-- what a partition keeps, after a move whose loads and counts were written back through slices
+pub kept_shifted :
+  (h : Hyper) (k : ℕ) (p q loads starts widths words : List ℕ) (v to n m : ℕ) (new_loads old_loads new_words old_words : List ℕ)
+  → IsKept h k p loads starts widths words → to < k → q ≡ moved p v to
+  → IsLoaded h k (moved p v to) new_loads → HoldsCounts h k new_words (counts_of h (moved p v to)) → length new_words ≡ length words → length new_loads ≡ n → length new_words ≡ m
+  → IsKept h k q (take n (new_loads ++ drop (length new_loads) old_loads)) starts widths (take m (new_words ++ drop (length new_words) old_words))
+kept_shifted h k p q loads starts widths words v to n m new_loads old_loads new_words old_words kept low same loaded counted long ln lm =
+    subst (λ ls. IsKept h k q ls starts widths (take m (new_words ++ drop (length new_words) old_words))) (sym (written_back n new_loads old_loads ln))
+    (subst (λ ws. IsKept h k q new_loads starts widths ws) (sym (written_back m new_words old_words lm))
+      (subst (λ r. IsKept h k r new_loads starts widths new_words) (sym same)
+        (record {
+          parted = record {
+            sound = kept.parted.sound;
+            bounds = kept.parted.bounds;
+            suits = kept.parted.suits;
+            fixed = kept.parted.fixed;
+            some = kept.parted.some;
+            few = kept.parted.few;
+            partition = record {
+              vertices = length-set p v to ∙ kept.parted.partition.vertices;
+              blocks = All-set (λ b. b < k) p v to low kept.parted.partition.blocks;
+            };
+          };
+          loaded = loaded;
+          laid = record { nets = kept.laid.nets; starts_at = kept.laid.starts_at; all = long ∙ kept.laid.all };
+          wide = kept.wide;
+          counted = counted;
+        })))

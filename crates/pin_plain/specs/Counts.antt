@@ -20,6 +20,16 @@ net_words h k e = words_of (length (net_of h e).pins) k
 abbrev pub net_start : Hyper → ℕ → ℕ → ℕ
 net_start h k e = sum_below (net_words h k) e
 
+-- where the counts of each net start
+pub record HasStarts (h : Hyper) (k : ℕ) (starts : List ℕ) : Type 0 where
+  pub nets : length starts ≡ net_count h
+  pub starts_at : (e : ℕ) → e < net_count h → slice_index starts e ≡ net_start h k e
+
+-- how many bits a count of each net takes
+pub record HasWidths (h : Hyper) (widths : List ℕ) : Type 0 where
+  pub nets : length widths ≡ net_count h
+  pub width_of : (e : ℕ) → e < net_count h → slice_index widths e ≡ net_bits h e
+
 -- each net has a part of the words
 pub record IsLaidOut (h : Hyper) (k : ℕ) (starts words : List ℕ) : Type 0 where
   pub nets : length starts ≡ net_count h

@@ -1,8 +1,8 @@
 -- A hypergraph that is parted into blocks, and what a partition keeps beside the blocks.
-use Rattle.std.specs.Prelude.{◌≡◌, ℕ, ◌<◌, ◌≤◌, List, length, slice_index}
+use Rattle.std.specs.Prelude.{◌≡◌, ℕ, ◌+◌, ◌-◌, ◌<◌, ◌≤◌, List, length, slice_index, slice_set}
 use Rattle.hg_defs.specs.Hypergraph.{Hyper, IsHypergraph, IsWithinLimits, IsFixedWithin, Suits}
 use Rattle.hg_defs.specs.Partition.{IsPartition, load}
-use Rattle.pin_plain.specs.Counts.{IsLaidOut, HoldsCounts, counts_of}
+use Rattle.pin_plain.specs.Counts.{IsLaidOut, HasWidths, HoldsCounts, counts_of}
 
 -- the hypergraph, the number of blocks, the limit on a load, and the block of each vertex
 pub record Parted : Type 0 where
@@ -16,6 +16,12 @@ pub record IsLoaded (h : Hyper) (k : ℕ) (p loads : List ℕ) : Type 0 where
   pub all : length loads ≡ k
   pub each : (b : ℕ) → b < k → slice_index loads b ≡ load h p b
 
+-- the loads after a weight went from one block to another one
+abbrev pub loads_after : List ℕ → ℕ → ℕ → ℕ → List ℕ
+loads_after loads from to weight =
+    let less = slice_set loads from (slice_index loads from - weight) in
+    slice_set less to (slice_index less to + weight)
+
 -- a sound hypergraph parted into 2 to 256 blocks
 pub record IsParted (h : Hyper) (k : ℕ) (p : List ℕ) : Type 0 where
   pub sound : IsHypergraph h
@@ -27,8 +33,9 @@ pub record IsParted (h : Hyper) (k : ℕ) (p : List ℕ) : Type 0 where
   pub partition : IsPartition h k p
 
 -- the loads and the pin counts are those of the hypergraph and the blocks
-pub record IsKept (h : Hyper) (k : ℕ) (p loads starts words : List ℕ) : Type 0 where
+pub record IsKept (h : Hyper) (k : ℕ) (p loads starts widths words : List ℕ) : Type 0 where
   pub parted : IsParted h k p
   pub loaded : IsLoaded h k p loads
   pub laid : IsLaidOut h k starts words
+  pub wide : HasWidths h widths
   pub counted : HoldsCounts h k words (counts_of h p)

@@ -6,7 +6,7 @@ ghost use Rattle.hg_defs.specs.Hypergraph.{vertex_count, net_count, Suits};
 ghost use Rattle.hg_defs.specs.Partition.{block_of};
 ghost use Rattle.hg_defs.specs.Moves.{moved};
 ghost use Rattle.hg_defs.specs.Pins.{pins_in};
-ghost use Rattle.pin_plain.specs.Counts.{count_at, net_start, counts_of, IsLaidOut, HoldsCounts};
+ghost use Rattle.pin_plain.specs.Counts.{count_at, net_start, counts_of, IsLaidOut, HasStarts, HasWidths, HoldsCounts};
 ghost use Rattle.pin_plain.specs.Parted.{IsParted};
 
 use hg_base::{NoMemory, bits_of, field, unit, words_of};
@@ -116,21 +116,37 @@ pub fn move_pin(h: &Hypergraph, k: u32, blocks: &[u32], starts: &[u32], words: &
     }
 }
 
-/// The word at which the counts of each net start, and the number of words, for `k` blocks.
-pub fn lay_out(alloc: Global, h: &Hypergraph, k: u32) -> Result<(Vec<u32>, u32), NoMemory>
+/// Where the counts of each net stand: the word at which they start, and their width in bits.
+#[derive(Drop)]
+pub struct Layout {
+    pub starts: Vec<u32>,
+    pub widths: Vec<u8>,
+    /// How many words there are in all.
+    pub words: u32,
+}
+
+/// Lays out the counts of all nets for `k` blocks.
+pub fn lay_out(alloc: Global, h: &Hypergraph, k: u32) -> Result<Layout, NoMemory>
     requires some { 2 ≤ k }
     requires few { k ≤ 256 }
     requires suits { Suits h.now k }
-    ensures { IfOk result (λ r. (length r.0.items ≡ net_count h.now)
-        × ((e : ℕ) → e < net_count h.now → slice_index r.0.items e ≡ net_start h.now k e)
-        × (r.1 ≡ net_start h.now k (net_count h.now))) }
+    ensures starts { IfOk result (λ l. HasStarts h.now k l.starts.items) }
+    ensures widths { IfOk result (λ l. HasWidths h.now l.widths.items) }
+    ensures words { IfOk result (λ l. l.words ≡ net_start h.now k (net_count h.now)) }
 {
     let nets = h.nets();
     let mut starts = Vec::with_capacity(alloc, nets as usize)?;
-    let mut next = 0;
+    let mut widths = Vec::with_capacity(alloc, nets as usize)?;
+    let mut words = 0;
     for e in 0..nets {
-        starts.push(next)?;
-        next += words_of(h.pins(e).len() as u32, k);
+        let size = h.pins(e).len() as u32;
+        starts.push(words)?;
+        widths.push(bits_of(size) as u8)?;
+        words += words_of(size, k);
     }
-    Ok((starts, next))
+    Ok(Layout {
+        starts,
+        widths,
+        words,
+    })
 }

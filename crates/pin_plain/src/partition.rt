@@ -1,13 +1,13 @@
 //! The plain partition.
 
-ghost use Rattle.std.specs.Prelude.{◌≡◌, ◌≢◌, ℕ, ◌<◌, ◌≤◌, ◌^◌, All, length, map, slice_index, replicate, IsTrue, ◌↔◌, IfOk};
+ghost use Rattle.std.specs.Prelude.{◌≡◌, ◌≢◌, ℕ, ◌+◌, ◌-◌, ◌<◌, ◌≤◌, ◌^◌, All, length, map, slice_index, slice_set, replicate, IsTrue, ◌↔◌, IfOk};
 ghost use Rattle.hg_defs.specs.Hypergraph.{vertex_count, net_count, net_of, Suits, IsFixedWithin};
 ghost use Rattle.hg_defs.specs.Partition.{IsPartition, block_of, load, Fits};
 ghost use Rattle.hg_defs.specs.Cost.{cost};
 ghost use Rattle.hg_defs.specs.Pins.{pins_in};
 ghost use Rattle.hg_defs.specs.Moves.{moved, gain};
 ghost use Rattle.hg_defs.specs.Contraction.{after};
-ghost use Rattle.pin_plain.specs.Parted.{IsParted, IsLoaded};
+ghost use Rattle.pin_plain.specs.Parted.{IsParted, IsLoaded, loads_after};
 
 use crate::counts::{count, count_nets, lay_out, move_pin};
 use hg_base::{Blocks, NoMemory, bits_of, cost_of};
@@ -20,6 +20,7 @@ use std::snapshot::Snapshot;
 /// each net.
 ///
 /// It doesn't hold the hypergraph: the calls that need it are given it again.
+#[derive(Drop)]
 pub struct Partition {
     hyper: Snapshot<Hypergraph>,
     k: u32,
@@ -27,6 +28,7 @@ pub struct Partition {
     blocks: Blocks,
     loads: Vec<u64>,
     starts: Vec<u32>,
+    widths: Vec<u8>,
     words: Vec<u64>,
 }
 
@@ -37,7 +39,7 @@ impl Model for Partition {
 
     ghost view = { λ p. record { hyper = p.hyper.value; k = p.k; limit = p.limit; blocks = p.blocks } };
 
-    ghost invariant = { λ p. IsKept p.hyper.value p.k p.blocks p.loads.items p.starts.items p.words.items };
+    ghost invariant = { λ p. IsKept p.hyper.value p.k p.blocks p.loads.items p.starts.items p.widths.items p.words.items };
 }
 
 /// Adds the weight of each vertex to the load of its block.
@@ -49,6 +51,19 @@ fn add_weights(h: &Hypergraph, blocks: &[u32], loads: &mut [u64])
     for v in 0..h.vertices() {
         loads[blocks[v as usize] as usize] += h.vertex_weight(v);
     }
+}
+
+/// Takes a weight from one load and adds it to another one.
+fn move_weight(loads: &mut [u64], weight: u64, from: u32, to: u32)
+    requires from { from < length loads.old }
+    requires to { to < length loads.old }
+    requires held { weight ≤ slice_index loads.old from }
+    requires room { slice_index loads.old to + weight < 2 ^ 64 }
+    requires other { to ≢ from }
+    ensures { loads.new ≡ loads_after loads.old from to weight }
+{
+    loads[from as usize] -= weight;
+    loads[to as usize] += weight;
 }
 
 impl Partition {
@@ -63,17 +78,18 @@ impl Partition {
     {
         let _vertices = h.vertices();
         let mut loads = vec![in alloc; 0u64; k as usize]?;
-        let (starts, count) = lay_out(alloc, h, k)?;
-        let mut words = vec![in alloc; 0u64; count as usize]?;
+        let layout = lay_out(alloc, h, k)?;
+        let mut words = vec![in alloc; 0u64; layout.words as usize]?;
         add_weights(h, blocks.slice(), loads.as_mut_slice());
-        count_nets(h, k, blocks.slice(), starts.as_slice(), words.as_mut_slice());
+        count_nets(h, k, blocks.slice(), layout.starts.as_slice(), words.as_mut_slice());
         Ok(Partition {
             hyper: Snapshot::of(h),
             k,
             limit,
             blocks,
             loads,
-            starts,
+            starts: layout.starts,
+            widths: layout.widths,
             words,
         })
     }
@@ -122,5 +138,32 @@ impl Partition {
         ensures bound { result < 2 ^ 57 }
     {
         cost_of(h.flat(), self.blocks.slice(), self.k)
+    }
+
+    /// How many pins of a net are in a block.
+    pub fn count(&self, e: u32, b: u32) -> u32
+        requires net { e < net_count self.now.hyper }
+        requires block { b < self.now.k }
+        ensures { result ≡ pins_in self.now.blocks (net_of self.now.hyper e).pins b }
+    {
+        let starts = self.starts.as_slice();
+        let widths = self.widths.as_slice();
+        count(self.words.as_slice(), starts[e as usize], u32::from(widths[e as usize]), b)
+    }
+
+    /// Moves a vertex to a block.
+    pub fn shift(&mut self, h: &Hypergraph, v: u32, to: u32)
+        requires belongs { self.old.hyper ≡ h.now }
+        requires vertex { v < vertex_count h.now }
+        requires block { to < self.old.k }
+        ensures { self.new ≡ record self.old { blocks = moved self.old.blocks v to } }
+    {
+        let from = self.blocks.slice()[v as usize];
+        if from == to {
+            return;
+        }
+        move_pin(h, self.k, self.blocks.slice(), self.starts.as_slice(), self.words.as_mut_slice(), v, to);
+        move_weight(self.loads.as_mut_slice(), h.vertex_weight(v), from, to);
+        self.blocks.set(v as usize, to);
     }
 }
