@@ -116,7 +116,7 @@ part_inside h k starts words e b start bits laid l low es eb =
     let same : start + b / fields_of bits ≡ net_start h k e + b / fields_of (net_bits h e) = ap (λ s. s + b / fields_of bits) es ∙ ap (λ w. net_start h k e + b / fields_of w) eb in
     omega arith
 
-count_same : (h : Hyper) (k e start bits : ℕ) → start ≡ net_start h k e → bits ≡ net_bits h e → (words : List ℕ) (b : ℕ) → count_at words start bits b ≡ count_at words (net_start h k e) (net_bits h e) b
+pub count_same : (h : Hyper) (k e start bits : ℕ) → start ≡ net_start h k e → bits ≡ net_bits h e → (words : List ℕ) (b : ℕ) → count_at words start bits b ≡ count_at words (net_start h k e) (net_bits h e) b
 count_same h k e start bits es eb words b = ap (λ s. count_at words s bits b) es ∙ ap (λ w. count_at words (net_start h k e) w b) eb
 
 before_not : (h : Hyper) (p : List ℕ) (e b : ℕ) → counts_before h p e e b ≡ 0

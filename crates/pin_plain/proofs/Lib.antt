@@ -2,3 +2,4 @@ pub mod FieldLaws
 pub mod GainLaws
 pub mod CountLaws
 pub mod LoadLaws
+pub mod ScoreLaws

@@ -1,16 +1,23 @@
 -- Laws of the loads that a partition keeps.
-use Rattle.std.proofs.Common.{◌≡◌, ◌≢◌, ◌⊎◌, inl, inr, ℕ, ◌+◌, ◌-◌, ◌<◌, ◌≤◌, List, ◌++◌, All, length, take, drop, slice_index, slice_set, refl, sym, ap, subst, ◌∙◌, arith}
-use Rattle.std.proofs.lemmas.List.{length-set, get_or-set_same, get_or-set_other}
+use Rattle.std.proofs.Common.{◌≡◌, ◌≢◌, ◌⊎◌, inl, inr, ℤ, pos, ◌-ℤ◌, ◌^◌, ℕ, ◌+◌, ◌-◌, ◌<◌, ◌≤◌, List, ◌++◌, All, length, map, take, drop, get_or, slice_index, slice_set, refl, sym, ap, subst, ◌∙◌, arith}
+use Rattle.std.proofs.lemmas.List.{length-set, length-map, get_or-set_same, get_or-set_other}
 use Rattle.std.proofs.lemmas.Bool.{cases_eq}
+use Rattle.std.proofs.lemmas.Int.{ints}
+use mir.Val.{of_z, to_z}
+use mir.Syntax.{w64}
 use Rattle.hg_defs.specs.Hypergraph.{Hyper, vertex_count, weight_of}
-use Rattle.hg_defs.specs.Partition.{weight_in, load, block_of}
+use Rattle.hg_defs.specs.Partition.{IsPartition, weight_in, load, block_of}
+use Rattle.hg_defs.specs.Cost.{cost}
+use Rattle.hg_defs.specs.Contraction.{contract, after}
+use Rattle.hg_defs.proofs.ContractionLaws.{cost_kept, loads_kept}
+use Rattle.std.proofs.lemmas.List.FromFn.{length-map-range_with_len}
 use Rattle.hg_defs.specs.Moves.{moved}
 use Rattle.hg_defs.proofs.SumLaws.{weight_in-take_more, weight_if-same, weight_if-other}
 use Rattle.hg_defs.proofs.MoveLaws.{load-moved_new, load-moved_old, load-moved_other}
-use Rattle.pin_plain.specs.Parted.{IsLoaded, IsParted, IsKept, loads_after}
+use Rattle.pin_plain.specs.Parted.{IsLoaded, IsParted, IsKept, KeepsCost, loads_after}
 use Rattle.pin_plain.specs.Counts.{HoldsCounts, counts_of}
 use Rattle.incidence.proofs.IndexLaws.{written_back}
-use Rattle.std.proofs.lemmas.List.Elements.{All-set}
+use Rattle.std.proofs.lemmas.List.Elements.{All-set, All-map}
 
 -- the weight of the next vertex added to the load of its block
 pub weight_added :
@@ -119,3 +126,23 @@ kept_shifted h k p q loads starts widths words v to n m new_loads old_loads new_
           wide = kept.wide;
           counted = counted;
         })))
+
+-- a difference of small numbers, as a signed word
+pub signed_difference : (a b : ℕ) → a < 2 ^ 55 → b < 2 ^ 55 → to_z w64 (of_z w64 (to_z w64 a -ℤ to_z w64 b)) ≡ pos a -ℤ pos b
+signed_difference a b l m = omega (arith, ints)
+
+-- ---- a partition after a map
+
+pub after_partition : (h fine : Hyper) (k : ℕ) (p clusters : List ℕ) → IsPartition h k p → length clusters ≡ vertex_count fine → All (λ v. v < vertex_count h) clusters → IsPartition fine k (after p clusters)
+after_partition h fine k p clusters whole long low = record {
+  vertices = length-map clusters (block_of p) ∙ long;
+  blocks = All-map (λ b. b < k) (block_of p) clusters (λ i d l. whole.blocks (get_or clusters i d) 0 (let n = whole.vertices in let m = low i d l in omega arith));
+}
+
+pub after_keeps : (coarse fine : Hyper) (p clusters : List ℕ) → length p ≡ vertex_count coarse → KeepsCost coarse p fine clusters (after p clusters)
+after_keeps coarse fine p clusters long count ready same =
+    let size : length p ≡ count = long ∙ ap vertex_count same ∙ contract_size fine clusters count in
+    (cost_kept fine clusters count p ready ∙ ap (λ (x : Hyper). cost x p) (sym same), λ b. loads_kept fine clusters count p b ready size ∙ ap (λ (x : Hyper). load x p b) (sym same))
+  where
+    contract_size : (h : Hyper) (map_ : List ℕ) (n : ℕ) → vertex_count (contract h map_ n) ≡ n
+    contract_size h map_ n = length-map-range_with_len (weight_in h.weights map_) 0 n

@@ -2,6 +2,9 @@
 use Rattle.std.specs.Prelude.{◌≡◌, ℕ, ◌+◌, ◌-◌, ◌<◌, ◌≤◌, List, length, slice_index, slice_set}
 use Rattle.hg_defs.specs.Hypergraph.{Hyper, IsHypergraph, IsWithinLimits, IsFixedWithin, Suits}
 use Rattle.hg_defs.specs.Partition.{IsPartition, load}
+use Rattle.hg_defs.specs.Cost.{cost}
+use Rattle.hg_defs.specs.Contraction.{contract}
+use Rattle.hg_defs.specs.ContractionLaws.{IsContractible}
 use Rattle.pin_plain.specs.Counts.{IsLaidOut, HasWidths, HoldsCounts, counts_of}
 
 -- the hypergraph, the number of blocks, the limit on a load, and the block of each vertex
@@ -32,6 +35,12 @@ pub record IsParted (h : Hyper) (k : ℕ) (p : List ℕ) : Type 0 where
   pub few : k ≤ 256
   pub partition : IsPartition h k p
 
+-- the pin counts are those of the hypergraph and the blocks
+pub record IsTold (h : Hyper) (k : ℕ) (p starts words : List ℕ) : Type 0 where
+  pub parted : IsParted h k p
+  pub laid : IsLaidOut h k starts words
+  pub counted : HoldsCounts h k words (counts_of h p)
+
 -- the loads and the pin counts are those of the hypergraph and the blocks
 pub record IsKept (h : Hyper) (k : ℕ) (p loads starts widths words : List ℕ) : Type 0 where
   pub parted : IsParted h k p
@@ -39,3 +48,9 @@ pub record IsKept (h : Hyper) (k : ℕ) (p loads starts widths words : List ℕ)
   pub laid : IsLaidOut h k starts words
   pub wide : HasWidths h widths
   pub counted : HoldsCounts h k words (counts_of h p)
+
+-- where the coarse hypergraph is the contraction of the fine one by the map, the two partitions have the same cost and loads
+abbrev pub KeepsCost : Hyper → List ℕ → Hyper → List ℕ → List ℕ → Type 0
+KeepsCost coarse p fine clusters q =
+    (count : ℕ) → IsContractible fine clusters count → coarse ≡ contract fine clusters count
+    → (cost fine q ≡ cost coarse p) × ((b : ℕ) → load fine q b ≡ load coarse p b)

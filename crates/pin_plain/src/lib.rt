@@ -2,6 +2,7 @@
 #![tactic(auto)]
 
 mod counts;
+mod gains;
 mod partition;
 
 pub use hg_base::NoMemory;

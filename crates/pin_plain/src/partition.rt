@@ -7,10 +7,11 @@ ghost use Rattle.hg_defs.specs.Cost.{cost};
 ghost use Rattle.hg_defs.specs.Pins.{pins_in};
 ghost use Rattle.hg_defs.specs.Moves.{moved, gain};
 ghost use Rattle.hg_defs.specs.Contraction.{after};
-ghost use Rattle.pin_plain.specs.Parted.{IsParted, IsLoaded, loads_after};
+ghost use Rattle.pin_plain.specs.Parted.{IsParted, IsLoaded, loads_after, KeepsCost};
 
 use crate::counts::{count, count_nets, lay_out, move_pin};
-use hg_base::{Blocks, NoMemory, bits_of, cost_of};
+use crate::gains::saved_and_lost;
+use hg_base::{Blocks, Items, NoMemory, bits_of, cost_of};
 use incidence::Hypergraph;
 use std::alloc::Global;
 use std::marker::Model;
@@ -64,6 +65,14 @@ fn move_weight(loads: &mut [u64], weight: u64, from: u32, to: u32)
 {
     loads[from as usize] -= weight;
     loads[to as usize] += weight;
+}
+
+/// The block of the place of each vertex.
+fn mapped(alloc: Global, blocks: &[u32], map: &[u32]) -> Result<Vec<u32>, NoMemory>
+    requires { All (λ v. v < length blocks.now) map.now }
+    ensures { IfOk result (λ mapped. mapped.items ≡ after blocks.now map.now) }
+{
+    Ok(map.iter().map(|v| blocks[*v as usize]).collect(alloc)?)
 }
 
 impl Partition {
@@ -165,5 +174,38 @@ impl Partition {
         move_pin(h, self.k, self.blocks.slice(), self.starts.as_slice(), self.words.as_mut_slice(), v, to);
         move_weight(self.loads.as_mut_slice(), h.vertex_weight(v), from, to);
         self.blocks.set(v as usize, to);
+    }
+
+    /// How much lower the cost becomes where a vertex goes to a block.
+    pub fn gain(&self, h: &Hypergraph, v: u32, to: u32) -> i64
+        requires belongs { self.now.hyper ≡ h.now }
+        requires vertex { v < vertex_count h.now }
+        requires block { to < self.now.k }
+        ensures { result ≡ gain h.now self.now.blocks v to }
+    {
+        let blocks = self.blocks.slice();
+        if blocks[v as usize] == to {
+            return 0;
+        }
+        let (saved, lost) = saved_and_lost(h, self.k, blocks, self.starts.as_slice(), self.words.as_slice(), v, to);
+        saved as i64 - lost as i64
+    }
+
+    /// The partition of a finer hypergraph that gives each vertex the block of its place in the map.
+    pub fn project(&self, alloc: Global, fine: &Hypergraph, map: &[u32]) -> Result<Self, NoMemory>
+        requires vertices { length map.now ≡ vertex_count fine.now }
+        requires places { All (λ v. v < vertex_count self.now.hyper) map.now }
+        requires suits { Suits fine.now self.now.k }
+        requires fixed { IsFixedWithin fine.now self.now.k }
+        ensures value { IfOk result (λ p. p ≡ record {
+            hyper = fine.now;
+            k = self.now.k;
+            limit = self.now.limit;
+            blocks = after self.now.blocks map.now;
+        }) }
+        ensures cost { IfOk result (λ p. KeepsCost self.now.hyper self.now.blocks fine.now map.now p.blocks) }
+    {
+        let blocks = mapped(alloc, self.blocks.slice(), map)?;
+        Partition::of(alloc, fine, self.k, self.limit, Items::from_vec(blocks))
     }
 }
