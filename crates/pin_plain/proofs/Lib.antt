@@ -3,3 +3,4 @@ pub mod GainLaws
 pub mod CountLaws
 pub mod LoadLaws
 pub mod ScoreLaws
+pub mod TallyLaws

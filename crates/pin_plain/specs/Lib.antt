@@ -1,3 +1,4 @@
 pub mod Counts
 pub mod Savings
 pub mod Parted
+pub mod Scores

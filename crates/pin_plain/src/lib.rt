@@ -4,6 +4,7 @@
 mod counts;
 mod gains;
 mod partition;
+mod scores;
 
 pub use hg_base::NoMemory;
 pub use partition::Partition;

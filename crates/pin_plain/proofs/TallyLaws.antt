@@ -1,0 +1,194 @@
+-- Laws of the sums that are kept for blocks.
+use Rattle.std.proofs.Common.{◌≡◌, ◌≢◌, ◌⊎◌, inl, inr, ℕ, zero, suc, ◌+◌, ◌-◌, ◌*◌, ◌<◌, ◌≤◌, Bool, true, false, ◌||◌, if◌then◌else◌, nat_eq, nat_lt, List, [], ◌∷◌, ◌++◌, length, take, get_or, slice_index, slice_set, All, refl, sym, ap, subst, ◌∙◌, arith}
+use Rattle.std.proofs.Math.Bool.{or-true, or-false}
+use Rattle.std.proofs.lemmas.List.{length-set, get_or-set_same, get_or-set_other, take_more_set, take-set, set-get_or}
+use Rattle.std.proofs.lemmas.List.Folds.{list_any-append}
+use Rattle.std.proofs.lemmas.Bool.{cases_eq, cases_lt, eq-eqb, ne_eqb, eqb-true, eqb-false, ltb-true, ltb-false, lt-ltb}
+use Rattle.std.specs.Set.{is_member}
+use Rattle.hg_defs.specs.Sums.{total}
+use Rattle.hg_defs.specs.Partition.{block_of}
+use Rattle.hg_defs.specs.Pins.{pins_in, present}
+use Rattle.hg_defs.proofs.SumLaws.{total-set, total-le, total-ones, total-take_more, weight_if, weight_if-same, weight_if-other}
+use Rattle.hg_defs.proofs.DistinctLaws.{present-le, present-zero, present-positive}
+use Rattle.pin_plain.specs.Scores.{IsTracked, IsBefore, amount_for}
+use Rattle.pin_plain.specs.Savings.{saved}
+use Rattle.hg_defs.specs.declared.objective.Objective.{Objective}
+use Rattle.hg_defs.specs.declared.objective.Objective.TheVariants.{Connectivity, CutNet, ExternalDegree}
+
+-- as long as a number is 0 there are fewer positive ones than numbers
+present_room : (xs : List ℕ) (i : ℕ) → i < length xs → slice_index xs i ≡ 0 → total present xs < length xs
+present_room xs i l z =
+    let more = total-set present xs i 1 0 l in
+    let one = present-positive 1 (omega arith) in
+    let none = present-zero (slice_index xs i) z in
+    let most = total-le present (λ x. 1) (slice_set xs i 1) (λ j d m. present-le (get_or (slice_set xs i 1) j d)) in
+    let all = total-ones (slice_set xs i 1) in
+    let len = length-set xs i 1 in
+    omega arith
+
+module _ (sums touched : List ℕ) (count block amount : ℕ) (tracked : IsTracked sums touched count) (low : block < 256) (some : 0 < amount) where
+  pub tracked_room : slice_index sums block ≡ 0 → count < 256
+  tracked_room z =
+      let size = tracked.blocks in
+      let room = present_room sums block (omega arith) z in
+      let number = tracked.number in
+      omega arith
+
+  after_positive : present (slice_index sums block + amount) ≡ 1
+  after_positive = present-positive (slice_index sums block + amount) (omega arith)
+
+  more_present : total present (slice_set sums block (slice_index sums block + amount)) + present (slice_index sums block) ≡ total present sums + 1
+  more_present =
+      let size = tracked.blocks in
+      let more = total-set present sums block (slice_index sums block + amount) 0 (omega arith) in
+      let one = after_positive in
+      omega arith
+
+  -- a block that had no sum is listed
+  pub tracked_new : slice_index sums block ≡ 0 → IsTracked (slice_set sums block (slice_index sums block + amount)) (slice_set touched count block) (count + 1)
+  tracked_new z = record {
+    blocks = length-set sums block (slice_index sums block + amount) ∙ tracked.blocks;
+    places = length-set touched count block ∙ tracked.places;
+    number = let more = more_present in let none = present-zero (slice_index sums block) z in let number = tracked.number in omega arith;
+    below = λ i l. below i l (cases_eq i count);
+    listed = λ b h. listed b h (cases_eq b block);
+  }
+    where
+      long : count < length touched
+      long = let room = tracked_room z in let places = tracked.places in omega arith
+
+      below : (i : ℕ) → i < count + 1 → (i ≡ count) ⊎ (i ≢ count) → slice_index (slice_set touched count block) i < 256
+      below i l (inl e) = subst (λ j. slice_index (slice_set touched count block) j < 256) (sym e) (let at = get_or-set_same touched count block 0 long in omega arith)
+      below i l (inr q) = let at = get_or-set_other touched count i block 0 q in let was = tracked.below i (let n : i ≢ count = q in omega arith) in omega arith
+
+      member : (b : ℕ) → is_member nat_eq (take (count + 1) (slice_set touched count block)) b ≡ (is_member nat_eq (take count touched) b || (nat_eq b block || false))
+      member b = ap (λ xs. is_member nat_eq xs b) (take_more_set touched count block long) ∙ list_any-append (nat_eq b) (take count touched) (block ∷ [])
+
+      listed : (b : ℕ) → 0 < slice_index (slice_set sums block (slice_index sums block + amount)) b → (b ≡ block) ⊎ (b ≢ block) → is_member nat_eq (take (count + 1) (slice_set touched count block)) b ≡ true
+      listed b h (inl e) = member b ∙ ap (λ t. is_member nat_eq (take count touched) b || (t || false)) (eq-eqb b block e) ∙ or-true (is_member nat_eq (take count touched) b)
+      listed b h (inr q) =
+          let at = get_or-set_other sums block b (slice_index sums block + amount) 0 q in
+          member b ∙ ap (λ t. t || (nat_eq b block || false)) (tracked.listed b (omega arith))
+
+  -- a block that had a sum is listed already
+  pub tracked_old : 0 < slice_index sums block → IsTracked (slice_set sums block (slice_index sums block + amount)) touched count
+  tracked_old h = record {
+    blocks = length-set sums block (slice_index sums block + amount) ∙ tracked.blocks;
+    places = tracked.places;
+    number = let more = more_present in let one = present-positive (slice_index sums block) h in let number = tracked.number in omega arith;
+    below = tracked.below;
+    listed = λ b k. listed b k (cases_eq b block);
+  }
+    where
+      listed : (b : ℕ) → 0 < slice_index (slice_set sums block (slice_index sums block + amount)) b → (b ≡ block) ⊎ (b ≢ block) → is_member nat_eq (take count touched) b ≡ true
+      listed b k (inl e) = subst (λ c. is_member nat_eq (take count touched) c ≡ true) (sym e) (tracked.listed block h)
+      listed b k (inr q) = tracked.listed b (let at = get_or-set_other sums block b (slice_index sums block + amount) 0 q in omega arith)
+
+-- a sum to which nothing is added
+pub same_sum : (sums : List ℕ) (block amount : ℕ) → amount ≡ 0 → sums ≡ slice_set sums block (slice_index sums block + amount)
+same_sum sums block amount z = sym (ap (λ x. slice_set sums block x) (let e : slice_index sums block + amount ≡ slice_index sums block = omega arith in e) ∙ set-get_or sums block 0)
+
+-- ---- the blocks of the first pins
+
+pub touched_more : (p pins : List ℕ) (i b : ℕ) → i < length pins → nat_lt 0 (pins_in p (take (i + 1) pins) b) ≡ (nat_lt 0 (pins_in p (take i pins) b) || nat_eq (block_of p (slice_index pins i)) b)
+touched_more p pins i b l = by (cases_eq (block_of p (slice_index pins i)) b)
+  where
+    more : pins_in p (take (i + 1) pins) b ≡ pins_in p (take i pins) b + weight_if (block_of p (slice_index pins i)) b 1
+    more = total-take_more (λ u. weight_if (block_of p u) b 1) pins i 0 l
+
+    by : (block_of p (slice_index pins i) ≡ b) ⊎ (block_of p (slice_index pins i) ≢ b) → nat_lt 0 (pins_in p (take (i + 1) pins) b) ≡ (nat_lt 0 (pins_in p (take i pins) b) || nat_eq (block_of p (slice_index pins i)) b)
+    by (inl e) =
+        let one = weight_if-same (block_of p (slice_index pins i)) b 1 e in
+        let m = more in
+        lt-ltb 0 (pins_in p (take (i + 1) pins) b) (omega arith)
+        ∙ sym (ap (λ t. nat_lt 0 (pins_in p (take i pins) b) || t) (eq-eqb (block_of p (slice_index pins i)) b e) ∙ or-true (nat_lt 0 (pins_in p (take i pins) b)))
+    by (inr q) =
+        let none = weight_if-other (block_of p (slice_index pins i)) b 1 q in
+        let m = more in
+        ap (nat_lt 0) (let e : pins_in p (take (i + 1) pins) b ≡ pins_in p (take i pins) b = omega arith in e)
+        ∙ sym (ap (λ t. nat_lt 0 (pins_in p (take i pins) b) || t) (ne_eqb (block_of p (slice_index pins i)) b q) ∙ or-false (nat_lt 0 (pins_in p (take i pins) b)))
+
+-- a pin whose block was touched before, or isn't b, touches b no more than the pins before it
+pub touched_kept : (p pins : List ℕ) (i b : ℕ) → i < length pins → (block_of p (slice_index pins i) ≡ b → nat_lt 0 (pins_in p (take i pins) b) ≡ true) → nat_lt 0 (pins_in p (take (i + 1) pins) b) ≡ nat_lt 0 (pins_in p (take i pins) b)
+touched_kept p pins i b l old = touched_more p pins i b l ∙ by (cases_eq (block_of p (slice_index pins i)) b)
+  where
+    by : (block_of p (slice_index pins i) ≡ b) ⊎ (block_of p (slice_index pins i) ≢ b) → (nat_lt 0 (pins_in p (take i pins) b) || nat_eq (block_of p (slice_index pins i)) b) ≡ nat_lt 0 (pins_in p (take i pins) b)
+    by (inl e) = ap (λ t. t || nat_eq (block_of p (slice_index pins i)) b) (old e) ∙ sym (old e)
+    by (inr q) = ap (λ t. nat_lt 0 (pins_in p (take i pins) b) || t) (ne_eqb (block_of p (slice_index pins i)) b q) ∙ or-false (nat_lt 0 (pins_in p (take i pins) b))
+
+pub touched_now : (p pins : List ℕ) (i b : ℕ) → i < length pins → block_of p (slice_index pins i) ≡ b → nat_lt 0 (pins_in p (take (i + 1) pins) b) ≡ true
+touched_now p pins i b l e = touched_more p pins i b l ∙ ap (λ t. nat_lt 0 (pins_in p (take i pins) b) || t) (eq-eqb (block_of p (slice_index pins i)) b e) ∙ or-true (nat_lt 0 (pins_in p (take i pins) b))
+
+-- one mark
+pub marked_before : (seen : List ℕ) (stamp block : ℕ) → IsBefore seen (stamp + 1) → block < 256 → IsBefore (slice_set seen block stamp) (stamp + 1)
+marked_before seen stamp block before low = record {
+  size = length-set seen block stamp ∙ before.size;
+  all = λ b l. by b l (cases_eq b block);
+}
+  where
+    by : (b : ℕ) → b < 256 → (b ≡ block) ⊎ (b ≢ block) → slice_index (slice_set seen block stamp) b < stamp + 1
+    by b l (inl e) = subst (λ c. slice_index (slice_set seen block stamp) c < stamp + 1) (sym e) (let at = get_or-set_same seen block stamp 0 (let s = before.size in omega arith) in omega arith)
+    by b l (inr q) = let at = get_or-set_other seen block b stamp 0 q in let was = before.all b l in omega arith
+
+-- a block without pins adds nothing
+pub amount_all : (o : Objective) (w : ℕ) (p pins : List ℕ) (b : ℕ) → (if nat_lt 0 (pins_in p pins b) then amount_for o w p pins b else 0) ≡ amount_for o w p pins b
+amount_all o w p pins b = by (nat_lt 0 (pins_in p pins b)) refl
+  where
+    none : (q : Objective) → w * saved q 0 (length pins) ≡ 0
+    none Connectivity = omega arith
+    none CutNet = omega arith
+    none ExternalDegree = omega arith
+
+    by : (t : Bool) → nat_lt 0 (pins_in p pins b) ≡ t → (if t then amount_for o w p pins b else 0) ≡ amount_for o w p pins b
+    by true e = refl
+    by false e =
+        let r = ltb-false 0 (pins_in p pins b) e in
+        let z : pins_in p pins b ≡ 0 = omega arith in
+        sym (ap (λ c. w * saved o c (length pins)) z ∙ none o)
+
+-- what is added at a block, where nothing was added before
+pub amount_first : (p pins : List ℕ) (i b : ℕ) (o : Objective) (w : ℕ) → nat_lt 0 (pins_in p (take i pins) b) ≡ false → (if nat_lt 0 (pins_in p (take i pins) b) then amount_for o w p pins b else 0) ≡ 0
+amount_first p pins i b o w e = ap (λ t. if t then amount_for o w p pins b else 0) e
+
+pub amount_now : (p pins : List ℕ) (i b : ℕ) (o : Objective) (w : ℕ) → nat_lt 0 (pins_in p (take i pins) b) ≡ true → (if nat_lt 0 (pins_in p (take i pins) b) then amount_for o w p pins b else 0) ≡ amount_for o w p pins b
+amount_now p pins i b o w e = ap (λ t. if t then amount_for o w p pins b else 0) e
+
+pub amount_is : (o : Objective) (w s count size : ℕ) (p pins : List ℕ) (b : ℕ) → s ≡ saved o count size → count ≡ pins_in p pins b → size ≡ length pins → w * s ≡ amount_for o w p pins b
+amount_is o w s count size p pins b is ec es = ap (λ x. w * x) is ∙ ap (λ x. w * saved o x size) ec ∙ ap (λ x. w * saved o (pins_in p pins b) x) es
+
+-- the sums after a pin in a block that was not touched yet
+pub sums_step :
+  (p pins : List ℕ) (i block from : ℕ) (o : Objective) (w amount : ℕ) (sums first : List ℕ) → i < length pins → block ≡ block_of p (slice_index pins i) → block < length sums → amount ≡ amount_for o w p pins block
+  → nat_lt 0 (pins_in p (take i pins) block) ≡ false
+  → ((b : ℕ) → b ≢ from → slice_index sums b ≡ slice_index first b + (if nat_lt 0 (pins_in p (take i pins) b) then amount_for o w p pins b else 0))
+  → (b : ℕ) → b ≢ from → slice_index (slice_set sums block (slice_index sums block + amount)) b ≡ slice_index first b + (if nat_lt 0 (pins_in p (take (i + 1) pins) b) then amount_for o w p pins b else 0)
+sums_step p pins i block from o w amount sums first l is inside same new known b q = by (cases_eq b block)
+  where
+    by : (b ≡ block) ⊎ (b ≢ block) → slice_index (slice_set sums block (slice_index sums block + amount)) b ≡ slice_index first b + (if nat_lt 0 (pins_in p (take (i + 1) pins) b) then amount_for o w p pins b else 0)
+    by (inl e) =
+        subst (λ c. slice_index (slice_set sums block (slice_index sums block + amount)) c ≡ slice_index first c + (if nat_lt 0 (pins_in p (take (i + 1) pins) c) then amount_for o w p pins c else 0)) (sym e)
+        (let at = get_or-set_same sums block (slice_index sums block + amount) 0 inside in
+          let was = known block (subst (λ c. c ≢ from) e q) in
+          let none = amount_first p pins i block o w new in
+          let now = amount_now p pins (i + 1) block o w (touched_now p pins i block l (sym is)) in
+          omega arith)
+    by (inr r) =
+        get_or-set_other sums block b (slice_index sums block + amount) 0 r
+        ∙ known b q
+        ∙ ap (λ t. slice_index first b + (if t then amount_for o w p pins b else 0)) (sym (touched_kept p pins i b l (λ e. absurd (r (sym e ∙ sym is)))))
+
+-- the marks after it
+pub marks_step :
+  (p pins : List ℕ) (i block from : ℕ) (seen : List ℕ) (stamp : ℕ) → i < length pins → block ≡ block_of p (slice_index pins i) → IsBefore seen (stamp + 1) → block < 256
+  → ((b : ℕ) → b < 256 → b ≢ from → nat_eq (slice_index seen b) stamp ≡ nat_lt 0 (pins_in p (take i pins) b))
+  → (b : ℕ) → b < 256 → b ≢ from → nat_eq (slice_index (slice_set seen block stamp) b) stamp ≡ nat_lt 0 (pins_in p (take (i + 1) pins) b)
+marks_step p pins i block from seen stamp l is before low known b m q = by (cases_eq b block)
+  where
+    by : (b ≡ block) ⊎ (b ≢ block) → nat_eq (slice_index (slice_set seen block stamp) b) stamp ≡ nat_lt 0 (pins_in p (take (i + 1) pins) b)
+    by (inl e) =
+        eq-eqb (slice_index (slice_set seen block stamp) b) stamp (ap (slice_index (slice_set seen block stamp)) e ∙ get_or-set_same seen block stamp 0 (let s = before.size in omega arith))
+        ∙ sym (touched_now p pins i b l (sym is ∙ sym e))
+    by (inr r) =
+        ap (λ x. nat_eq x stamp) (get_or-set_other seen block b stamp 0 r)
+        ∙ known b m q
+        ∙ sym (touched_kept p pins i b l (λ e. absurd (r (sym e ∙ sym is))))

@@ -1,0 +1,92 @@
+//! Scores of the moves of one vertex: what its nets save for each block that they touch.
+
+ghost use Rattle.std.specs.Prelude.{◌≡◌, ◌≢◌, ℕ, ◌+◌, ◌*◌, ◌/◌, ◌<◌, ◌≤◌, ◌^◌, All, length, slice_index, slice_set, replicate};
+ghost use Rattle.hg_base.specs.Packed.{IsWidth, fields_of};
+ghost use Rattle.hg_defs.specs.Pins.{pins_in};
+ghost use Rattle.pin_plain.specs.Counts.{count_at};
+ghost use Rattle.pin_plain.specs.Scores.{IsTracked, IsBefore, amount_for};
+
+use crate::counts::count;
+use crate::gains::saved;
+use hg_base::Objective;
+
+/// A sum for each block, and the list of those that aren't 0.
+#[derive(Drop)]
+pub struct Scores {
+    sums: [u64; 256],
+    touched: [u32; 256],
+    count: usize,
+    /// The number of the net that last touched the block, in the order in which they are scored.
+    seen: [u64; 256],
+    stamp: u64,
+}
+
+/// A net as its moves are scored: its pins, and where its counts stand.
+pub struct Scored<'a> {
+    pub objective: Objective,
+    pub weight: u64,
+    pub pins: &'a [u32],
+    pub start: u32,
+    pub bits: u32,
+}
+
+impl Scores {
+    /// Adds an amount to the sum of a block.
+    fn add(&mut self, block: u32, amount: u64)
+        requires tracked { IsTracked self.old.sums self.old.touched self.old.count }
+        requires block { block < 256 }
+        requires room { slice_index self.old.sums block + amount < 2 ^ 64 }
+        ensures tracked { IsTracked self.new.sums self.new.touched self.new.count }
+        ensures sums { self.new.sums ≡ slice_set self.old.sums block (slice_index self.old.sums block + amount) }
+        ensures seen { self.new.seen ≡ self.old.seen }
+        ensures stamp { self.new.stamp ≡ self.old.stamp }
+    {
+        if amount == 0 {
+            return;
+        }
+        let sum = self.sums[block as usize];
+        if sum == 0 {
+            self.touched[self.count] = block;
+            self.count += 1;
+        }
+        self.sums[block as usize] = sum + amount;
+    }
+
+    /// Adds what a net saves for each block of its pins but `from`, pin by pin.
+    fn add_by_pins(&mut self, net: &Scored<'_>, blocks: &[u32], words: &[u64], from: u32)
+        requires tracked { IsTracked self.old.sums self.old.touched self.old.count }
+        requires fresh { IsBefore self.old.seen self.old.stamp }
+        requires width { IsWidth net.now.bits }
+        requires few { length words.now < 2 ^ 32 }
+        requires small { length net.now.pins.now ≤ 2 ^ 25 }
+        requires pins { All (λ v. v < length blocks.now) net.now.pins.now }
+        requires blocks { All (λ b. b < 256) blocks.now }
+        requires inside { All (λ b. net.now.start + b / fields_of net.now.bits < length words.now) blocks.now }
+        requires counts { All (λ b. count_at words.now net.now.start net.now.bits b ≡ pins_in blocks.now net.now.pins.now b) blocks.now }
+        requires room {
+            (b : ℕ) → slice_index self.old.sums b + amount_for net.now.objective net.now.weight blocks.now net.now.pins.now b < 2 ^ 64
+        }
+        ensures tracked { IsTracked self.new.sums self.new.touched self.new.count }
+        ensures sums {
+            (b : ℕ) → b ≢ from
+            → slice_index self.new.sums b ≡ slice_index self.old.sums b + amount_for net.now.objective net.now.weight blocks.now net.now.pins.now b
+        }
+        ensures own { slice_index self.new.sums from ≡ slice_index self.old.sums from }
+        ensures seen { IsBefore self.new.seen (self.old.stamp + 1) }
+        ensures stamp { self.new.stamp ≡ self.old.stamp }
+    {
+        let size = net.pins.len() as u32;
+        for v in net.pins {
+            let block = blocks[*v as usize];
+            if block == from {
+                continue;
+            }
+            if self.seen[block as usize] == self.stamp {
+                continue;
+            }
+            self.seen[block as usize] = self.stamp;
+            let pins = count(words, net.start, net.bits, block);
+            self.add(block, net.weight * saved(net.objective, pins, size));
+        }
+    }
+}
