@@ -1,16 +1,17 @@
 -- Laws of the sums that are kept for blocks.
-use Rattle.std.proofs.Common.{◌≡◌, ◌≢◌, ◌⊎◌, inl, inr, ℕ, zero, suc, ◌+◌, ◌-◌, ◌*◌, ◌<◌, ◌≤◌, Bool, true, false, ◌||◌, if◌then◌else◌, nat_eq, nat_lt, List, [], ◌∷◌, ◌++◌, length, take, get_or, slice_index, slice_set, All, refl, sym, ap, subst, ◌∙◌, arith}
+use Rattle.std.proofs.Common.{◌≡◌, ◌≢◌, ◌⊎◌, inl, inr, ℕ, zero, suc, ◌+◌, ◌-◌, ◌*◌, ◌<◌, ◌≤◌, Bool, true, false, ◌||◌, ◌&&◌, nat_le, if◌then◌else◌, nat_eq, nat_lt, List, [], ◌∷◌, ◌++◌, length, take, get_or, slice_index, slice_set, All, refl, sym, ap, subst, ◌∙◌, arith}
 use Rattle.std.proofs.Math.Bool.{or-true, or-false}
 use Rattle.std.proofs.lemmas.List.{length-set, get_or-set_same, get_or-set_other, take_more_set, take-set, set-get_or}
 use Rattle.std.proofs.lemmas.List.Folds.{list_any-append}
-use Rattle.std.proofs.lemmas.Bool.{cases_eq, cases_lt, eq-eqb, ne_eqb, eqb-true, eqb-false, ltb-true, ltb-false, lt-ltb}
+use Rattle.std.proofs.lemmas.List.Elements.{All-head, All-tail}
+use Rattle.std.proofs.lemmas.Bool.{cases_eq, cases_lt, eq-eqb, ne_eqb, eqb-true, eqb-false, ltb-true, ltb-false, lt-ltb, leb-true, leb-false, le-leb}
 use Rattle.std.specs.Set.{is_member}
 use Rattle.hg_defs.specs.Sums.{total}
 use Rattle.hg_defs.specs.Partition.{block_of}
 use Rattle.hg_defs.specs.Pins.{pins_in, present}
 use Rattle.hg_defs.proofs.SumLaws.{total-set, total-le, total-ones, total-take_more, weight_if, weight_if-same, weight_if-other}
 use Rattle.hg_defs.proofs.DistinctLaws.{present-le, present-zero, present-positive}
-use Rattle.pin_plain.specs.Scores.{IsTracked, IsBefore, amount_for}
+use Rattle.pin_plain.specs.Scores.{IsTracked, IsBefore, amount_for, is_between}
 use Rattle.pin_plain.specs.Savings.{saved}
 use Rattle.hg_defs.specs.declared.objective.Objective.{Objective}
 use Rattle.hg_defs.specs.declared.objective.Objective.TheVariants.{Connectivity, CutNet, ExternalDegree}
@@ -192,3 +193,117 @@ marks_step p pins i block from seen stamp l is before low known b m q = by (case
         ap (λ x. nat_eq x stamp) (get_or-set_other seen block b stamp 0 r)
         ∙ known b m q
         ∙ sym (touched_kept p pins i b l (λ e. absurd (r (sym e ∙ sym is))))
+
+-- ---- ranges of blocks
+
+between_none : (a b x : ℕ) → (if is_between a 0 b then x else 0) ≡ 0
+between_none a b x = by (nat_le a b) (nat_lt b (a + 0)) refl refl
+  where
+    by : (s t : Bool) → nat_le a b ≡ s → nat_lt b (a + 0) ≡ t → (if s && t then x else 0) ≡ 0
+    by true true e f = let p = leb-true a b e in let q = ltb-true b (a + 0) f in absurd (omega arith)
+    by true false e f = refl
+    by false t e f = refl
+
+between_more : (a n m b x : ℕ) → (if is_between a n b then x else 0) + (if is_between (a + n) m b then x else 0) ≡ (if is_between a (n + m) b then x else 0)
+between_more a n m b x = by (nat_le a b) (nat_lt b (a + n)) (nat_le (a + n) b) (nat_lt b (a + n + m)) (nat_lt b (a + (n + m))) refl refl refl refl refl
+  where
+    by : (s t u v w : Bool) → nat_le a b ≡ s → nat_lt b (a + n) ≡ t → nat_le (a + n) b ≡ u → nat_lt b (a + n + m) ≡ v → nat_lt b (a + (n + m)) ≡ w
+        → (if s && t then x else 0) + (if u && v then x else 0) ≡ (if s && w then x else 0)
+    by true true true v w e f g h i = let p = ltb-true b (a + n) f in let q = leb-true (a + n) b g in absurd (omega arith)
+    by true true false v true e f g h i = omega arith
+    by true true false v false e f g h i = let p = ltb-true b (a + n) f in let q = ltb-false b (a + (n + m)) i in absurd (omega arith)
+    by true false true true true e f g h i = omega arith
+    by true false true true false e f g h i = let p = ltb-true b (a + n + m) h in let q = ltb-false b (a + (n + m)) i in absurd (omega arith)
+    by true false true false true e f g h i = let p = ltb-false b (a + n + m) h in let q = ltb-true b (a + (n + m)) i in absurd (omega arith)
+    by true false true false false e f g h i = omega arith
+    by true false false v w e f g h i = let p = ltb-false b (a + n) f in let q = leb-false (a + n) b g in absurd (omega arith)
+    by false t true v w e f g h i = let p = leb-false a b e in let q = leb-true (a + n) b g in absurd (omega arith)
+    by false t false v w e f g h i = omega arith
+
+between_one : (a b x : ℕ) → (if is_between a 1 b then x else 0) ≡ (if nat_eq b a then x else 0)
+between_one a b x = by (nat_le a b) (nat_lt b (a + 1)) (nat_eq b a) refl refl refl
+  where
+    by : (s t u : Bool) → nat_le a b ≡ s → nat_lt b (a + 1) ≡ t → nat_eq b a ≡ u → (if s && t then x else 0) ≡ (if u then x else 0)
+    by true true true e f g = refl
+    by true true false e f g = let p = leb-true a b e in let q = ltb-true b (a + 1) f in let r = eqb-false b a g in absurd (r (omega arith))
+    by true false true e f g = let q = ltb-false b (a + 1) f in let r = eqb-true b a g in absurd (omega arith)
+    by true false false e f g = refl
+    by false t true e f g = let p = leb-false a b e in let r = eqb-true b a g in absurd (omega arith)
+    by false t false e f g = refl
+
+pub between_past : (a n x : ℕ) → (if is_between a n (a + n) then x else 0) ≡ 0
+between_past a n x = by (nat_le a (a + n)) (nat_lt (a + n) (a + n)) refl
+  where
+    by : (s t : Bool) → nat_lt (a + n) (a + n) ≡ t → (if s && t then x else 0) ≡ 0
+    by true true e = let p = ltb-true (a + n) (a + n) e in absurd (omega arith)
+    by true false e = refl
+    by false t e = refl
+
+pub amount_zero : (o : Objective) (w : ℕ) (p pins : List ℕ) (b : ℕ) → pins_in p pins b ≡ 0 → amount_for o w p pins b ≡ 0
+amount_zero o w p pins b z = sym (amount_all o w p pins b) ∙ ap (λ n. if nat_lt 0 n then amount_for o w p pins b else 0) z
+
+-- a block with a pin is one of the blocks
+pub block_low : (p pins : List ℕ) (b : ℕ) → All (λ v. v < length p) pins → All (λ c. c < 256) p → 0 < pins_in p pins b → b < 256
+block_low p [] b low blocks some = absurd (omega arith)
+block_low p (v ∷ pins) b low blocks some = by (cases_eq (block_of p v) b) (block_low p pins b (All-tail (λ u. u < length p) v pins low) blocks)
+  where
+    by : (block_of p v ≡ b) ⊎ (block_of p v ≢ b) → (0 < pins_in p pins b → b < 256) → b < 256
+    by (inl e) r = subst (λ c. c < 256) e (blocks v 0 (All-head (λ u. u < length p) v pins low))
+    by (inr q) r = r (let none = weight_if-other (block_of p v) b 1 q in omega arith)
+
+-- the sums after the block at a place of a word
+pub word_step :
+  (o : Objective) (w amount : ℕ) (p pins : List ℕ) (first place from : ℕ) (sums before : List ℕ) → first + place < length sums → amount ≡ amount_for o w p pins (first + place)
+  → ((b : ℕ) → b ≢ from → slice_index sums b ≡ slice_index before b + (if is_between first place b then amount_for o w p pins b else 0))
+  → (b : ℕ) → b ≢ from → slice_index (slice_set sums (first + place) (slice_index sums (first + place) + amount)) b ≡ slice_index before b + (if is_between first (place + 1) b then amount_for o w p pins b else 0)
+word_step o w amount p pins first place from sums before inside same known b q = by (cases_eq b (first + place))
+  where
+    more : (if is_between first place b then amount_for o w p pins b else 0) + (if nat_eq b (first + place) then amount_for o w p pins b else 0) ≡ (if is_between first (place + 1) b then amount_for o w p pins b else 0)
+    more = let a = between_more first place 1 b (amount_for o w p pins b) in let c = between_one (first + place) b (amount_for o w p pins b) in omega arith
+
+    by : (b ≡ first + place) ⊎ (b ≢ first + place) → slice_index (slice_set sums (first + place) (slice_index sums (first + place) + amount)) b ≡ slice_index before b + (if is_between first (place + 1) b then amount_for o w p pins b else 0)
+    by (inl e) =
+        let at = ap (slice_index (slice_set sums (first + place) (slice_index sums (first + place) + amount))) e ∙ get_or-set_same sums (first + place) (slice_index sums (first + place) + amount) 0 inside in
+        let here = ap (slice_index sums) e in
+        let was = known b q in
+        let m = more in
+        let one : (if nat_eq b (first + place) then amount_for o w p pins b else 0) ≡ amount_for o w p pins b = ap (λ t. if t then amount_for o w p pins b else 0) (eq-eqb b (first + place) e) in
+        let a = same ∙ sym (ap (amount_for o w p pins) e) in
+        omega arith
+    by (inr r) =
+        let at = get_or-set_other sums (first + place) b (slice_index sums (first + place) + amount) 0 r in
+        let was = known b q in
+        let m = more in
+        let none : (if nat_eq b (first + place) then amount_for o w p pins b else 0) ≡ 0 = ap (λ t. if t then amount_for o w p pins b else 0) (ne_eqb b (first + place) r) in
+        omega arith
+
+-- the blocks of a whole word
+pub words_more : (o : Objective) (w : ℕ) (p pins : List ℕ) (i f b : ℕ) → (if is_between 0 (i * f) b then amount_for o w p pins b else 0) + (if is_between (i * f) f b then amount_for o w p pins b else 0) ≡ (if is_between 0 ((i + 1) * f) b then amount_for o w p pins b else 0)
+words_more o w p pins i f b =
+    let e : (i + 1) * f ≡ i * f + f = omega arith in
+    let z : 0 + i * f ≡ i * f = omega arith in
+    let m = between_more 0 (i * f) f b (amount_for o w p pins b) in
+    let a = ap (λ n. if is_between n f b then amount_for o w p pins b else 0) z in
+    let c = ap (λ n. if is_between 0 n b then amount_for o w p pins b else 0) e in
+    omega arith
+
+-- a word of counts of 0
+pub words_none : (o : Objective) (w : ℕ) (p pins : List ℕ) (i f b : ℕ) → ((place : ℕ) → place < f → pins_in p pins (i * f + place) ≡ 0) → (if is_between (i * f) f b then amount_for o w p pins b else 0) ≡ 0
+words_none o w p pins i f b none = by (nat_le (i * f) b) (nat_lt b (i * f + f)) refl refl
+  where
+    by : (s t : Bool) → nat_le (i * f) b ≡ s → nat_lt b (i * f + f) ≡ t → (if s && t then amount_for o w p pins b else 0) ≡ 0
+    by true true e g =
+        let from = leb-true (i * f) b e in
+        let to = ltb-true b (i * f + f) g in
+        let at : i * f + (b - i * f) ≡ b = omega arith in
+        amount_zero o w p pins b (ap (pins_in p pins) (sym at) ∙ none (b - i * f) (omega arith))
+    by true false e g = refl
+    by false t e g = refl
+
+pub words_all : (o : Objective) (w : ℕ) (p pins : List ℕ) (n b : ℕ) → (n ≤ b → pins_in p pins b ≡ 0) → (if is_between 0 n b then amount_for o w p pins b else 0) ≡ amount_for o w p pins b
+words_all o w p pins n b past =
+    ap (λ t. if t && nat_lt b (0 + n) then amount_for o w p pins b else 0) (le-leb 0 b (omega arith)) ∙ by (nat_lt b (0 + n)) refl
+  where
+    by : (t : Bool) → nat_lt b (0 + n) ≡ t → (if t then amount_for o w p pins b else 0) ≡ amount_for o w p pins b
+    by true e = refl
+    by false e = let r = ltb-false b (0 + n) e in sym (amount_zero o w p pins b (past (omega arith)))

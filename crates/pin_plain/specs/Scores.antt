@@ -1,5 +1,5 @@
 -- The sums that are kept for the blocks while the moves of one vertex are scored.
-use Rattle.std.specs.Prelude.{◌≡◌, ℕ, ◌*◌, ◌<◌, List, length, take, slice_index, nat_eq, true}
+use Rattle.std.specs.Prelude.{◌≡◌, ℕ, ◌+◌, ◌*◌, ◌<◌, List, length, take, slice_index, Bool, true, ◌&&◌, nat_eq, nat_lt, nat_le}
 use Rattle.std.specs.Set.{is_member}
 use Rattle.hg_defs.specs.declared.objective.Objective.{Objective}
 use Rattle.hg_defs.specs.Sums.{total}
@@ -22,3 +22,7 @@ pub record IsBefore (seen : List ℕ) (stamp : ℕ) : Type 0 where
 -- what a net saves where one of its pins goes to a block
 abbrev pub amount_for : Objective → ℕ → List ℕ → List ℕ → ℕ → ℕ
 amount_for o weight p pins b = weight * saved o (pins_in p pins b) (length pins)
+
+-- whether a number is one of n from a first one on
+abbrev pub is_between : ℕ → ℕ → ℕ → Bool
+is_between first n b = nat_le first b && nat_lt b (first + n)
