@@ -178,7 +178,7 @@ module _ (h : Hyper) (k : ℕ) (p words new : List ℕ) (e start bits : ℕ) (pi
 -- ---- one pin moved
 
 -- two blocks have no more pins than there are
-pins_in-two : (p pins : List ℕ) (a b k : ℕ) → a < k → b < k → b ≢ a → All (λ v. block_of p v < k) pins → pins_in p pins a + pins_in p pins b ≤ length pins
+pub pins_in-two : (p pins : List ℕ) (a b k : ℕ) → a < k → b < k → b ≢ a → All (λ v. block_of p v < k) pins → pins_in p pins a + pins_in p pins b ≤ length pins
 pins_in-two p pins a b k l m q low =
     let sum = pins_in-sum k p pins low in
     let two = two_within (pins_in p pins) k a b l m q in

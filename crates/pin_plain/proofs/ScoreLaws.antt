@@ -1,19 +1,25 @@
 -- Laws of what nets save and lose: by the counts that are read, and their bounds.
-use Rattle.std.proofs.Common.{◌≡◌, ◌≢◌, ◌⊎◌, inl, inr, ℕ, zero, suc, ◌+◌, ◌-◌, ◌*◌, ◌/◌, ◌<◌, ◌≤◌, ◌^◌, Bool, true, false, not, ◌&&◌, if◌then◌else◌, nat_eq, nat_lt, List, [], ◌∷◌, length, filter, All, take, get_or, slice_index, refl, sym, ap, subst, ◌∙◌, arith}
+use Rattle.std.proofs.Common.{◌≡◌, ◌≢◌, ◌⊎◌, inl, inr, ℕ, zero, suc, ◌+◌, ◌-◌, ◌*◌, ◌/◌, ◌%◌, ◌<◌, ◌≤◌, ◌^◌, Bool, true, false, not, ◌&&◌, if◌then◌else◌, nat_eq, nat_lt, List, [], ◌∷◌, length, filter, All, take, drop, get_or, slice_index, refl, sym, ap, subst, ◌∙◌, arith}
 use Rattle.std.specs.List.{range_with_len}
-use Rattle.hg_base.specs.Packed.{fields_of, bits_of}
+use Rattle.hg_base.specs.Packed.{fields_of, bits_of, words_of, field}
 use Rattle.hg_defs.specs.declared.objective.Objective.{Objective}
 use Rattle.hg_defs.specs.declared.objective.Objective.TheVariants.{Connectivity, CutNet, ExternalDegree}
 use Rattle.hg_defs.specs.Sums.{total, sum_below}
 use Rattle.hg_defs.specs.Hypergraph.{Net, Hyper, IsWithinLimits, net_count, net_of, total_net_weight}
 use Rattle.hg_defs.specs.Pins.{pins_in, present}
 use Rattle.hg_defs.proofs.SumLaws.{total-filter, total-le, total-scale, total-range, total-by_index, total-take-le, total_more-le}
-use Rattle.hg_defs.proofs.DistinctLaws.{present-le, present-zero}
+use Rattle.hg_defs.specs.Partition.{block_of}
+use Rattle.hg_defs.proofs.DistinctLaws.{present-le, present-zero, blocks_of_pins}
 use Rattle.incidence.specs.Incidence.{is_on, nets_of}
 use Rattle.pin_plain.specs.Counts.{count_at, net_bits, net_words, net_start, counts_of}
 use Rattle.pin_plain.specs.Savings.{joined, left, parted, saved, lost, net_saved, net_lost}
 use Rattle.pin_plain.specs.Parted.{IsTold}
-use Rattle.pin_plain.proofs.CountLaws.{fields_enough, all_words-le, part_inside, count_same}
+use Rattle.pin_plain.proofs.CountLaws.{fields_enough, all_words-le, part_inside, count_same, net_part, pins_in-two}
+use Rattle.pin_plain.proofs.TallyLaws.{none_past}
+use Rattle.std.proofs.lemmas.List.{length-drop, length-take-le, get_or-take, get_or-drop}
+use Rattle.std.proofs.lemmas.Nat.{div-mul-add, mod-mul-add}
+use Rattle.std.proofs.Math.Nat.{mul-le-mul_right}
+use Rattle.std.proofs.lemmas.Bool.{cases_lt}
 
 -- ---- a count that is read
 
@@ -124,3 +130,87 @@ saved_none h p b e z = ap (λ c. (net_of h e).weight * saved h.objective c (leng
     by Connectivity = omega arith
     by CutNet = omega arith
     by ExternalDegree = omega arith
+
+-- ---- the words of one net
+
+split_div : (i f place : ℕ) → place < f → (i * f + place) / f ≡ i
+split_div i f place l = div-mul-add i f place l
+
+split_mod : (i f place : ℕ) → place < f → (i * f + place) % f ≡ place
+split_mod i f place l = mod-mul-add i f place l
+
+module _ (h : Hyper) (k : ℕ) (p starts words : List ℕ) (told : IsTold h k p starts words) (e start count bits : ℕ) (pins : List ℕ) (net : e < net_count h) (is : pins ≡ (net_of h e).pins) (width : bits ≡ bits_of (length pins)) (at : start ≡ slice_index starts e) (size : count ≡ words_of (length pins) k) where
+  part_start : start ≡ net_start h k e
+  part_start = at ∙ told.laid.starts_at e net
+
+  part_size : count ≡ net_words h k e
+  part_size = size ∙ ap (λ ps. words_of (length ps) k) is
+
+  part_bits : bits ≡ net_bits h e
+  part_bits = width ∙ ap (λ ps. bits_of (length ps)) is
+
+  pub part_within : start + count ≤ length words
+  part_within =
+      let part = net_part h k e net in
+      let all = told.laid.all in
+      let a = part_start in
+      let b = part_size in
+      omega arith
+
+  pub length-part : length (take (start + count - start) (drop start words)) ≡ count
+  length-part =
+      let within = part_within in
+      let left = length-drop start words in
+      let n : start + count - start ≡ count = omega arith in
+      length-take-le (start + count - start) (drop start words) (omega arith) ∙ n
+
+  fields_same : fields_of bits ≡ fields_of (net_bits h e)
+  fields_same = ap fields_of part_bits
+
+  pub part_counts : (i place : ℕ) → i < length (take (start + count - start) (drop start words)) → place < fields_of bits → field (slice_index (take (start + count - start) (drop start words)) i) bits place ≡ pins_in p pins (i * fields_of bits + place)
+  part_counts i place l m =
+      let len = length-part in
+      let inside : i < count = omega arith in
+      let f = fields_of bits in
+      let taken = get_or-take (start + count - start) (drop start words) i 0 (omega arith) ∙ get_or-drop start words i 0 in
+      let low : i * fields_of (net_bits h e) + place < net_words h k e * fields_of (net_bits h e) =
+          subst (λ g. i * g + place < net_words h k e * g) fields_same (subst (λ w. i * fields_of bits + place < w * fields_of bits) part_size (within_product i count (fields_of bits) place inside m)) in
+      let held = told.counted e (i * fields_of (net_bits h e) + place) net low in
+      ap (λ w. field w bits place) taken
+      ∙ ap (λ x. field (slice_index words (start + x)) bits place) (sym (split_div i f place m))
+      ∙ ap (λ x. field (slice_index words (start + (i * f + place) / f)) bits x) (sym (split_mod i f place m))
+      ∙ count_same h k e start bits part_start part_bits words (i * f + place)
+      ∙ ap (λ g. count_at words (net_start h k e) (net_bits h e) (i * g + place)) fields_same
+      ∙ held
+      ∙ ap (λ ps. pins_in p ps (i * fields_of (net_bits h e) + place)) (sym is)
+      ∙ ap (λ g. pins_in p pins (i * g + place)) (sym fields_same)
+    where
+      within_product : (i n f place : ℕ) → i < n → place < f → i * f + place < n * f
+      within_product i n f place l m =
+          let a = mul-le-mul_right f (let x : suc i ≤ n = l in x) in
+          let b : suc i * f ≡ i * f + f = omega arith in
+          omega arith
+
+  pins_below : All (λ v. v < length p) pins
+  pins_below = subst (λ ps. All (λ v. v < length p) ps) (sym is) (subst (λ n. All (λ v. v < n) (net_of h e).pins) (sym told.parted.partition.vertices) (told.parted.sound.nets e (record { weight = 0; pins = [] }) net).pins)
+
+  pub part_all : (b : ℕ) → length (take (start + count - start) (drop start words)) * fields_of bits ≤ b → pins_in p pins b ≡ 0
+  part_all b past =
+      none_past k p pins b pins_below told.parted.partition.blocks
+      (let enough = fields_enough (length (net_of h e).pins) k in
+        let n : length (take (start + count - start) (drop start words)) * fields_of bits ≡ net_words h k e * fields_of (net_bits h e) = ap (λ x. x * fields_of bits) (length-part ∙ part_size) ∙ ap (λ g. net_words h k e * g) fields_same in
+        omega arith)
+
+  -- where all pins are in one block, none is in another
+  pub whole_elsewhere : (from b : ℕ) → from < k → b ≢ from → counts_of h p e from ≡ length pins → counts_of h p e b ≡ 0
+  whole_elsewhere from b low other own = by (cases_lt b k)
+    where
+      below : All (λ v. block_of p v < k) (net_of h e).pins
+      below = blocks_of_pins k p (net_of h e).pins told.parted.partition.blocks (subst (λ n. All (λ v. v < n) (net_of h e).pins) (sym told.parted.partition.vertices) (told.parted.sound.nets e (record { weight = 0; pins = [] }) net).pins)
+
+      by : (b < k) ⊎ (k ≤ b) → counts_of h p e b ≡ 0
+      by (inl l) =
+          let two = pins_in-two p (net_of h e).pins from b k low l other below in
+          let len = ap length is in
+          omega arith
+      by (inr g) = none_past k p (net_of h e).pins b (subst (λ n. All (λ v. v < n) (net_of h e).pins) (sym told.parted.partition.vertices) (told.parted.sound.nets e (record { weight = 0; pins = [] }) net).pins) told.parted.partition.blocks g

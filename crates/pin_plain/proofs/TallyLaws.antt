@@ -45,6 +45,16 @@ module _ (sums touched : List ℕ) (count block amount : ℕ) (tracked : IsTrack
       let one = after_positive in
       omega arith
 
+  more_positive : (b : ℕ) → block < length sums → 0 < slice_index (slice_set sums block (slice_index sums block + amount)) block
+  more_positive b l = let at = get_or-set_same sums block (slice_index sums block + amount) 0 l in omega arith
+
+  kept_positive : (b : ℕ) → 0 < slice_index sums b → 0 < slice_index (slice_set sums block (slice_index sums block + amount)) b
+  kept_positive b h = by (cases_eq b block)
+    where
+      by : (b ≡ block) ⊎ (b ≢ block) → 0 < slice_index (slice_set sums block (slice_index sums block + amount)) b
+      by (inl e) = subst (λ c. 0 < slice_index (slice_set sums block (slice_index sums block + amount)) c) (sym e) (more_positive block (let size = tracked.blocks in omega arith))
+      by (inr q) = let at = get_or-set_other sums block b (slice_index sums block + amount) 0 q in omega arith
+
   -- a block that had no sum is listed
   pub tracked_new : slice_index sums block ≡ 0 → IsTracked (slice_set sums block (slice_index sums block + amount)) (slice_set touched count block) (count + 1)
   tracked_new z = record {
@@ -52,6 +62,7 @@ module _ (sums touched : List ℕ) (count block amount : ℕ) (tracked : IsTrack
     places = length-set touched count block ∙ tracked.places;
     number = let more = more_present in let none = present-zero (slice_index sums block) z in let number = tracked.number in omega arith;
     below = λ i l. below i l (cases_eq i count);
+    real = λ i l. real i l (cases_eq i count);
     listed = λ b h. listed b h (cases_eq b block);
   }
     where
@@ -61,6 +72,15 @@ module _ (sums touched : List ℕ) (count block amount : ℕ) (tracked : IsTrack
       below : (i : ℕ) → i < count + 1 → (i ≡ count) ⊎ (i ≢ count) → slice_index (slice_set touched count block) i < 256
       below i l (inl e) = subst (λ j. slice_index (slice_set touched count block) j < 256) (sym e) (let at = get_or-set_same touched count block 0 long in omega arith)
       below i l (inr q) = let at = get_or-set_other touched count i block 0 q in let was = tracked.below i (let n : i ≢ count = q in omega arith) in omega arith
+
+      real : (i : ℕ) → i < count + 1 → (i ≡ count) ⊎ (i ≢ count) → 0 < slice_index (slice_set sums block (slice_index sums block + amount)) (slice_index (slice_set touched count block) i)
+      real i l (inl e) =
+          let at = ap (slice_index (slice_set touched count block)) e ∙ get_or-set_same touched count block 0 long in
+          subst (λ x. 0 < slice_index (slice_set sums block (slice_index sums block + amount)) x) (sym at) (more_positive block (let size = tracked.blocks in omega arith))
+      real i l (inr q) =
+          let at = get_or-set_other touched count i block 0 q in
+          let m : i < count = let n : i ≢ count = q in omega arith in
+          subst (λ x. 0 < slice_index (slice_set sums block (slice_index sums block + amount)) x) (sym at) (kept_positive (slice_index touched i) (tracked.real i m))
 
       member : (b : ℕ) → is_member nat_eq (take (count + 1) (slice_set touched count block)) b ≡ (is_member nat_eq (take count touched) b || (nat_eq b block || false))
       member b = ap (λ xs. is_member nat_eq xs b) (take_more_set touched count block long) ∙ list_any-append (nat_eq b) (take count touched) (block ∷ [])
@@ -78,6 +98,7 @@ module _ (sums touched : List ℕ) (count block amount : ℕ) (tracked : IsTrack
     places = tracked.places;
     number = let more = more_present in let one = present-positive (slice_index sums block) h in let number = tracked.number in omega arith;
     below = tracked.below;
+    real = λ i l. kept_positive (slice_index touched i) (tracked.real i l);
     listed = λ b k. listed b k (cases_eq b block);
   }
     where
@@ -243,13 +264,23 @@ pub amount_zero : (o : Objective) (w : ℕ) (p pins : List ℕ) (b : ℕ) → pi
 amount_zero o w p pins b z = sym (amount_all o w p pins b) ∙ ap (λ n. if nat_lt 0 n then amount_for o w p pins b else 0) z
 
 -- a block with a pin is one of the blocks
-pub block_low : (p pins : List ℕ) (b : ℕ) → All (λ v. v < length p) pins → All (λ c. c < 256) p → 0 < pins_in p pins b → b < 256
-block_low p [] b low blocks some = absurd (omega arith)
-block_low p (v ∷ pins) b low blocks some = by (cases_eq (block_of p v) b) (block_low p pins b (All-tail (λ u. u < length p) v pins low) blocks)
+pub block_below : (k : ℕ) (p pins : List ℕ) (b : ℕ) → All (λ v. v < length p) pins → All (λ c. c < k) p → 0 < pins_in p pins b → b < k
+block_below k p [] b low blocks some = absurd (omega arith)
+block_below k p (v ∷ pins) b low blocks some = by (cases_eq (block_of p v) b) (block_below k p pins b (All-tail (λ u. u < length p) v pins low) blocks)
   where
-    by : (block_of p v ≡ b) ⊎ (block_of p v ≢ b) → (0 < pins_in p pins b → b < 256) → b < 256
-    by (inl e) r = subst (λ c. c < 256) e (blocks v 0 (All-head (λ u. u < length p) v pins low))
+    by : (block_of p v ≡ b) ⊎ (block_of p v ≢ b) → (0 < pins_in p pins b → b < k) → b < k
+    by (inl e) r = subst (λ c. c < k) e (blocks v 0 (All-head (λ u. u < length p) v pins low))
     by (inr q) r = r (let none = weight_if-other (block_of p v) b 1 q in omega arith)
+
+pub block_low : (p pins : List ℕ) (b : ℕ) → All (λ v. v < length p) pins → All (λ c. c < 256) p → 0 < pins_in p pins b → b < 256
+block_low p pins b = block_below 256 p pins b
+
+pub none_past : (k : ℕ) (p pins : List ℕ) (b : ℕ) → All (λ v. v < length p) pins → All (λ c. c < k) p → k ≤ b → pins_in p pins b ≡ 0
+none_past k p pins b low blocks past = by (cases_eq (pins_in p pins b) 0)
+  where
+    by : (pins_in p pins b ≡ 0) ⊎ (pins_in p pins b ≢ 0) → pins_in p pins b ≡ 0
+    by (inl e) = e
+    by (inr q) = let r = block_below k p pins b low blocks (let n : pins_in p pins b ≢ 0 = q in omega arith) in absurd (omega arith)
 
 -- the sums after the block at a place of a word
 pub word_step :

@@ -1,15 +1,23 @@
 //! Scores of the moves of one vertex: what its nets save for each block that they touch.
 
-ghost use Rattle.std.specs.Prelude.{◌≡◌, ◌≢◌, ℕ, ◌+◌, ◌*◌, ◌/◌, ◌<◌, ◌≤◌, ◌^◌, All, length, slice_index, slice_set, replicate, if◌then◌else◌};
+ghost use Rattle.std.specs.Prelude.{◌≡◌, ◌≢◌, ℕ, ◌+◌, ◌*◌, ◌/◌, ◌<◌, ◌≤◌, ◌^◌, All, length, slice_index, slice_set, replicate, if◌then◌else◌, IsTrue, ◌↔◌, IfSome};
+ghost use Rattle.std.specs.Option.{ForSome};
 ghost use Rattle.hg_base.specs.Packed as packed;
 ghost use Rattle.hg_base.specs.Packed.{IsWidth, fields_of};
 ghost use Rattle.hg_defs.specs.Pins.{pins_in};
+ghost use Rattle.hg_defs.specs.Sums.{total};
+ghost use Rattle.hg_defs.specs.Hypergraph.{vertex_count, net_count};
+ghost use Rattle.hg_defs.specs.Partition.{block_of};
+ghost use Rattle.incidence.specs.Incidence.{nets_of};
 ghost use Rattle.pin_plain.specs.Counts.{count_at};
-ghost use Rattle.pin_plain.specs.Scores.{IsTracked, IsBefore, amount_for, is_between};
+ghost use Rattle.pin_plain.specs.Savings.{net_saved, net_lost};
+ghost use Rattle.pin_plain.specs.Parted.{IsTold};
+ghost use Rattle.pin_plain.specs.Scores.{IsTracked, IsBefore, IsClear, IsHigher, IsTop, amount_for, is_between};
 
 use crate::counts::count;
-use crate::gains::saved;
-use hg_base::{Objective, field};
+use crate::gains::{lost, saved};
+use hg_base::{Objective, bits_of, field, words_of};
+use incidence::Hypergraph;
 
 /// A sum for each block, and the list of those that aren't 0.
 #[derive(Drop)]
@@ -23,12 +31,24 @@ pub struct Scores {
 }
 
 /// A net as its moves are scored: its pins, and where its counts stand.
+#[derive(Drop)]
 pub struct Scored<'a> {
     pub objective: Objective,
     pub weight: u64,
     pub pins: &'a [u32],
     pub start: u32,
     pub bits: u32,
+}
+
+/// What a partition into `k` blocks lends to those who score moves: its hypergraph, its blocks, and
+/// its pin counts.
+#[derive(Drop)]
+pub struct Lent<'a> {
+    pub h: &'a Hypergraph,
+    pub k: u32,
+    pub blocks: &'a [u32],
+    pub starts: &'a [u32],
+    pub words: &'a [u64],
 }
 
 impl Scores {
@@ -169,5 +189,132 @@ impl Scores {
             }
             self.add_word(net, blocks, word, i as u32 * fields, from);
         }
+    }
+
+    /// Adds what a net saves for each block but `from`, and answers what it loses where a pin leaves `from`.
+    ///
+    /// Blocks are found by the pins or by the words of the counts, whichever are fewer.
+    fn add_net(&mut self, lent: &Lent<'_>, e: u32, from: u32) -> u64
+        requires tracked { IsTracked self.old.sums self.old.touched self.old.count }
+        requires fresh { IsBefore self.old.seen self.old.stamp }
+        requires stamp { self.old.stamp < 2 ^ 63 }
+        requires told { IsTold lent.now.h.now lent.now.k lent.now.blocks.now lent.now.starts.now lent.now.words.now }
+        requires net { e < net_count lent.now.h.now }
+        requires from { from < lent.now.k }
+        requires room { (b : ℕ) → slice_index self.old.sums b + net_saved lent.now.h.now lent.now.blocks.now b e < 2 ^ 64 }
+        ensures lost { result ≡ net_lost lent.now.h.now lent.now.blocks.now from e }
+        ensures tracked { IsTracked self.new.sums self.new.touched self.new.count }
+        ensures sums {
+            (b : ℕ) → b ≢ from
+            → slice_index self.new.sums b ≡ slice_index self.old.sums b + net_saved lent.now.h.now lent.now.blocks.now b e
+        }
+        ensures own { slice_index self.new.sums from ≡ slice_index self.old.sums from }
+        ensures seen { IsBefore self.new.seen self.new.stamp }
+        ensures stamp { self.new.stamp ≤ self.old.stamp + 1 }
+    {
+        let pins = lent.h.pins(e);
+        let size = pins.len() as u32;
+        let net = Scored {
+            objective: lent.h.objective(),
+            weight: lent.h.net_weight(e),
+            pins,
+            start: lent.starts[e as usize],
+            bits: bits_of(size),
+        };
+        let own = count(lent.words, net.start, net.bits, from);
+        let loss = net.weight * lost(net.objective, own, size);
+        if own == size {
+            return loss;
+        }
+        let words = words_of(size, lent.k);
+        if size < words {
+            self.add_by_pins(&net, lent.blocks, lent.words, from);
+            self.stamp += 1;
+        } else {
+            let start = net.start as usize;
+            self.add_by_words(&net, lent.blocks, &lent.words[start..start + words as usize], from);
+        }
+        loss
+    }
+
+    /// Scores the moves of a vertex, and answers what its nets lose where it leaves its block. The sums are
+    /// then what they save at each other block.
+    fn score(&mut self, lent: &Lent<'_>, v: u32) -> u64
+        requires clear { IsClear self.old.sums }
+        requires tracked { IsTracked self.old.sums self.old.touched self.old.count }
+        requires fresh { IsBefore self.old.seen self.old.stamp }
+        requires stamp { self.old.stamp ≤ 2 ^ 62 }
+        requires told { IsTold lent.now.h.now lent.now.k lent.now.blocks.now lent.now.starts.now lent.now.words.now }
+        requires vertex { v < vertex_count lent.now.h.now }
+        ensures lost { result ≡ total (net_lost lent.now.h.now lent.now.blocks.now (block_of lent.now.blocks.now v)) (nets_of lent.now.h.now v) }
+        ensures bound { result < 2 ^ 55 }
+        ensures tracked { IsTracked self.new.sums self.new.touched self.new.count }
+        ensures sums {
+            (b : ℕ) → b ≢ block_of lent.now.blocks.now v
+            → slice_index self.new.sums b ≡ total (net_saved lent.now.h.now lent.now.blocks.now b) (nets_of lent.now.h.now v)
+        }
+        ensures own { slice_index self.new.sums (block_of lent.now.blocks.now v) ≡ 0 }
+        ensures seen { IsBefore self.new.seen self.new.stamp }
+        ensures stamp { self.new.stamp ≤ self.old.stamp + 2 ^ 22 }
+    {
+        let from = lent.blocks[v as usize];
+        let mut loss = 0;
+        for e in lent.h.nets_of(v) {
+            loss += self.add_net(lent, *e, from);
+        }
+        loss
+    }
+
+    /// The block with room for a weight whose sum is the highest above the loss, the lowest one at a tie.
+    fn top(&self, loads: &[u64], limit: u64, weight: u64, from: u32, loss: u64) -> Option<u32>
+        requires tracked { IsTracked self.now.sums self.now.touched self.now.count }
+        requires past { (b : ℕ) → length loads.now ≤ b → slice_index self.now.sums b ≡ 0 }
+        requires loads { All (λ load. load + weight < 2 ^ 64) loads.now }
+        ensures { IsTop self.now.sums loads.now limit weight from loss result }
+    {
+        let mut best: Option<u32> = None;
+        for i in 0..self.count {
+            let block = self.touched[i];
+            if block == from {
+                continue;
+            }
+            if loads[block as usize] + weight > limit {
+                continue;
+            }
+            if self.is_higher(block, best, loss) {
+                best = Some(block);
+            }
+        }
+        best
+    }
+
+    /// Whether a block comes before the best one so far.
+    fn is_higher(&self, block: u32, best: Option<u32>, loss: u64) -> bool
+        requires block { block < 256 }
+        requires best { ForSome best (λ a. a < 256) }
+        ensures { IsTrue result ↔ IsHigher self.now.sums loss best block }
+    {
+        let sum = self.sums[block as usize];
+        match best {
+            None => sum > loss,
+            Some(other) => {
+                let bar = self.sums[other as usize];
+                sum > bar || sum == bar && block < other
+            }
+        }
+    }
+
+    /// Sets all sums back to 0.
+    fn clear(&mut self)
+        requires tracked { IsTracked self.old.sums self.old.touched self.old.count }
+        ensures clear { IsClear self.new.sums }
+        ensures tracked { IsTracked self.new.sums self.new.touched self.new.count }
+        ensures seen { self.new.seen ≡ self.old.seen }
+        ensures stamp { self.new.stamp ≡ self.old.stamp }
+    {
+        for i in 0..self.count {
+            self.sums[self.touched[i] as usize] = 0;
+        }
+        self.count = 0;
     }
 }
