@@ -1,5 +1,5 @@
 -- Laws of what nets save and lose: by the counts that are read, and their bounds.
-use Rattle.std.proofs.Common.{◌≡◌, ◌≢◌, ◌⊎◌, inl, inr, ℕ, zero, suc, ◌+◌, ◌-◌, ◌*◌, ◌/◌, ◌%◌, ◌<◌, ◌≤◌, ◌^◌, Bool, true, false, not, ◌&&◌, if◌then◌else◌, nat_eq, nat_lt, List, [], ◌∷◌, length, filter, All, take, drop, get_or, slice_index, refl, sym, ap, subst, ◌∙◌, arith}
+use Rattle.std.proofs.Common.{◌≡◌, ◌≢◌, ◌⊎◌, inl, inr, ℕ, zero, suc, ◌+◌, ◌-◌, ◌*◌, ◌/◌, ◌%◌, ◌<◌, ◌≤◌, ◌^◌, Bool, true, false, cond, not, ◌&&◌, if◌then◌else◌, nat_eq, nat_lt, List, [], ◌∷◌, length, filter, All, take, drop, get_or, slice_index, refl, sym, ap, subst, ◌∙◌, arith}
 use Rattle.std.specs.List.{range_with_len}
 use Rattle.hg_base.specs.Packed.{fields_of, bits_of, words_of, field}
 use Rattle.hg_defs.specs.declared.objective.Objective.{Objective}
@@ -19,7 +19,8 @@ use Rattle.pin_plain.proofs.TallyLaws.{none_past}
 use Rattle.std.proofs.lemmas.List.{length-drop, length-take-le, get_or-take, get_or-drop}
 use Rattle.std.proofs.lemmas.Nat.{div-mul-add, mod-mul-add}
 use Rattle.std.proofs.Math.Nat.{mul-le-mul_right}
-use Rattle.std.proofs.lemmas.Bool.{cases_lt}
+use Rattle.std.proofs.lemmas.Bool.{cases_lt, cases_eq}
+use Rattle.std.proofs.lemmas.List.FromFn.{length-range_with_len}
 
 -- ---- a count that is read
 
@@ -214,3 +215,27 @@ module _ (h : Hyper) (k : ℕ) (p starts words : List ℕ) (told : IsTold h k p 
           let len = ap length is in
           omega arith
       by (inr g) = none_past k p (net_of h e).pins b (subst (λ n. All (λ v. v < n) (net_of h e).pins) (sym told.parted.partition.vertices) (told.parted.sound.nets e (record { weight = 0; pins = [] }) net).pins) told.parted.partition.blocks g
+
+-- ---- all nets of a vertex
+
+length_filter-le : (test : ℕ → Bool) (xs : List ℕ) → length (filter test xs) ≤ length xs
+length_filter-le test [] = omega arith
+length_filter-le test (x ∷ xs) = by (test x) (length_filter-le test xs)
+  where
+    by : (t : Bool) → length (filter test xs) ≤ length xs → length (cond t (x ∷ filter test xs) (filter test xs)) ≤ suc (length xs)
+    by true r = omega arith
+    by false r = omega arith
+
+pub nets_few : (h : Hyper) (v : ℕ) → length (nets_of h v) ≤ net_count h
+nets_few h v = let a = length_filter-le (is_on h v) (range_with_len 0 (net_count h)) in let b = length-range_with_len 0 (net_count h) in omega arith
+
+-- a sum so far has room for what the next net saves
+pub room_for :
+  (h : Hyper) (p : List ℕ) (b from v i : ℕ) (nets sums : List ℕ) → IsWithinLimits h → nets ≡ nets_of h v → i < length nets → slice_index sums from ≡ 0
+  → ((c : ℕ) → c ≢ from → slice_index sums c ≡ total (net_saved h p c) (take i nets))
+  → slice_index sums b + net_saved h p b (slice_index nets i) < 2 ^ 64
+room_for h p b from v i nets sums bounds is l own known = by (cases_eq b from)
+  where
+    by : (b ≡ from) ⊎ (b ≢ from) → slice_index sums b + net_saved h p b (slice_index nets i) < 2 ^ 64
+    by (inl e) = let z = ap (slice_index sums) e ∙ own in let bound = saved_so_far h p b v i nets bounds is l in omega arith
+    by (inr q) = let now = known b q in let bound = saved_so_far h p b v i nets bounds is l in omega arith

@@ -1,17 +1,17 @@
 -- Laws of the sums that are kept for blocks.
-use Rattle.std.proofs.Common.{◌≡◌, ◌≢◌, ◌⊎◌, inl, inr, ℕ, zero, suc, ◌+◌, ◌-◌, ◌*◌, ◌<◌, ◌≤◌, Bool, true, false, ◌||◌, ◌&&◌, nat_le, if◌then◌else◌, nat_eq, nat_lt, List, [], ◌∷◌, ◌++◌, length, take, get_or, slice_index, slice_set, All, refl, sym, ap, subst, ◌∙◌, arith}
+use Rattle.std.proofs.Common.{◌≡◌, ◌≢◌, ◌⊎◌, inl, inr, ℕ, zero, suc, ◌+◌, ◌-◌, ◌*◌, ◌<◌, ◌≤◌, Bool, true, false, ◌||◌, ◌&&◌, nat_le, if◌then◌else◌, nat_eq, nat_lt, List, [], ◌∷◌, ◌++◌, length, take, get_or, slice_index, slice_set, All, Option, Some, None, refl, sym, ap, subst, ◌∙◌, arith, true≢false}
 use Rattle.std.proofs.Math.Bool.{or-true, or-false}
-use Rattle.std.proofs.lemmas.List.{length-set, get_or-set_same, get_or-set_other, take_more_set, take-set, set-get_or}
-use Rattle.std.proofs.lemmas.List.Folds.{list_any-append}
+use Rattle.std.proofs.lemmas.List.{length-set, get_or-set_same, get_or-set_other, take_more_set, set-get_or, get_or_default}
+use Rattle.std.proofs.lemmas.List.Folds.{list_any-append, list_any_more}
 use Rattle.std.proofs.lemmas.List.Elements.{All-head, All-tail}
 use Rattle.std.proofs.lemmas.Bool.{cases_eq, cases_lt, eq-eqb, ne_eqb, eqb-true, eqb-false, ltb-true, ltb-false, lt-ltb, leb-true, leb-false, le-leb}
 use Rattle.std.specs.Set.{is_member}
 use Rattle.hg_defs.specs.Sums.{total}
 use Rattle.hg_defs.specs.Partition.{block_of}
 use Rattle.hg_defs.specs.Pins.{pins_in, present}
-use Rattle.hg_defs.proofs.SumLaws.{total-set, total-le, total-ones, total-take_more, weight_if, weight_if-same, weight_if-other}
+use Rattle.hg_defs.proofs.SumLaws.{total-set, total-zero, total-le, total-ones, total-take_more, weight_if, weight_if-same, weight_if-other}
 use Rattle.hg_defs.proofs.DistinctLaws.{present-le, present-zero, present-positive}
-use Rattle.pin_plain.specs.Scores.{IsTracked, IsBefore, amount_for, is_between}
+use Rattle.pin_plain.specs.Scores.{IsTracked, IsBefore, IsClear, IsTarget, IsHigher, IsTopAmong, amount_for, is_between}
 use Rattle.pin_plain.specs.Savings.{saved}
 use Rattle.hg_defs.specs.declared.objective.Objective.{Objective}
 use Rattle.hg_defs.specs.declared.objective.Objective.TheVariants.{Connectivity, CutNet, ExternalDegree}
@@ -338,3 +338,117 @@ words_all o w p pins n b past =
     by : (t : Bool) → nat_lt b (0 + n) ≡ t → (if t then amount_for o w p pins b else 0) ≡ amount_for o w p pins b
     by true e = refl
     by false e = let r = ltb-false b (0 + n) e in sym (amount_zero o w p pins b (past (omega arith)))
+
+-- ---- the list of touched blocks
+
+pub tracked_count : (sums touched : List ℕ) (count : ℕ) → IsTracked sums touched count → count ≤ 256
+tracked_count sums touched count tracked =
+    let most = total-le present (λ x. 1) sums (λ j d m. present-le (get_or sums j d)) in
+    let all = total-ones sums in
+    let size = tracked.blocks in
+    let number = tracked.number in
+    omega arith
+
+-- without sums nothing is listed
+pub tracked_none : (sums touched : List ℕ) → length sums ≡ 256 → length touched ≡ 256 → IsClear sums → IsTracked sums touched 0
+tracked_none sums touched size places clear = record {
+  blocks = size;
+  places = places;
+  number = sym (total-zero present sums (λ i d l. present-zero (get_or sums i d) (get_or_default sums i d 0 l ∙ clear i)));
+  below = λ i l. absurd (omega arith);
+  real = λ i l. absurd (omega arith);
+  listed = λ b h. let z = clear b in absurd (omega arith);
+}
+
+pub clear_after : (first sums touched : List ℕ) (count : ℕ) → IsTracked first touched count → ((b : ℕ) → slice_index sums b ≤ slice_index first b) → ((b : ℕ) → is_member nat_eq (take count touched) b ≡ true → slice_index sums b ≡ 0) → IsClear sums
+clear_after first sums touched count tracked less cleared b = by (cases_eq (slice_index sums b) 0)
+  where
+    by : (slice_index sums b ≡ 0) ⊎ (slice_index sums b ≢ 0) → slice_index sums b ≡ 0
+    by (inl e) = e
+    by (inr q) = cleared b (tracked.listed b (let l = less b in let n : slice_index sums b ≢ 0 = q in omega arith))
+
+-- ---- the best of the first blocks
+
+member_more : (touched : List ℕ) (i b : ℕ) → i < length touched → is_member nat_eq (take (i + 1) touched) b ≡ true → (is_member nat_eq (take i touched) b ≡ true) ⊎ (b ≡ slice_index touched i)
+member_more touched i b l h = by (is_member nat_eq (take i touched) b) (nat_eq b (slice_index touched i)) refl refl (sym (list_any_more (nat_eq b) touched i 0 l) ∙ h)
+  where
+    by : (s t : Bool) → is_member nat_eq (take i touched) b ≡ s → nat_eq b (slice_index touched i) ≡ t → (s || t) ≡ true → (is_member nat_eq (take i touched) b ≡ true) ⊎ (b ≡ slice_index touched i)
+    by true t e f g = inl e
+    by false true e f g = inr (eqb-true b (slice_index touched i) f)
+    by false false e f g = absurd (true≢false (sym g))
+
+module _ (sums loads : List ℕ) (limit weight from loss : ℕ) (touched : List ℕ) (i : ℕ) (inside : i < length touched) where
+  -- a block that is no target, or isn't higher, leaves the best one
+  pub top_kept : (best : Option ℕ) → (IsTarget loads limit weight from (slice_index touched i) → IsHigher sums loss best (slice_index touched i) → ⊥) → IsTopAmong sums loads limit weight from loss (take i touched) best → IsTopAmong sums loads limit weight from loss (take (i + 1) touched) best
+  top_kept None none top = λ b m t. by b t (member_more touched i b inside m)
+    where
+      by : (b : ℕ) → IsTarget loads limit weight from b → (is_member nat_eq (take i touched) b ≡ true) ⊎ (b ≡ slice_index touched i) → slice_index sums b ≤ loss
+      by b t (inl q) = top b q t
+      by b t (inr e) = at (cases_lt loss (slice_index sums b))
+        where
+          at : (loss < slice_index sums b) ⊎ (slice_index sums b ≤ loss) → slice_index sums b ≤ loss
+          at (inl h) = absurd (none (subst (IsTarget loads limit weight from) e t) (subst (λ c. loss < slice_index sums c) e h))
+          at (inr g) = g
+  top_kept (Some a) none top =
+      (top.0, top.1, λ b m t. least b t (member_more touched i b inside m), λ b m l t. first b l t (member_more touched i b inside m))
+    where
+      not_higher : (b : ℕ) → b ≡ slice_index touched i → IsTarget loads limit weight from b → (slice_index sums a < slice_index sums b) ⊎ ((slice_index sums b ≡ slice_index sums a) × (b < a)) → ⊥
+      not_higher b e t h = none (subst (IsTarget loads limit weight from) e t) (subst (λ c. (slice_index sums a < slice_index sums c) ⊎ ((slice_index sums c ≡ slice_index sums a) × (c < a))) e h)
+
+      least : (b : ℕ) → IsTarget loads limit weight from b → (is_member nat_eq (take i touched) b ≡ true) ⊎ (b ≡ slice_index touched i) → slice_index sums b ≤ slice_index sums a
+      least b t (inl q) = top.2 b q t
+      least b t (inr e) = at (cases_lt (slice_index sums a) (slice_index sums b))
+        where
+          at : (slice_index sums a < slice_index sums b) ⊎ (slice_index sums b ≤ slice_index sums a) → slice_index sums b ≤ slice_index sums a
+          at (inl h) = absurd (not_higher b e t (inl h))
+          at (inr g) = g
+
+      first : (b : ℕ) → b < a → IsTarget loads limit weight from b → (is_member nat_eq (take i touched) b ≡ true) ⊎ (b ≡ slice_index touched i) → slice_index sums b < slice_index sums a
+      first b l t (inl q) = top.3 b q l t
+      first b l t (inr e) = at (cases_lt (slice_index sums b) (slice_index sums a))
+        where
+          at : (slice_index sums b < slice_index sums a) ⊎ (slice_index sums a ≤ slice_index sums b) → slice_index sums b < slice_index sums a
+          at (inl h) = h
+          at (inr g) = let less = least b t (inr e) in absurd (not_higher b e t (inr (omega arith, l)))
+
+  -- a higher target is the best one
+  pub top_taken : (best : Option ℕ) → IsTarget loads limit weight from (slice_index touched i) → IsHigher sums loss best (slice_index touched i) → IsTopAmong sums loads limit weight from loss (take i touched) best → IsTopAmong sums loads limit weight from loss (take (i + 1) touched) (Some (slice_index touched i))
+  top_taken None target higher top =
+      (target, higher, λ b m t. least b t (member_more touched i b inside m), λ b m l t. first b l t (member_more touched i b inside m))
+    where
+      least : (b : ℕ) → IsTarget loads limit weight from b → (is_member nat_eq (take i touched) b ≡ true) ⊎ (b ≡ slice_index touched i) → slice_index sums b ≤ slice_index sums (slice_index touched i)
+      least b t (inl q) = let was = top b q t in omega arith
+      least b t (inr e) = let same = ap (slice_index sums) e in omega arith
+
+      first : (b : ℕ) → b < slice_index touched i → IsTarget loads limit weight from b → (is_member nat_eq (take i touched) b ≡ true) ⊎ (b ≡ slice_index touched i) → slice_index sums b < slice_index sums (slice_index touched i)
+      first b l t (inl q) = let was = top b q t in omega arith
+      first b l t (inr e) = absurd (omega arith)
+  top_taken (Some a) target higher top =
+      (target, above higher, λ b m t. least b t (member_more touched i b inside m), λ b m l t. first b l t (member_more touched i b inside m))
+    where
+      no_less : (slice_index sums a < slice_index sums (slice_index touched i)) ⊎ ((slice_index sums (slice_index touched i) ≡ slice_index sums a) × (slice_index touched i < a)) → slice_index sums a ≤ slice_index sums (slice_index touched i)
+      no_less (inl h) = omega arith
+      no_less (inr h) = let e = h.0 in omega arith
+
+      above : (slice_index sums a < slice_index sums (slice_index touched i)) ⊎ ((slice_index sums (slice_index touched i) ≡ slice_index sums a) × (slice_index touched i < a)) → loss < slice_index sums (slice_index touched i)
+      above h = let n = no_less h in let t = top.1 in omega arith
+
+      least : (b : ℕ) → IsTarget loads limit weight from b → (is_member nat_eq (take i touched) b ≡ true) ⊎ (b ≡ slice_index touched i) → slice_index sums b ≤ slice_index sums (slice_index touched i)
+      least b t (inl q) = let was = top.2 b q t in let n = no_less higher in omega arith
+      least b t (inr e) = let same = ap (slice_index sums) e in omega arith
+
+      first : (b : ℕ) → b < slice_index touched i → IsTarget loads limit weight from b → (is_member nat_eq (take i touched) b ≡ true) ⊎ (b ≡ slice_index touched i) → slice_index sums b < slice_index sums (slice_index touched i)
+      first b l t (inl q) = by higher
+        where
+          by : (slice_index sums a < slice_index sums (slice_index touched i)) ⊎ ((slice_index sums (slice_index touched i) ≡ slice_index sums a) × (slice_index touched i < a)) → slice_index sums b < slice_index sums (slice_index touched i)
+          by (inl h) = let was = top.2 b q t in omega arith
+          by (inr h) = let e = h.0 in let m = h.1 in let was = top.3 b q (omega arith) t in omega arith
+      first b l t (inr e) = absurd (omega arith)
+
+-- a listed block has a load
+pub target_block : (sums touched loads : List ℕ) (count i : ℕ) → IsTracked sums touched count → i < count → ((b : ℕ) → length loads ≤ b → slice_index sums b ≡ 0) → slice_index touched i < length loads
+target_block sums touched loads count i tracked l past = by (cases_lt (slice_index touched i) (length loads))
+  where
+    by : (slice_index touched i < length loads) ⊎ (length loads ≤ slice_index touched i) → slice_index touched i < length loads
+    by (inl h) = h
+    by (inr g) = let some = tracked.real i l in let none = past (slice_index touched i) g in absurd (omega arith)
