@@ -4,3 +4,5 @@ pub mod CountLaws
 pub mod LoadLaws
 pub mod ScoreLaws
 pub mod TallyLaws
+pub mod BestLaws
+pub mod SweepLaws

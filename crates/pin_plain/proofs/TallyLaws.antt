@@ -1,7 +1,7 @@
 -- Laws of the sums that are kept for blocks.
-use Rattle.std.proofs.Common.{◌≡◌, ◌≢◌, ◌⊎◌, inl, inr, ℕ, zero, suc, ◌+◌, ◌-◌, ◌*◌, ◌<◌, ◌≤◌, Bool, true, false, ◌||◌, ◌&&◌, nat_le, if◌then◌else◌, nat_eq, nat_lt, List, [], ◌∷◌, ◌++◌, length, take, get_or, slice_index, slice_set, All, Option, Some, None, refl, sym, ap, subst, ◌∙◌, arith, true≢false}
+use Rattle.std.proofs.Common.{◌≡◌, ◌≢◌, ◌⊎◌, inl, inr, ℕ, zero, suc, ◌+◌, ◌-◌, ◌*◌, ◌<◌, ◌≤◌, Bool, true, false, ◌||◌, ◌&&◌, nat_le, if◌then◌else◌, nat_eq, nat_lt, List, [], ◌∷◌, ◌++◌, length, take, replicate, get_or, slice_index, slice_set, All, Option, Some, None, refl, sym, ap, subst, ◌∙◌, arith, true≢false}
 use Rattle.std.proofs.Math.Bool.{or-true, or-false}
-use Rattle.std.proofs.lemmas.List.{length-set, get_or-set_same, get_or-set_other, take_more_set, set-get_or, get_or_default}
+use Rattle.std.proofs.lemmas.List.{length-set, get_or-set_same, get_or-set_other, take_more_set, set-get_or, get_or_default, get_or_past, get_or-replicate, length-replicate}
 use Rattle.std.proofs.lemmas.List.Folds.{list_any-append, list_any_more}
 use Rattle.std.proofs.lemmas.List.Elements.{All-head, All-tail}
 use Rattle.std.proofs.lemmas.Bool.{cases_eq, cases_lt, eq-eqb, ne_eqb, eqb-true, eqb-false, ltb-true, ltb-false, lt-ltb, leb-true, leb-false, le-leb}
@@ -11,7 +11,7 @@ use Rattle.hg_defs.specs.Partition.{block_of}
 use Rattle.hg_defs.specs.Pins.{pins_in, present}
 use Rattle.hg_defs.proofs.SumLaws.{total-set, total-zero, total-le, total-ones, total-take_more, weight_if, weight_if-same, weight_if-other}
 use Rattle.hg_defs.proofs.DistinctLaws.{present-le, present-zero, present-positive}
-use Rattle.pin_plain.specs.Scores.{IsTracked, IsBefore, IsClear, IsTarget, IsHigher, IsTopAmong, amount_for, is_between}
+use Rattle.pin_plain.specs.Scores.{IsTracked, IsBefore, IsClear, IsReady, IsTarget, IsHigher, IsTopAmong, amount_for, is_between}
 use Rattle.pin_plain.specs.Savings.{saved}
 use Rattle.hg_defs.specs.declared.objective.Objective.{Objective}
 use Rattle.hg_defs.specs.declared.objective.Objective.TheVariants.{Connectivity, CutNet, ExternalDegree}
@@ -452,3 +452,27 @@ target_block sums touched loads count i tracked l past = by (cases_lt (slice_ind
     by : (slice_index touched i < length loads) ⊎ (length loads ≤ slice_index touched i) → slice_index touched i < length loads
     by (inl h) = h
     by (inr g) = let some = tracked.real i l in let none = past (slice_index touched i) g in absurd (omega arith)
+
+-- ---- the beginning
+
+zeros : (n b : ℕ) → slice_index (replicate n 0) b ≡ 0
+zeros n b = by (cases_lt b n)
+  where
+    by : (b < n) ⊎ (n ≤ b) → slice_index (replicate n 0) b ≡ 0
+    by (inl l) = get_or-replicate n b 0 0 l
+    by (inr g) = get_or_past (replicate n 0) b 0 (subst (λ m. m ≤ b) (sym (length-replicate n 0)) g)
+
+pub ready_zeros : (n : ℕ) → n ≡ 256 → IsReady (replicate n 0) (replicate n 0) 0 (replicate n 0) 1 1
+ready_zeros n e = record {
+  clear = zeros n;
+  tracked = tracked_none (replicate n 0) (replicate n 0) (length-replicate n 0 ∙ e) (length-replicate n 0 ∙ e) (zeros n);
+  fresh = record { size = length-replicate n 0 ∙ e; all = λ b l. let z = zeros n b in omega arith };
+  within = omega arith;
+}
+
+pub sum_inside : (sums : List ℕ) (b loss : ℕ) → length sums ≡ 256 → loss < slice_index sums b → b < 256
+sum_inside sums b loss size h = by (cases_lt b 256)
+  where
+    by : (b < 256) ⊎ (256 ≤ b) → b < 256
+    by (inl l) = l
+    by (inr g) = let z = get_or_past sums b 0 (omega arith) in absurd (omega arith)

@@ -24,6 +24,13 @@ pub record IsBefore (seen : List ℕ) (stamp : ℕ) : Type 0 where
 abbrev pub IsClear : List ℕ → Type 0
 IsClear sums = (b : ℕ) → slice_index sums b ≡ 0
 
+-- nothing is scored, and fewer nets than the bound were scored before
+pub record IsReady (sums touched : List ℕ) (count : ℕ) (seen : List ℕ) (stamp bound : ℕ) : Type 0 where
+  pub clear : IsClear sums
+  pub tracked : IsTracked sums touched count
+  pub fresh : IsBefore seen stamp
+  pub within : stamp ≤ bound
+
 -- the block is another one than `from`, and has room for the weight
 pub record IsTarget (loads : List ℕ) (limit weight from b : ℕ) : Type 0 where
   pub block : b < length loads

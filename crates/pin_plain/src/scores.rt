@@ -1,6 +1,6 @@
 //! Scores of the moves of one vertex: what its nets save for each block that they touch.
 
-ghost use Rattle.std.specs.Prelude.{◌≡◌, ◌≢◌, ℕ, ◌+◌, ◌*◌, ◌/◌, ◌<◌, ◌≤◌, ◌^◌, All, length, slice_index, slice_set, replicate, if◌then◌else◌, IsTrue, ◌↔◌, IfSome};
+ghost use Rattle.std.specs.Prelude.{◌≡◌, ◌≢◌, ℕ, ◌+◌, ◌*◌, ◌/◌, ◌<◌, ◌≤◌, ◌^◌, All, length, slice_index, slice_set, replicate, if◌then◌else◌, IsTrue, ◌↔◌, ◌-◌, pos, IfSome, option_map};
 ghost use Rattle.std.specs.Option.{ForSome};
 ghost use Rattle.hg_base.specs.Packed as packed;
 ghost use Rattle.hg_base.specs.Packed.{IsWidth, fields_of};
@@ -11,12 +11,13 @@ ghost use Rattle.hg_defs.specs.Partition.{block_of};
 ghost use Rattle.incidence.specs.Incidence.{nets_of};
 ghost use Rattle.pin_plain.specs.Counts.{count_at};
 ghost use Rattle.pin_plain.specs.Savings.{net_saved, net_lost};
-ghost use Rattle.pin_plain.specs.Parted.{IsTold};
-ghost use Rattle.pin_plain.specs.Scores.{IsTracked, IsBefore, IsClear, IsHigher, IsTop, amount_for, is_between};
+ghost use Rattle.pin_plain.specs.Parted.{IsTold, IsLoaded};
+ghost use Rattle.hg_defs.specs.Moves.{best_block, gain};
+ghost use Rattle.pin_plain.specs.Scores.{IsTracked, IsBefore, IsClear, IsReady, IsHigher, IsTop, amount_for, is_between};
 
 use crate::counts::count;
 use crate::gains::{lost, saved};
-use hg_base::{Objective, bits_of, field, words_of};
+use hg_base::{FREE, Objective, bits_of, field, words_of};
 use incidence::Hypergraph;
 
 /// A sum for each block, and the list of those that aren't 0.
@@ -235,6 +236,53 @@ impl Scores {
             self.add_by_words(&net, lent.blocks, &lent.words[start..start + words as usize], from);
         }
         loss
+    }
+
+    /// Nothing is scored yet.
+    pub fn new() -> Self
+        ensures { IsReady result.sums result.touched result.count result.seen result.stamp 1 }
+    {
+        Scores {
+            sums: [0; 256],
+            touched: [0; 256],
+            count: 0,
+            seen: [0; 256],
+            stamp: 1,
+        }
+    }
+
+    /// The best block of a vertex, and the gain there, where there is one. Loads are those of the blocks.
+    pub fn best_move(&mut self, lent: &Lent<'_>, loads: &[u64], limit: u64, v: u32) -> Option<(u32, u64)>
+        requires ready { IsReady self.old.sums self.old.touched self.old.count self.old.seen self.old.stamp (2 ^ 22 * v + 1) }
+        requires told { IsTold lent.now.h.now lent.now.k lent.now.blocks.now lent.now.starts.now lent.now.words.now }
+        requires loaded { IsLoaded lent.now.h.now lent.now.k lent.now.blocks.now loads.now }
+        requires vertex { v < vertex_count lent.now.h.now }
+        ensures best { option_map (λ m. m.0) result ≡ best_block lent.now.h.now limit lent.now.blocks.now v lent.now.k }
+        ensures gain { IfSome result (λ m. pos m.1 ≡ gain lent.now.h.now lent.now.blocks.now v m.0) }
+        ensures bound { IfSome result (λ m. m.1 < 2 ^ 55) }
+        ensures ready { IsReady self.new.sums self.new.touched self.new.count self.new.seen self.new.stamp (2 ^ 22 * (v + 1) + 1) }
+    {
+        if lent.h.fix(v) != FREE {
+            return None;
+        }
+        let weight = lent.h.vertex_weight(v);
+        let loss = self.score(lent, v);
+        let best = self.top(loads, limit, weight, lent.blocks[v as usize], loss);
+        let found = self.with_gain(best, loss);
+        self.clear();
+        found
+    }
+
+    /// A block with its sum less the loss.
+    fn with_gain(&self, best: Option<u32>, loss: u64) -> Option<(u32, u64)>
+        requires blocks { length self.now.sums ≡ 256 }
+        requires above { ForSome best (λ b. loss < slice_index self.now.sums b) }
+        ensures { result ≡ option_map (λ b. (b, slice_index self.now.sums b - loss)) best }
+    {
+        match best {
+            None => None,
+            Some(block) => Some((block, self.sums[block as usize] - loss)),
+        }
     }
 
     /// Scores the moves of a vertex, and answers what its nets lose where it leaves its block. The sums are
