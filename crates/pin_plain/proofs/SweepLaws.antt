@@ -1,11 +1,13 @@
 -- Laws of a sweep, vertex by vertex.
-use Rattle.std.proofs.Common.{◌≡◌, ◌≢◌, ◌⊎◌, inl, inr, ℕ, suc, ◌+◌, ◌-◌, ◌<◌, ◌≤◌, List, [], ◌∷◌, ◌++◌, length, refl, sym, ap, subst, ◌∙◌, arith}
+use Rattle.std.proofs.Common.{◌≡◌, ◌≢◌, ◌⊎◌, inl, inr, ℕ, suc, ◌+◌, ◌-◌, ◌<◌, ◌≤◌, List, [], ◌∷◌, ◌++◌, Option, Some, None, option_map, option_to_list, Bool, true, false, nat_lt, length, refl, sym, ap, subst, ◌∙◌, arith}
 use Rattle.std.proofs.lemmas.List.{append_assoc, append-nil, length-append}
 use Rattle.std.specs.List.{range_with_len}
 use Rattle.hg_defs.specs.declared.moves.Move.{Move}
 use Rattle.hg_defs.specs.Hypergraph.{Hyper, vertex_count, vertices}
 use Rattle.hg_defs.specs.Replay.{replay}
-use Rattle.hg_defs.specs.Moves.{IsSettled, visit, visits, sweep}
+use Rattle.hg_defs.specs.Moves.{IsSettled, move_of, best_block, visit, visits, sweep}
+use Rattle.pin_plain.specs.Parted.{Parted}
+use Rattle.std.proofs.lemmas.Bool.{ltb-true}
 use Rattle.hg_defs.proofs.ReplayLaws.{replay-append}
 use Rattle.hg_defs.proofs.MoveLaws.{empty_sweep, settled_sweep}
 
@@ -67,3 +69,32 @@ settled_unmoved h k l p logged now e settled =
     let b = length-append logged (sweep h k l p) in
     let c = ap length (settled_sweep h k l p settled) in
     omega arith
+
+-- ---- one visit, of the partition as it is now
+
+pub same_step : (first now next : Parted) (bs : List ℕ) → now ≡ record first { blocks = now.blocks } → next ≡ record now { blocks = bs } → next ≡ record first { blocks = next.blocks }
+same_step first now next bs e f =
+    f ∙ ap (λ (x : Parted). record x { blocks = bs }) e ∙ ap (λ (b : List ℕ). record first { blocks = b }) (sym (ap (λ (x : Parted). x.blocks) f))
+
+pub visit_more :
+  (h : Hyper) (first now next : Parted) (v : ℕ) (logged items later : List Move) (r : Option Move) → now ≡ record first { blocks = now.blocks } → v < vertex_count h
+  → r ≡ option_map (move_of h now.blocks v) (best_block h now.limit now.blocks v now.k)
+  → next ≡ record now { blocks = replay now.blocks (option_to_list r) }
+  → later ≡ items ++ option_to_list r
+  → IsSweeping h first.k first.limit first.blocks now.blocks v logged items
+  → IsSweeping h first.k first.limit first.blocks next.blocks (v + 1) logged later
+visit_more h first now next v logged items later r same inside made after log s =
+    subst (λ (xs : List Move). IsSweeping h first.k first.limit first.blocks next.blocks (v + 1) logged xs) (sym log)
+    (subst (λ (q : List ℕ). IsSweeping h first.k first.limit first.blocks q (v + 1) logged (items ++ option_to_list r)) (sym (ap (λ (x : Parted). x.blocks) after))
+      (sweeping_more h first.k first.limit first.blocks now.blocks v logged items (option_to_list r) inside
+        (ap option_to_list made
+          ∙ ap (λ (n : ℕ). option_to_list (option_map (move_of h now.blocks v) (best_block h now.limit now.blocks v n))) (ap (λ (x : Parted). x.k) same)
+          ∙ ap (λ (n : ℕ). option_to_list (option_map (move_of h now.blocks v) (best_block h n now.blocks v first.k))) (ap (λ (x : Parted). x.limit) same))
+        s))
+
+pub ltb_no : (a b : ℕ) → b ≤ a → nat_lt a b ≡ false
+ltb_no a b h = by (nat_lt a b) refl
+  where
+    by : (t : Bool) → nat_lt a b ≡ t → t ≡ false
+    by true e = let l = ltb-true a b e in absurd (omega arith)
+    by false e = refl

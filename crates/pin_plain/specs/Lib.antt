@@ -2,3 +2,4 @@ pub mod Counts
 pub mod Savings
 pub mod Parted
 pub mod Scores
+pub mod Settling

@@ -1,17 +1,18 @@
 //! Sweeps over all vertices, until no single move helps.
 
-ghost use Rattle.std.specs.Prelude.{◌≡◌, ◌≢◌, ℕ, ◌+◌, ◌*◌, ◌<◌, ◌≤◌, ◌^◌, List, [], ◌∷◌, ◌++◌, length, pos, false, IsTrue, ◌↔◌, IfOk, IfSome, OnOk, OnErr, option_map, option_to_list};
+ghost use Rattle.std.specs.Prelude.{◌≡◌, ◌≢◌, ℕ, ◌+◌, ◌*◌, ◌<◌, ◌≤◌, ◌^◌, List, [], ◌∷◌, ◌++◌, length, ℤ, pos, ◌-ℤ◌, false, IsTrue, ◌↔◌, IfOk, IfSome, OnOk, OnErr, option_map, option_to_list};
 ghost use Rattle.hg_defs.specs.Hypergraph.{vertex_count};
 ghost use Rattle.hg_defs.specs.Replay.{replay};
 ghost use Rattle.hg_defs.specs.Moves as sweeps;
 ghost use Rattle.hg_defs.specs.Moves.{IsSettled, best_block, gain, move_of};
 ghost use Rattle.pin_plain.specs.Scores.{IsReady};
+ghost use Rattle.pin_plain.specs.Settling.{Settles, BreaksOff};
 
 use crate::partition::Partition;
 use crate::scores::{Lent, Scores};
-use hg_base::{Move, NoMemory};
+use hg_base::{Gains, Move, NoMemory, Verts};
 use incidence::Hypergraph;
-use round_log::Moves;
+use round_log::{Kind, LoggedRound, Moves, RoundList};
 use std::alloc::Global;
 use std::mem;
 
@@ -107,4 +108,75 @@ impl Partition {
         *log = Moves::from_vec(moves);
         Ok(moved)
     }
+
+    /// Sweeps until the partition is settled, and appends a round for each sweep that moved something.
+    /// Answers the number of these rounds.
+    ///
+    /// Where there is no memory, the logged sweeps were made, or one more.
+    pub fn settle(&mut self, alloc: Global, h: &Hypergraph, log: &mut RoundList) -> Result<u64, NoMemory>
+        requires belongs { self.old.hyper ≡ h.now }
+        ensures kept { self.new ≡ record self.old { blocks = self.new.blocks } }
+        ensures ok {
+            IfOk result (Settles h.now self.old.k self.old.limit self.old.blocks self.new.blocks log.old log.new)
+        }
+        ensures err {
+            OnErr result (BreaksOff h.now self.old.k self.old.limit self.old.blocks self.new.blocks log.old log.new)
+        }
+    {
+        let mut before = self.cost(h);
+        let mut rounds = 0;
+        loop {
+            let mut moves = Moves::new(alloc);
+            if !self.sweep(alloc, h, &mut moves)? {
+                return Ok(rounds);
+            }
+            let after = self.cost(h);
+            log.push(swept(alloc, moves, before, after)?)?;
+            rounds += 1;
+            before = after;
+        }
+    }
+}
+
+/// The round of a sweep of the file's hypergraph.
+fn swept(alloc: Global, moves: Moves, before: u64, after: u64) -> Result<LoggedRound, NoMemory>
+    requires few { length moves < 2 ^ 32 }
+    requires lower { after ≤ before }
+    requires small { before < 2 ^ 57 }
+    ensures {
+        IfOk result (λ round. round ≡ record {
+          kind = Kind.Sweep;
+          level = 0;
+          moves = moves;
+          kept = length moves;
+          gains = (pos before -ℤ pos after) ∷ [];
+          before = before;
+          made = after;
+          after = after;
+          first = 0;
+          second = 0;
+          region = [];
+          value = 0;
+          tabled = false;
+        })
+    }
+{
+    let mut gains = Gains::new(alloc);
+    gains.push((before - after) as i64)?;
+    let kept = moves.len() as u32;
+    Ok(LoggedRound {
+        kind: Kind::Sweep,
+        level: 0,
+        moves,
+        kept,
+        gains,
+        before,
+        made: after,
+        after,
+        first: 0,
+        second: 0,
+        region: Verts::new(alloc),
+        value: 0,
+        tabled: false,
+    })
 }
