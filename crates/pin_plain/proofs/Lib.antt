@@ -6,3 +6,4 @@ pub mod ScoreLaws
 pub mod TallyLaws
 pub mod BestLaws
 pub mod SweepLaws
+pub mod SettleLaws

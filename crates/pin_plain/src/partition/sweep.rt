@@ -123,6 +123,7 @@ impl Partition {
             OnErr result (BreaksOff h.now self.old.k self.old.limit self.old.blocks self.new.blocks log.old log.new)
         }
     {
+        let _vertices = h.vertices();
         let mut before = self.cost(h);
         let mut rounds = 0;
         loop {
