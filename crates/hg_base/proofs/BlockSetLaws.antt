@@ -1,5 +1,5 @@
 -- Laws of a set of numbers as words.
-use Rattle.std.proofs.Common.{zero, suc, [], ◌∷◌, ◌≡◌, ◌≢◌, ℕ, ◌+◌, ◌*◌, ◌/◌, ◌%◌, ◌^◌, ◌<◌, ◌≤◌, Bool, true, false, not, ◌||◌, nat_eq, List, length, slice_index, slice_set, bit_and, bit_or, w64, get_or-set_same, get_or-set_other, refl, sym, ap, ap₂, ◌∙◌, subst, ⊎_elim, arith}
+use Rattle.std.proofs.Common.{zero, suc, [], ◌∷◌, ◌≡◌, ◌≢◌, ℕ, ◌*◌, ◌/◌, ◌%◌, ◌^◌, ◌<◌, false, not, ◌||◌, nat_eq, List, length, slice_index, slice_set, bit_and, bit_or, w64, get_or-set_same, get_or-set_other, refl, sym, ap, ap₂, ◌∙◌, ⊎_elim, arith}
 use Rattle.std.specs.Int.{bit_at}
 use Rattle.std.proofs.lemmas.Bool.{cases_eq, eq-eqb, ne_eqb}
 use Rattle.std.proofs.lemmas.Nat.{pow_below, pow_pos}
@@ -17,18 +17,18 @@ has-set ws x b inside =
     let word = bit_or (slice_index ws (x / 64)) (one_bit (x % 64)) in
     ⊎_elim
     (λ (e : b / 64 ≡ x / 64).
-      let read = ap (slice_index (slice_set ws (x / 64) word)) e ∙ get_or-set_same ws (x / 64) word 0 inside in
-      ⊎_elim
-      (λ (f : b % 64 ≡ x % 64).
-        ap (λ n. nat_eq n 1) (ap₂ bit_at read f ∙ bit_at_set_same w64 (slice_index ws (x / 64)) (x % 64) bit)
-        ∙ ap (λ t. t || has ws b) (sym (eq-eqb b x (omega arith))))
-      (λ (f : b % 64 ≢ x % 64).
-        ap (λ n. nat_eq n 1) (ap (λ n. bit_at n (b % 64)) read ∙ bit_at_set_other w64 (slice_index ws (x / 64)) (x % 64) bit (b % 64) f ∙ ap (λ n. bit_at (slice_index ws n) (b % 64)) (sym e))
-        ∙ ap (λ t. t || has ws b) (sym (ne_eqb b x (λ g. f (ap (λ n. n % 64) g)))))
-      (cases_eq (b % 64) (x % 64)))
+    let read = ap (slice_index (slice_set ws (x / 64) word)) e ∙ get_or-set_same ws (x / 64) word 0 inside in
+    ⊎_elim
+    (λ (f : b % 64 ≡ x % 64).
+    ap (λ n. nat_eq n 1) (ap₂ bit_at read f ∙ bit_at_set_same w64 (slice_index ws (x / 64)) (x % 64) bit)
+    ∙ ap (λ t. t || has ws b) (sym (eq-eqb b x (omega arith))))
+    (λ (f : b % 64 ≢ x % 64).
+    ap (λ n. nat_eq n 1) (ap (λ n. bit_at n (b % 64)) read ∙ bit_at_set_other w64 (slice_index ws (x / 64)) (x % 64) bit (b % 64) f ∙ ap (λ n. bit_at (slice_index ws n) (b % 64)) (sym e))
+    ∙ ap (λ t. t || has ws b) (sym (ne_eqb b x (λ g. f (ap (λ n. n % 64) g)))))
+    (cases_eq (b % 64) (x % 64)))
     (λ (e : b / 64 ≢ x / 64).
-      ap (λ n. nat_eq (bit_at n (b % 64)) 1) (get_or-set_other ws (x / 64) (b / 64) word 0 e)
-      ∙ ap (λ t. t || has ws b) (sym (ne_eqb b x (λ g. e (ap (λ n. n / 64) g)))))
+    ap (λ n. nat_eq (bit_at n (b % 64)) 1) (get_or-set_other ws (x / 64) (b / 64) word 0 e)
+    ∙ ap (λ t. t || has ws b) (sym (ne_eqb b x (λ g. e (ap (λ n. n / 64) g)))))
     (cases_eq (b / 64) (x / 64))
 
 not_has : (n m : ℕ) → n < 2 → 0 < m → nat_eq (n * m) 0 ≡ not (nat_eq n 1)

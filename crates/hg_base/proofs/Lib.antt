@@ -6,3 +6,4 @@ pub mod BlockSetLaws
 pub mod CountLaws
 pub mod PlacingLaws
 pub mod RankLaws
+pub mod PackedLaws

@@ -1,6 +1,5 @@
 -- Laws of placing vertices one after the other.
-use Rattle.std.proofs.Common.{◌≡◌, ◌≢◌, ℕ, zero, suc, ◌+◌, ◌<◌, ◌≤◌, Bool, true, false, not, cond, if◌then◌else◌, nat_eq, nat_le, List, [], ◌∷◌, ◌++◌, length, drop, filter, All, slice_index, slice_set, get_or, Option, Some, None, refl, sym, ap, ap₂, ◌∙◌, subst, arith}
-use Rattle.std.specs.List.{range_with_len}
+use Rattle.std.proofs.Common.{◌≡◌, ℕ, ◌+◌, ◌<◌, ◌≤◌, Bool, true, false, not, cond, if◌then◌else◌, nat_le, List, [], ◌∷◌, ◌++◌, length, drop, filter, All, slice_index, slice_set, Option, Some, None, refl, sym, ap, ◌∙◌, arith}
 use Rattle.std.proofs.lemmas.List.{drop_more, drop_all, length-set, length-replicate}
 use Rattle.std.proofs.lemmas.Bool.{eqb-true}
 use Rattle.std.proofs.lemmas.List.Sorted.{All-permutation}
@@ -109,9 +108,9 @@ module _ (h : Hyper) (order : List ℕ) (listed : ListsFree h order) where
   listed_vertices =
       All-permutation (λ v. v < vertex_count h) (filter (is_free h) (vertices h)) order listed
       (All-filter (is_free h) (λ v. v < vertex_count h) (vertices h) (λ i d l.
-        let n = length-range_with_len 0 (vertex_count h) in
-        let at = get_or-range_with_len 0 (vertex_count h) i d (omega arith) in
-        omega arith))
+      let n = length-range_with_len 0 (vertex_count h) in
+      let at = get_or-range_with_len 0 (vertex_count h) i d (omega arith) in
+      omega arith))
 
   pub listed_free : All (IsFree h) order
   listed_free =

@@ -1,20 +1,16 @@
 -- Laws of the free vertices by falling weight.
-use Rattle.std.proofs.Common.{◌≡◌, ℕ, ◌+◌, ◌<◌, ◌≤◌, Bool, true, false, cond, List, [], ◌∷◌, ◌++◌, length, take, map, filter, IsPermutation, IsSorted, Ordering, Equal, refl, sym, ap, ap₂, ◌∙◌, arith}
-use Rattle.std.specs.List.{range_with_len}
+use Rattle.std.proofs.Common.{◌≡◌, ℕ, ◌+◌, ◌<◌, ◌≤◌, true, false, cond, List, [], ◌∷◌, ◌++◌, take, map, filter, All, subst, IsPermutation, IsSorted, Ordering, Equal, refl, sym, ap, ◌∙◌, arith}
 use Rattle.std.specs.declared.cmp.Reverse.{Reverse}
-use Rattle.std.proofs.lemmas.List.{append-nil, map_push, take_all}
+use Rattle.std.proofs.lemmas.List.{append-nil, map_push, map-id, get_or-map, length-map, take_all}
 use Rattle.std.proofs.lemmas.List.Elements.{filter_more}
 use Rattle.std.proofs.lemmas.List.FromFn.{length-range_with_len, get_or-range_with_len}
 use Rattle.std.specs.Cmp.{IsTotalOrder}
 use Rattle.std.proofs.lemmas.Cmp.{on_total}
 use Rattle.hg_defs.specs.Sorting.{sorted}
 use Rattle.hg_defs.specs.LeastLoaded.{heavier_first, heaviest_first}
+use Rattle.hg_base.specs.Placing.{rank_of}
 use Rattle.hg_defs.proofs.SortLaws.{sort_is, map-sorted, heavier_first_total, heavier_first_exact}
-use Rattle.hg_defs.specs.Hypergraph.{Hyper, vertex_count, vertices, weight_of, is_free}
-
--- a vertex beside its weight, the greatest weight first
-abbrev pub rank_of : Hyper → ℕ → Reverse ℕ × ℕ
-rank_of h v = (record { 0 = weight_of h v }, v)
+use Rattle.hg_defs.specs.Hypergraph.{Hyper, vertex_count, vertices, is_free}
 
 -- the free ones of the vertices below v
 abbrev pub free_below : Hyper → ℕ → List ℕ
@@ -69,3 +65,13 @@ sorted_ranks h rs p s =
     ap (map (λ (r : Reverse ℕ × ℕ). r.1)) (sort_is rank_cmp_total rank_cmp_exact ranks rs p s)
     ∙ sym (map-map (λ (a : ℕ × ℕ). a.1) pair_of (sorted rank_cmp ranks))
     ∙ ap (map (λ (a : ℕ × ℕ). a.1)) (map-sorted rank_cmp heavier_first pair_of (λ x y. refl) ranks ∙ ap (sorted heavier_first) (map-map pair_of (rank_of h) free))
+
+-- the vertices of ranks are those that were ranked
+pub vertices_of_ranks : (h : Hyper) (order : List ℕ) → map (λ (r : Reverse ℕ × ℕ). r.1) (map (rank_of h) order) ≡ order
+vertices_of_ranks h order = map-map (λ (r : Reverse ℕ × ℕ). r.1) (rank_of h) order ∙ map-id order
+
+-- what is true of the vertices of ranks
+pub All-vertices : (P : ℕ → Type 0) (ranks : List (Reverse ℕ × ℕ)) → All P (map (λ (r : Reverse ℕ × ℕ). r.1) ranks) → All (λ (r : Reverse ℕ × ℕ). P r.1) ranks
+All-vertices P ranks all k d l =
+    let same = length-map ranks (λ (r : Reverse ℕ × ℕ). r.1) in
+    subst P (get_or-map (λ (r : Reverse ℕ × ℕ). r.1) ranks k d d.1 l) (all k d.1 (omega arith))

@@ -11,3 +11,4 @@ pub mod Packed
 pub mod BlockSet
 pub mod Placing
 pub mod GreedyEnd
+pub mod Items

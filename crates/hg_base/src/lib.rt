@@ -9,6 +9,8 @@ mod loads;
 mod packed;
 mod placement;
 mod sets;
+#[cfg(test)]
+mod tests;
 
 pub use cost::cost_of;
 pub use hg_defs::{FREE, Move, NoMemory, Objective};

@@ -1,6 +1,8 @@
 //! Lists that contracts see as the list of their items.
 
 ghost use Rattle.std.specs.Prelude.{◌≡◌, ◌<◌, List, [], ◌∷◌, ◌++◌, length, IsTrue, ◌↔◌, IfOk, OnOk, OnErr, slice_set};
+ghost use Rattle.std.specs.Borrow.{sem};
+ghost use Rattle.hg_base.specs.Items.{LendsItems};
 
 use hg_defs::{Move, NoMemory};
 use std::alloc::Global;
@@ -89,6 +91,14 @@ impl<T> Items<T> {
         ensures { result.now ≡ self.now }
     {
         self.items.as_slice()
+    }
+
+    /// The items, in order, to be changed in place.
+    pub fn slice_mut(&mut self) -> &mut [T]
+        ensures* writes_back { sem 𝓛 (LendsItems T.row self.entry result) }
+        ensures value { result.now ≡ self.old }
+    {
+        self.items.as_mut_slice()
     }
 }
 

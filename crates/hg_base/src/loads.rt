@@ -59,10 +59,13 @@ impl Loads {
         ensures below { result < length self.now }
     {
         let mut best = self.leaders[0];
+        let mut least = self.loads[best];
         for group in 1..self.leaders.len() {
             let leader = self.leaders[group];
-            if self.loads[leader] < self.loads[best] {
+            let load = self.loads[leader];
+            if load < least {
                 best = leader;
+                least = load;
             }
         }
         best as u32
@@ -89,9 +92,12 @@ fn least_within(loads: &[u64], low: usize, high: usize) -> usize
     ensures { IsLeastWithin (slice_index loads.now) low high result }
 {
     let mut best = low;
+    let mut lowest = loads[low];
     for i in low + 1..high {
-        if loads[i] < loads[best] {
+        let load = loads[i];
+        if load < lowest {
             best = i;
+            lowest = load;
         }
     }
     best

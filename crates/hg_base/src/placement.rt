@@ -1,7 +1,7 @@
 //! Placement into the least loaded block, and greedy placement.
 
 ghost use Rattle.std.specs.Prelude.{◌≡◌, ℕ, ◌+◌, ◌<◌, ◌≤◌, List, length, map, filter, not, All, IfOk, OnOk, IfErr, nat_le, if◌then◌else◌, slice_index, slice_set};
-ghost use Rattle.hg_base.specs.Placing.{EndsPlacing};
+ghost use Rattle.hg_base.specs.Placing.{EndsPlacing, rank_of};
 ghost use Rattle.hg_defs.specs.Hypergraph.{vertex_count, vertices, weight_of, is_free, IsFree, IsFixedWithin, IsHypergraph};
 ghost use Rattle.hg_defs.specs.LeastLoaded.{least, unplaced, placing_order, first_overfilling, overfills};
 ghost use Rattle.hg_defs.specs.LeastLoaded as placements;
@@ -48,6 +48,10 @@ impl From<NoMemory> for GreedyEnd {
         GreedyEnd::NoMemory
     }
 }
+
+/// A vertex beside its weight. Sorted, the heavier ones go first, and at equal weights the lower
+/// numbers.
+type Rank = (Reverse<u64>, u32);
 
 /// The loads and the blocks while vertices are placed.
 #[derive(Drop)]
@@ -122,18 +126,19 @@ impl Placing {
 
     /// Places free vertices in this order, each in the least loaded block. Answers the first that
     /// overfills.
-    fn place_free(&mut self, h: &FlatHyper, order: &[u32], limit: u64) -> Option<u32>
+    fn place_free(&mut self, h: &FlatHyper, ranks: &[Rank], limit: u64) -> Option<u32>
         requires blocks { length self.old.blocks ≡ vertex_count h.now }
         requires some { 0 < length self.old.loads }
         requires few { length self.old.loads ≤ 256 }
-        requires vertices { All (λ v. v < vertex_count h.now) order.now }
-        requires free { All (IsFree h.now) order.now }
-        ensures { EndsPlacing h.now limit self.old order.now result self.new }
+        requires vertices { All (λ rank. rank.1 < vertex_count h.now) ranks.now }
+        requires free { All (λ rank. IsFree h.now rank.1) ranks.now }
+        requires weights { All (λ rank. rank.0.0 ≡ weight_of h.now rank.1) ranks.now }
+        ensures { EndsPlacing h.now limit self.old (map (λ rank. rank.1) ranks.now) result self.new }
     {
-        for v in order {
+        for rank in ranks {
             let block = self.loads.least();
-            if !self.place(*v, h.vertex_weight(*v), block, limit) {
-                return Some(*v);
+            if !self.place(rank.1, rank.0.0, block, limit) {
+                return Some(rank.1);
             }
         }
         None
@@ -164,14 +169,8 @@ pub fn least_loaded(
     ensures fixes { IfOk result (Obeys h.now) }
     ensures fits { IfOk result (Fits h.now k limit) }
 {
-    let mut placing = Placing::start(alloc, h, k)?;
-    if let Some(vertex) = placing.place_fixed(h, limit) {
-        return Err(GreedyEnd::Overfills { vertex });
-    }
-    if let Some(vertex) = placing.place_free(h, order, limit) {
-        return Err(GreedyEnd::Overfills { vertex });
-    }
-    Ok(Blocks::from_vec(placing.into_blocks()))
+    let ranks = ranks_of(alloc, h, order)?;
+    place_ranks(alloc, h, k, limit, &ranks)
 }
 
 /// Places the vertices as [`least_loaded`] does, the free ones by falling weight, those of equal
@@ -187,13 +186,55 @@ pub fn greedy(alloc: Global, h: &FlatHyper, k: u32, limit: u64) -> Result<Blocks
     ensures fixes { IfOk result (Obeys h.now) }
     ensures fits { IfOk result (Fits h.now k limit) }
 {
-    let order = heaviest_first(alloc, h)?;
-    least_loaded(alloc, h, k, limit, &order)
+    let ranks = heaviest_first(alloc, h)?;
+    place_ranks(alloc, h, k, limit, &ranks)
 }
 
-/// The free vertices by falling weight, those of equal weight by rising number.
-fn heaviest_first(alloc: Global, h: &FlatHyper) -> Result<Vec<u32>, AllocError>
-    ensures { IfOk result (λ order. order.items ≡ placements.heaviest_first h.now) }
+/// Places the fixed vertices, and then the free ones in the order of their ranks.
+fn place_ranks(
+    alloc: Global,
+    h: &FlatHyper,
+    k: u32,
+    limit: u64,
+    ranks: &[Rank],
+) -> Result<Blocks, GreedyEnd>
+    requires some { 0 < k }
+    requires few { k ≤ 256 }
+    requires fixed { IsFixedWithin h.now k }
+    requires listed { ListsFree h.now (map (λ rank. rank.1) ranks.now) }
+    requires weights { All (λ rank. rank.0.0 ≡ weight_of h.now rank.1) ranks.now }
+    ensures ok { IfOk result (λ blocks. blocks ≡ placements.least_loaded h.now k (map (λ rank. rank.1) ranks.now)) }
+    ensures within { OnOk result (first_overfilling h.now limit (unplaced h.now k) (placing_order h.now (map (λ rank. rank.1) ranks.now)) ≡ None) }
+    ensures cause { IfErr result (HasCause (first_overfilling h.now limit (unplaced h.now k) (placing_order h.now (map (λ rank. rank.1) ranks.now)))) }
+    ensures partition { IfOk result (IsPartition h.now k) }
+    ensures fixes { IfOk result (Obeys h.now) }
+    ensures fits { IfOk result (Fits h.now k limit) }
+{
+    let mut placing = Placing::start(alloc, h, k)?;
+    if let Some(vertex) = placing.place_fixed(h, limit) {
+        return Err(GreedyEnd::Overfills { vertex });
+    }
+    if let Some(vertex) = placing.place_free(h, ranks, limit) {
+        return Err(GreedyEnd::Overfills { vertex });
+    }
+    Ok(Blocks::from_vec(placing.into_blocks()))
+}
+
+/// The ranks of vertices, in the same order.
+fn ranks_of(alloc: Global, h: &FlatHyper, order: &[u32]) -> Result<Vec<Rank>, AllocError>
+    requires { All (λ v. v < vertex_count h.now) order.now }
+    ensures { IfOk result (λ ranks. ranks.items ≡ map (rank_of h.now) order.now) }
+{
+    order
+        .iter()
+        .map(|v| (Reverse(h.vertex_weight(*v)), *v))
+        .collect(alloc)
+}
+
+/// The ranks of the free vertices, in order.
+fn heaviest_first(alloc: Global, h: &FlatHyper) -> Result<Vec<Rank>, AllocError>
+    ensures order { IfOk result (λ ranks. map (λ rank. rank.1) ranks.items ≡ placements.heaviest_first h.now) }
+    ensures weights { IfOk result (λ ranks. All (λ rank. rank.0.0 ≡ weight_of h.now rank.1) ranks.items) }
 {
     let mut ranks = Vec::new(alloc);
     for v in 0..h.vertices() {
@@ -202,12 +243,5 @@ fn heaviest_first(alloc: Global, h: &FlatHyper) -> Result<Vec<u32>, AllocError>
         }
     }
     ranks.sort_unstable();
-    vertices_of(alloc, &ranks)
-}
-
-/// The vertices of ranks, in the same order.
-fn vertices_of(alloc: Global, ranks: &[(Reverse<u64>, u32)]) -> Result<Vec<u32>, AllocError>
-    ensures { IfOk result (λ order. order.items ≡ map (λ rank. rank.1) ranks.now) }
-{
-    ranks.iter().map(|rank| rank.1).collect(alloc)
+    Ok(ranks)
 }

@@ -1,4 +1,8 @@
+pub mod End
+pub mod AnySink
+pub mod AnySource
 pub mod Faults
 pub mod MemSink
 pub mod MemSource
+pub mod Place
 pub mod Transfers

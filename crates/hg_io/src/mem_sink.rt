@@ -4,7 +4,7 @@ ghost use Rattle.std.specs.Io.KnownBytes.{Keeps, WriteAppends};
 ghost use Rattle.hg_io.specs.Faults.{HasCause};
 ghost use Rattle.hg_io.specs.MemSink.{Refuses, after_put};
 
-use crate::numbers::is_among;
+use crate::counts::{count_fault, is_among};
 use crate::{Failed, Sink};
 use hg_defs::NoMemory;
 use std::alloc::Global;
@@ -94,8 +94,7 @@ impl Sink for MemSink {
         self.puts = self.puts.saturating_add(1);
         let room = self.room - self.got.len();
         if is_among(&self.fail, self.puts) || (room == 0 && !piece.is_empty()) {
-            self.faults = self.faults.saturating_add(1);
-            return Err(Failed);
+            return Err(count_fault(&mut self.faults));
         }
         let count = self.step.min(piece.len().min(room));
         self.got.extend_from_slice(&piece[..count]).unwrap();

@@ -4,7 +4,7 @@ ghost use Rattle.std.specs.Io.KnownBytes.{ReadConsumes};
 ghost use Rattle.hg_io.specs.Faults.{HasCause, next_count};
 ghost use Rattle.hg_io.specs.MemSource.{after_take};
 
-use crate::numbers::is_among;
+use crate::counts::{count_fault, is_among};
 use crate::{Failed, Source};
 use std::marker::Model;
 
@@ -41,7 +41,8 @@ impl MemSource {
     /// whose numbers stand in `fail` fail.
     pub fn of(bytes: Vec<u8>, fail: Vec<u32>, step: usize) -> MemSource
         requires { 1 ≤ step }
-        ensures { result ≡ record { left = bytes.items; fail = fail.items; step = step; takes = 0; faults = 0 } }
+        ensures { result ≡
+            record { left = bytes.items; fail = fail.items; step = step; takes = 0; faults = 0 } }
     {
         MemSource {
             bytes,
@@ -88,8 +89,7 @@ impl Source for MemSource {
     {
         self.takes = self.takes.saturating_add(1);
         if is_among(&self.fail, self.takes) {
-            self.faults = self.faults.saturating_add(1);
-            return Err(Failed);
+            return Err(count_fault(&mut self.faults));
         }
         let left = self.bytes.len() - self.at;
         let count = self.step.min(buf.len().min(left));

@@ -1,28 +1,31 @@
-ghost use Rattle.std.specs.Prelude.{◌≡◌, ◌≤◌, ◌+◌, List, ℕ, [], ◌++◌, OnOk, length, take};
+ghost use Rattle.std.specs.Prelude.{◌≡◌, ◌≤◌, ◌+◌, List, ℕ, [], ◌++◌, Ok, OnOk, length, take};
 ghost use Rattle.hg_io.specs.Faults.{HasCause};
 ghost use Rattle.hg_io.specs.Transfers.{PutsAll, Writes};
 
 use crate::{Failed, Sink, put_all};
 use std::marker::Model;
 
-/// The bytes that a pen holds before it puts them.
-const ROOM: usize = 4_096;
+/// The most bytes that a pen holds.
+pub const PEN_ROOM: usize = 4_096;
 
 /// Collects the pieces of a text, and puts them in few calls. Contracts see the bytes that it holds.
 ///
 /// After a `Failed` a pen isn't used again.
 #[derive(Drop)]
 pub struct Pen {
-    held: [u8; ROOM],
+    held: [u8; PEN_ROOM],
     len: usize,
 }
 
 impl Model for Pen {
+    ghost use Rattle.std.specs.Prelude.{◌≤◌, List, ℕ, take};
+    ghost use Rattle.hg_io.specs.declared.pen.TheConstants.{PEN_ROOM};
+
     ghost Value = { List ℕ };
 
     ghost view = { λ pen. take pen.len pen.held };
 
-    ghost invariant = { λ pen. pen.len ≤ 4096 };
+    ghost invariant = { λ pen. pen.len ≤ PEN_ROOM };
 }
 
 impl Pen {
@@ -31,7 +34,7 @@ impl Pen {
         ensures { result ≡ [] }
     {
         Pen {
-            held: [0; ROOM],
+            held: [0; PEN_ROOM],
             len: 0,
         }
     }
@@ -40,10 +43,14 @@ impl Pen {
     pub fn write<K: Sink>(&mut self, sink: &mut K, bytes: &[u8]) -> Result<(), Failed>
         ensures bytes { Writes (K.got sink.old) (K.got sink.new) self.old self.new result bytes.now }
         ensures cause { HasCause (K.faults sink.old) (K.faults sink.new) result }
+
+        // While it has room it puts nothing.
+        ensures held { length self.old + length bytes.now ≤ PEN_ROOM →
+            (result ≡ Ok tt) × (self.new ≡ self.old ++ bytes.now) × (sink.new ≡ sink.old) }
     {
-        if bytes.len() > ROOM - self.len {
+        if bytes.len() > PEN_ROOM - self.len {
             self.send(sink)?;
-            if bytes.len() > ROOM {
+            if bytes.len() > PEN_ROOM {
                 return put_all(sink, bytes);
             }
         }
@@ -64,7 +71,7 @@ impl Pen {
 
     // Holds `bytes` too.
     fn hold(&mut self, bytes: &[u8])
-        requires { length self.old + length bytes.now ≤ ROOM }
+        requires { length self.old + length bytes.now ≤ PEN_ROOM }
         ensures { self.new ≡ self.old ++ bytes.now }
     {
         let end = self.len + bytes.len();
@@ -73,10 +80,10 @@ impl Pen {
     }
 
     /// Puts all that the pen holds.
-    pub fn end<K: Sink>(self, sink: &mut K) -> Result<(), Failed>
+    pub fn end<K: Sink>(mut self, sink: &mut K) -> Result<(), Failed>
         ensures bytes { PutsAll (K.got sink.old) (K.got sink.new) result self }
         ensures cause { HasCause (K.faults sink.old) (K.faults sink.new) result }
     {
-        put_all(sink, &self.held[..self.len])
+        self.send(sink)
     }
 }

@@ -1,11 +1,10 @@
-ghost use Rattle.std.specs.Prelude.{◌≡◌, ◌≤◌, ◌<◌, Ok, Err, OnOk, IfOk, IfSome, IsErrOf, vec_len, length};
+ghost use Rattle.std.specs.Prelude.{◌≡◌, ◌≤◌, OnOk, IfOk, IfSome, IsErrOf, vec_len};
 ghost use Rattle.std.specs.Io.KnownBytes.{Consumes, IsAtEnd};
 ghost use Rattle.hg_io.specs.Faults.{Rose, HasCause};
 ghost use Rattle.hg_io.specs.Transfers.{PutsAll, ConsumesMoreThan, ConsumesAtMost};
 ghost use Rattle.hg_io.specs.declared.transfer.ReadEnd.TheVariants.{Fault as fault, NoMemory as no_memory};
 
 use crate::{Failed, Sink, Source};
-use hg_defs::NoMemory;
 use std::alloc::{AllocError, Global};
 
 /// Why a source wasn't read whole.
@@ -41,7 +40,8 @@ const CHUNK: usize = 65_536;
 /// Reads `src` to its end, where that comes within `max` bytes.
 pub fn read_all<S: Source>(alloc: Global, src: &mut S, max: u64) -> Result<Vec<u8>, ReadEnd>
     // `Ok` gives all bytes that were left, and the end was seen.
-    ensures whole { IfOk result (λ bytes. Consumes (S.left src.old) (S.left src.new) bytes.items) }
+    ensures whole { IfOk result (λ bytes. IfSome (S.left src.old) (λ left. bytes.items ≡ left)) }
+    ensures taken { IfOk result (λ bytes. Consumes (S.left src.old) (S.left src.new) bytes.items) }
     ensures end { OnOk result (IsAtEnd (S.left src.new)) }
     ensures within { IfOk result (λ bytes. vec_len bytes ≤ max) }
 

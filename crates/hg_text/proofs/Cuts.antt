@@ -1,15 +1,11 @@
 -- A text cut at its first line feed, and a line cut at its first blank.
-use Rattle.std.proofs.Common.{◌≡◌, ℕ, zero, suc, ◌+◌, ◌<◌, ◌≤◌, Bool, true, false, cond, List, [], ◌∷◌, length, take, drop, get_or, map, filter, refl, sym, ◌∙◌, ap, arith, add-one, not, eqb, inl, inr}
-use Rattle.std.proofs.lemmas.Bool.{cases_lt}
+use Rattle.std.proofs.Common.{◌||◌, ◌≡◌, ℕ, zero, suc, ◌+◌, ◌<◌, ◌≤◌, Bool, true, false, cond, List, [], ◌∷◌, length, take, drop, get_or, filter, refl, sym, ◌∙◌, ap, arith, add-one, eqb, inl, inr}
+use Rattle.std.proofs.lemmas.Bool.{cases_lt, ne_eqb}
 use Rattle.std.proofs.Math.Seq.{drop-cons}
 use Rattle.std.proofs.lemmas.List.{take_all, drop_all}
-use Rattle.std.specs.List.{slice_split, onto_first, enumerate_from}
-use Rattle.hg_text.specs.Kept.{is_line_feed, is_blank, is_filled, lines, fields, is_kept, line_of, kept_from}
-use Rattle.hg_text.specs.Cut.{IsTrimmed}
-
--- p fails at each place below i
-abbrev pub FailsBelow : (ℕ → Bool) → List ℕ → ℕ → Type 0
-FailsBelow p xs i = (k : ℕ) → k < i → p (get_or xs k 0) ≡ false
+use Rattle.std.specs.List.{slice_split, onto_first}
+use Rattle.hg_text.specs.Kept.{is_line_feed, is_blank, is_filled, lines, fields}
+use Rattle.hg_text.specs.Cut.{FailsBelow, EndsField, ends_field}
 
 -- F ends a part at each element that passes, as `lines` and `slice_split` do
 abbrev pub IsCutting : (ℕ → Bool) → (List ℕ → List (List ℕ)) → Type 0
@@ -50,44 +46,25 @@ split_last (x ∷ line) miss =
     ap (λ (b : Bool). cond b ([] ∷ slice_split is_blank line) (onto_first x (slice_split is_blank line))) (miss 0 (omega arith))
     ∙ ap (onto_first x) (split_last line (λ k l. miss (suc k) (omega arith)))
 
+-- a field ends before a blank
+pub ends_blank : (line : List ℕ) (i : ℕ) → ends_field line i ≡ true → i < length line → is_blank (get_or line i 0) ≡ true
+ends_blank line i e h =
+    let other : eqb i (length line) ≡ false = ne_eqb i (length line) (λ same. absurd (omega arith)) in
+    sym (ap (λ (b : Bool). b || is_blank (get_or line i 0)) other) ∙ e
+
 -- a line that begins with a field, cut behind it
-pub fields_front : (line : List ℕ) (i : ℕ) → 0 < i → i ≤ length line → FailsBelow is_blank line i → (i < length line → is_blank (get_or line i 0) ≡ true) → fields line ≡ take i line ∷ fields (drop i line)
-fields_front [] i low high miss ends = absurd (omega arith)
-fields_front (x ∷ line) zero low high miss ends = absurd (omega arith)
-fields_front (x ∷ line) (suc j) low high miss ends =
+fields_cut : (line : List ℕ) (i : ℕ) → 0 < i → i ≤ length line → FailsBelow is_blank line i → (i < length line → is_blank (get_or line i 0) ≡ true) → fields line ≡ take i line ∷ fields (drop i line)
+fields_cut [] i low high miss ends = absurd (omega arith)
+fields_cut (x ∷ line) zero low high miss ends = absurd (omega arith)
+fields_cut (x ∷ line) (suc j) low high miss ends =
     elim (cases_lt j (length line)) [
-      inl less ↦ fields_at x line j less (ends (omega arith)) miss
-        ∙ ap (λ (fs : List (List ℕ)). (x ∷ take j line) ∷ fs) (sym (ap fields (drop-cons line j 0 less) ∙ fields_blank (get_or line j 0) (drop (suc j) line) (ends (omega arith))))
-    | inr more ↦ 
-        (let all : length line ≡ j = omega arith in
-         let whole : fields (x ∷ line) ≡ (x ∷ line) ∷ [] = ap (filter is_filled) (split_last (x ∷ line) (λ k l. miss k (omega arith))) in
-         whole ∙ sym (rw (take_all j line (omega arith), drop_all j line (omega arith)) refl))
+      | inl less ↦ fields_at x line j less (ends (omega arith)) miss
+          ∙ ap (λ (fs : List (List ℕ)). (x ∷ take j line) ∷ fs) (sym (ap fields (drop-cons line j 0 less) ∙ fields_blank (get_or line j 0) (drop (suc j) line) (ends (omega arith))))
+      | inr more ↦
+          (let all : length line ≡ j = omega arith in
+          let whole : fields (x ∷ line) ≡ (x ∷ line) ∷ [] = ap (filter is_filled) (split_last (x ∷ line) (λ k l. miss k (omega arith))) in
+          whole ∙ sym (rw (take_all j line (omega arith), drop_all j line (omega arith)) refl))
     ]
 
-pub trimmed_first : (line : List ℕ) → 0 < length line → IsTrimmed line → is_blank (get_or line 0 0) ≡ false
-trimmed_first [] h t = absurd (omega arith)
-trimmed_first (x ∷ line) h t = t
-
-pub trimmed_nil : (line : List ℕ) → length line ≡ 0 → IsTrimmed line
-trimmed_nil [] e = tt
-trimmed_nil (x ∷ line) e = absurd (omega arith)
-
--- what a run that a line begins with becomes
-kept_of_parts : (x : ℕ) (parts : List (List ℕ)) (n : ℕ) → is_kept (record { number = n; fields = filter is_filled (onto_first x parts) }) ≡ not (eqb x 37)
-kept_of_parts x [] n = refl
-kept_of_parts x (part ∷ parts) n = refl
-
--- the first byte of a line that begins with a field says whether the line is kept
-pub kept_by_first : (n : ℕ) (line rest : List ℕ) → fields rest ≡ fields line → IsTrimmed rest → 0 < length rest → is_kept (record { number = n; fields = fields line }) ≡ not (eqb (get_or rest 0 0) 37)
-kept_by_first n line [] same t h = absurd (omega arith)
-kept_by_first n line (x ∷ rest) same t h =
-    ap (λ (fs : List (List ℕ)). is_kept (record { number = n; fields = fs })) (sym same ∙ ap (λ (b : Bool). filter is_filled (cond b ([] ∷ slice_split is_blank rest) (onto_first x (slice_split is_blank rest)))) t)
-    ∙ kept_of_parts x (slice_split is_blank rest) n
-
-pub kept_none : (n : ℕ) (line rest : List ℕ) → fields rest ≡ fields line → length rest ≡ 0 → is_kept (record { number = n; fields = fields line }) ≡ false
-kept_none n line [] same e = ap (λ (fs : List (List ℕ)). is_kept (record { number = n; fields = fs })) (sym same)
-kept_none n line (x ∷ rest) same e = absurd (omega arith)
-
--- one line is read, which is kept or not
-pub kept_step : (n : ℕ) (text line rest : List ℕ) → lines text ≡ line ∷ lines rest → kept_from n text ≡ cond (is_kept (line_of (n, line))) (line_of (n, line) ∷ kept_from (n + 1) rest) (kept_from (n + 1) rest)
-kept_step n text line rest e = ap (λ (ls : List (List ℕ)). filter is_kept (map line_of (enumerate_from n ls))) e
+pub fields_front : (line : List ℕ) (i : ℕ) → EndsField line i → fields line ≡ take i line ∷ fields (drop i line)
+fields_front line i end = fields_cut line i end.low end.high end.inside (ends_blank line i end.ends)

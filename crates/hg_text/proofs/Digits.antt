@@ -1,6 +1,7 @@
 -- The digits that a text begins with.
-use Rattle.std.proofs.Common.{◌≡◌, ℕ, suc, ◌+◌, ◌*◌, ◌<◌, ◌≤◌, ◌^◌, Bool, true, false, cond, ◌&&◌, List, [], ◌∷◌, length, take, get_or, refl, ◌∙◌, ap, arith, inl, inr, ◌-◌, ◌/◌, ◌⊎◌, Some, None, Ok, Err, nat_lt, if◌then◌else◌}
+use Rattle.std.proofs.Common.{add-one, min, drop, lit<, zero, suc, cond, ◌≡◌, ℕ, suc, ◌+◌, ◌*◌, ◌<◌, ◌≤◌, ◌^◌, Bool, true, false, cond, ◌&&◌, List, [], ◌∷◌, length, take, get_or, refl, ◌∙◌, ap, arith, inl, inr, ◌-◌, ◌/◌, ◌⊎◌, Some, None, Ok, Err, nat_lt, if◌then◌else◌}
 use Rattle.std.specs.Option.{ok_or}
+use Rattle.std.proofs.Math.Nat.{pow-le-pow_right, pow-suc}
 use Rattle.std.proofs.lemmas.List.{take-take}
 use Rattle.std.proofs.lemmas.Str.Parse.{digits_value-take-le}
 use Rattle.hg_text.specs.Kept.{number_of, fitting}
@@ -58,3 +59,31 @@ fitting_option value = step (nat_lt value (2 ^ 64)) where
   step : (b : Bool) → ok_or (if b then Some value else None) TooBig ≡ (if b then Ok value else Err TooBig)
   step true = refl
   step false = refl
+
+-- the run at the front of a part of a list
+pub prefix_len-take : (p : ℕ → Bool) (m : ℕ) (xs : List ℕ) → prefix_len p (take m xs) ≡ min m (prefix_len p xs)
+prefix_len-take p zero xs = omega arith
+prefix_len-take p (suc m) [] = omega arith
+prefix_len-take p (suc m) (x ∷ xs) = step (p x) (prefix_len-take p m xs) where
+  step : (b : Bool) → prefix_len p (take m xs) ≡ min m (prefix_len p xs) → cond b (1 + prefix_len p (take m xs)) 0 ≡ min (suc m) (cond b (1 + prefix_len p xs) 0)
+  step true e = grind arith
+  step false e = omega arith
+
+-- a run, after some of it was passed
+pub prefix_len_split : (p : ℕ → Bool) (n : ℕ) (xs : List ℕ) → n ≤ prefix_len p xs → prefix_len p xs ≡ n + prefix_len p (drop n xs)
+prefix_len_split p zero xs h = omega arith
+prefix_len_split p (suc n) [] h = absurd (omega arith)
+prefix_len_split p (suc n) (x ∷ xs) h = step (p x) h (prefix_len_split p n xs) where
+  step : (b : Bool) → suc n ≤ cond b (1 + prefix_len p xs) 0 → (n ≤ prefix_len p xs → prefix_len p xs ≡ n + prefix_len p (drop n xs)) → cond b (1 + prefix_len p xs) 0 ≡ suc n + prefix_len p (drop n xs)
+  step true g later = omega (arith, later (omega arith))
+  step false g later = absurd (omega arith)
+
+-- a number of at most 18 digits has room for another
+pub room : (value count : ℕ) → value < 10 ^ count → count < 19 → value < 10 ^ 18
+room value count small short =
+    let few : count ≤ 18 = omega arith in
+    let most : 10 ^ count ≤ 10 ^ 18 = pow-le-pow_right (lit< tt) few in
+    omega arith
+
+pub room_more : (value count digit : ℕ) → value < 10 ^ count → digit ≤ 9 → value * 10 + digit < 10 ^ (count + 1)
+room_more value count digit small d = rw add-one (omega (arith, pow-suc 10 count))

@@ -1,5 +1,5 @@
 -- The lines of a text, their fields, the kept lines with their numbers, and what a field spells.
-use Rattle.std.specs.Prelude.{ℕ, ◌-◌, ◌^◌, Bool, true, false, ◌==◌, ◌&&◌, ◌||◌, nat_lt, if◌then◌else◌, List, [], ◌∷◌, length, slice_index, take, map, filter, not, Result, Ok, Err}
+use Rattle.std.specs.Prelude.{◌≡◌, ℕ, ◌-◌, ◌^◌, Bool, true, false, ◌==◌, ◌&&◌, ◌||◌, nat_lt, if◌then◌else◌, List, [], ◌∷◌, length, slice_index, take, map, filter, not, Result, Ok, Err}
 use Rattle.std.specs.List.{slice_split, onto_first, enumerate_from}
 use Rattle.std.specs.Str.{all_ascii_digits}
 use Rattle.std.specs.Str.Parse.{digits_value}
@@ -69,3 +69,9 @@ fitting value = if nat_lt value (2 ^ 64) then Ok value else Err TooBig
 abbrev pub number_of : List ℕ → Result ℕ BadNumber
 number_of field =
     if is_filled field && all_ascii_digits field then fitting (digits_value 10 field) else Err NotDigits
+
+-- the first of these fields spells this, and the later ones follow it
+pub record SpellsFirst (fields later : List (List ℕ)) (value : Result ℕ BadNumber) : Type 0 where
+  pub field : List ℕ
+  pub first : fields ≡ field ∷ later
+  pub spelt : value ≡ number_of field

@@ -6,8 +6,12 @@
 #![tactic(auto)]
 
 mod cut;
+mod decimal;
 mod lines;
 mod numeral;
+#[cfg(test)]
+mod tests;
 
+pub use decimal::{put_number, put_signed};
 pub use lines::{Kept, Lines};
 pub use numeral::{BadNumber, number};

@@ -1,10 +1,10 @@
-ghost use Rattle.std.specs.Prelude.{◌≡◌, ℕ, ◌^◌, ◌≤◌, length, [], ◌∷◌, MatchOption};
-ghost use Rattle.hg_text.specs.Kept.{reading, lines, fields};
+ghost use Rattle.std.specs.Prelude.{◌≡◌, ℕ, ◌^◌, ◌<◌, ◌≤◌, length, [], ◌∷◌, MatchOption, IfSome};
+ghost use Rattle.hg_text.specs.Kept.{reading, lines, fields, SpellsFirst};
 ghost use Rattle.hg_text.specs.Cut.{IsTrimmed};
 
+use crate::cut::{skip_blanks, split_field, split_line, split_number, trim_return};
+use crate::numeral::BadNumber;
 use std::marker::Model;
-
-use crate::cut::{skip_blanks, split_field, split_line, trim_return};
 
 /// The kept lines of a text, one after another.
 ///
@@ -22,8 +22,8 @@ impl<'a> Model for Lines<'a> {
     ghost Value = { Reading };
 
     ghost view = { λ l. record {
-        kept = kept_from (l.passed + 1) l.rest.now;
-        count = l.passed + length (lines l.rest.now);
+      kept = kept_from (l.passed + 1) l.rest.now;
+      count = l.passed + length (lines l.rest.now);
     } };
 
     ghost invariant = { λ l. l.passed + length l.rest.now ≤ 2 ^ 29 };
@@ -43,9 +43,8 @@ impl<'a> Lines<'a> {
 
     /// The next kept line, or None where none is left.
     pub fn next_kept(&mut self) -> Option<Kept<'a>>
-        ensures kept {
-            MatchOption result (self.old.kept ≡ []) (λ line. self.old.kept ≡ line ∷ self.new.kept)
-        }
+        ensures kept { MatchOption result ((self.old.kept ≡ []) × (self.new.kept ≡ [])) (λ line. self.old.kept ≡ line ∷ self.new.kept) }
+        ensures filled { IfSome result (λ line. 0 < length line.fields) }
         ensures count { self.new.count ≡ self.old.count }
     {
         while !self.rest.is_empty() {
@@ -65,7 +64,8 @@ impl<'a> Lines<'a> {
 
     /// The number of lines of the text, those that aren't kept included.
     pub fn count(&self) -> u32
-        ensures { result ≡ self.now.count }
+        ensures count { result ≡ self.now.count }
+        ensures bound { result ≤ 2 ^ 29 }
     {
         self.passed + lines_of(self.rest)
     }
@@ -123,9 +123,7 @@ impl<'a> Kept<'a> {
 
     /// The next field, or None where none is left. A field isn't empty.
     pub fn next_field(&mut self) -> Option<&'a [u8]>
-        ensures field {
-            MatchOption result (self.old.fields ≡ []) (λ field. self.old.fields ≡ field.now ∷ self.new.fields)
-        }
+        ensures field { MatchOption result ((self.old.fields ≡ []) × (self.new.fields ≡ [])) (λ field. self.old.fields ≡ field.now ∷ self.new.fields) }
         ensures line { self.new.number ≡ self.old.number }
     {
         if self.rest.is_empty() {
@@ -134,6 +132,21 @@ impl<'a> Kept<'a> {
         let (field, rest) = split_field(self.rest);
         self.rest = skip_blanks(rest);
         Some(field)
+    }
+
+    /// What the next field spells, or None where none is left. It takes the field as `next_field`
+    /// does, and answers what `number` says of it, but reads its bytes once.
+    #[inline]
+    pub fn next_number(&mut self) -> Option<Result<u64, BadNumber>>
+        ensures spelt { MatchOption result ((self.old.fields ≡ []) × (self.new.fields ≡ [])) (λ value. SpellsFirst self.old.fields self.new.fields value) }
+        ensures line { self.new.number ≡ self.old.number }
+    {
+        if self.rest.is_empty() {
+            return None;
+        }
+        let (value, rest) = split_number(self.rest);
+        self.rest = skip_blanks(rest);
+        Some(value)
     }
 }
 

@@ -1,6 +1,5 @@
 -- One net more.
-use Rattle.std.proofs.Common.{◌≡◌, ℕ, ◌+◌, ◌*◌, ◌<◌, ◌≤◌, ◌^◌, take, sym, ap, ap₂, ◌∙◌, arith}
-use Rattle.hg_defs.specs.Sums.{total}
+use Rattle.std.proofs.Common.{◌≡◌, ℕ, ◌+◌, ◌*◌, ◌<◌, sym, ap, ap₂, ◌∙◌, arith}
 use Rattle.hg_defs.specs.Hypergraph.{net_of, net_count}
 use Rattle.hg_defs.specs.Cost.{net_cost, price, connectivity}
 use Rattle.hg_defs.proofs.SumLaws.{total-take-le}

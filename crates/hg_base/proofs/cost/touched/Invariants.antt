@@ -1,5 +1,5 @@
 -- The set has the blocks of the pins so far, and the count says how many they are.
-use Rattle.std.proofs.Common.{◌≡◌, ℕ, ◌≤◌, length, map, take, nat_eq}
+use Rattle.std.proofs.Common.{◌≡◌, ℕ, ◌≤◌, map, take, nat_eq}
 use Rattle.std.specs.Set.{is_member, distinct_count}
 use Rattle.hg_defs.specs.Partition.{block_of}
 use Rattle.hg_base.specs.BlockSet.{has}

@@ -1,73 +1,42 @@
--- The fixed vertices are placed, and then the free ones.
-use Rattle.std.proofs.Common.{◌≡◌, ◌<◌, ◌≤◌, length, None, Some, arith, sym, ◌∙◌, subst, List, ℕ}
-use Rattle.hg_defs.specs.LeastLoaded.{least_loaded}
-use Rattle.hg_defs.specs.Partition.{IsPartition, Obeys, Fits}
-use Rattle.hg_defs.specs.PlacementLaws.{IsPlaceable}
-use Rattle.hg_defs.proofs.PlacementLaws.{least_loaded-partition, least_loaded-obeys, none_overfills}
-use Rattle.hg_base.proofs.PlacingLaws.{listed_vertices, listed_free, fixed_overfills, fixed_blocks, fixed_loads, free_overfills, all_placed}
+-- Ranks stand for the vertices of the given order.
+use Rattle.std.proofs.Common.{◌≡◌, ℕ, List, map, IfOk, IfErr, OnOk, None, refl, ap, sym, ◌∙◌, subst}
+use Rattle.std.specs.declared.cmp.Reverse.{Reverse}
+use Rattle.std.proofs.lemmas.List.Elements.{All-map, All-same}
+use Rattle.hg_defs.specs.Hypergraph.{Hyper, weight_of}
+use Rattle.hg_defs.specs.LeastLoaded.{least_loaded, first_overfilling, unplaced, placing_order}
+use Rattle.hg_defs.specs.PlacementLaws.{ListsFree}
+use Rattle.hg_base.specs.Placing.{rank_of}
+use Rattle.hg_base.specs.GreedyEnd.{HasCause}
+use Rattle.hg_base.proofs.RankLaws.{vertices_of_ranks}
+use Rattle.hg_base.proofs.PlacingLaws.{listed_vertices}
 use Rattle.hg_base.proofs.placement.least_loaded.Goals as goal
 
-pub returns-in-Some-clause-cause : goal.returns-in-Some-clause-cause
-returns-in-Some-clause-cause c =
-    fixed_overfills c.args.h.now c.args.k c.args.limit c.args.order.now c.in_ok-placing.placing c.place_fixed.new.self
-    c.in_ok-placing.ensures.state c.in-Some.vertex c.in-Some.ensures
+vertices_of : (h : Hyper) (order : List ℕ) (ranks : List (Reverse ℕ × ℕ)) → ranks ≡ map (rank_of h) order → map (λ (r : Reverse ℕ × ℕ). r.1) ranks ≡ order
+vertices_of h order ranks e = ap (map (λ (r : Reverse ℕ × ℕ). r.1)) e ∙ vertices_of_ranks h order
 
-pub place_free-requires-clause-blocks : goal.place_free-requires-clause-blocks
-place_free-requires-clause-blocks c =
-    fixed_blocks c.args.h.now c.args.k c.args.limit c.args.order.now c.in_ok-placing.placing c.place_fixed.new.self
-    c.in_ok-placing.ensures.state c.in_default.ensures.0 c.in_default.ensures.1
+pub ranks_of-requires : goal.ranks_of-requires
+ranks_of-requires c = listed_vertices c.args.h.now c.args.order.now c.requires.listed
 
-pub place_free-requires-clause-some : goal.place_free-requires-clause-some
-place_free-requires-clause-some c =
-    let loads = fixed_loads c.args.h.now c.args.k c.args.limit c.args.order.now c.in_ok-placing.placing c.place_fixed.new.self
-    c.in_ok-placing.ensures.state c.in_default.ensures.0 c.in_default.ensures.1 in
-    omega (arith, c.requires.some)
+pub place_ranks-requires-clause-listed : goal.place_ranks-requires-clause-listed
+place_ranks-requires-clause-listed c = subst (ListsFree c.args.h.now) (sym (vertices_of c.args.h.now c.args.order.now c.deref.result.now (c.deref.ensures.value ∙ c.in_ok-ranks.ensures))) c.requires.listed
 
-pub place_free-requires-clause-few : goal.place_free-requires-clause-few
-place_free-requires-clause-few c =
-    let loads = fixed_loads c.args.h.now c.args.k c.args.limit c.args.order.now c.in_ok-placing.placing c.place_fixed.new.self
-    c.in_ok-placing.ensures.state c.in_default.ensures.0 c.in_default.ensures.1 in
-    omega (arith, c.requires.few)
-
-pub place_free-requires-clause-vertices : goal.place_free-requires-clause-vertices
-place_free-requires-clause-vertices c = listed_vertices c.args.h.now c.args.order.now c.requires.listed
-
-pub place_free-requires-clause-free : goal.place_free-requires-clause-free
-place_free-requires-clause-free c = listed_free c.args.h.now c.args.order.now c.requires.listed
-
-pub returns-in-Some-place_free-clause-cause : goal.returns-in-Some-place_free-clause-cause
-returns-in-Some-place_free-clause-cause c =
-    free_overfills c.args.h.now c.args.k c.args.limit c.args.order.now c.in_ok-placing.placing c.place_fixed.new.self
-    c.in_ok-placing.ensures.state c.in_default.ensures.0 c.in_default.ensures.1 (Some c.in-Some-place_free.vertex) c.in-Some-place_free.ensures
+pub place_ranks-requires-clause-weights : goal.place_ranks-requires-clause-weights
+place_ranks-requires-clause-weights c =
+    let h = c.args.h.now in
+    All-same (λ (r : Reverse ℕ × ℕ). r.0.0 ≡ weight_of h r.1) c.deref.result.now (map (rank_of h) c.args.order.now) (c.deref.ensures.value ∙ c.in_ok-ranks.ensures)
+    (All-map (λ (r : Reverse ℕ × ℕ). r.0.0 ≡ weight_of h r.1) (rank_of h) c.args.order.now (λ k d l. refl))
 
 pub returns-clause-ok : goal.returns-clause-ok
 returns-clause-ok c =
-    c.from_vec.ensures ∙ c.into_blocks.ensures
-    ∙ all_placed c.args.h.now c.args.k c.args.limit c.args.order.now c.in_ok-placing.placing c.place_fixed.new.self
-    c.in_ok-placing.ensures.state c.in_default.ensures.0 c.in_default.ensures.1 c.place_free.new.self c.in_default-place_free.ensures.1
+    subst (λ (o : List ℕ). IfOk c.place_ranks.result (λ blocks. blocks ≡ least_loaded c.args.h.now c.args.k o))
+    (vertices_of c.args.h.now c.args.order.now c.deref.result.now (c.deref.ensures.value ∙ c.in_ok-ranks.ensures)) c.place_ranks.ensures.ok
 
 pub returns-clause-within : goal.returns-clause-within
 returns-clause-within c =
-    free_overfills c.args.h.now c.args.k c.args.limit c.args.order.now c.in_ok-placing.placing c.place_fixed.new.self
-    c.in_ok-placing.ensures.state c.in_default.ensures.0 c.in_default.ensures.1 None c.in_default-place_free.ensures.0
+    subst (λ (o : List ℕ). OnOk c.place_ranks.result (first_overfilling c.args.h.now c.args.limit (unplaced c.args.h.now c.args.k) (placing_order c.args.h.now o) ≡ None))
+    (vertices_of c.args.h.now c.args.order.now c.deref.result.now (c.deref.ensures.value ∙ c.in_ok-ranks.ensures)) c.place_ranks.ensures.within
 
-pub returns-clause-partition : goal.returns-clause-partition
-returns-clause-partition c =
-    subst (IsPartition c.args.h.now c.args.k) (sym (returns-clause-ok c))
-    (least_loaded-partition c.args.h.now c.args.k c.args.order.now c.in_ok-placing.ensures.sound c.requires.fixed c.requires.some)
-
-pub returns-clause-fixes : goal.returns-clause-fixes
-returns-clause-fixes c =
-    subst (Obeys c.args.h.now) (sym (returns-clause-ok c))
-    (least_loaded-obeys c.args.h.now c.args.k c.args.order.now c.in_ok-placing.ensures.sound c.requires.fixed c.requires.some)
-
-pub returns-clause-fits : goal.returns-clause-fits
-returns-clause-fits c =
-    let ready : IsPlaceable c.args.h.now c.args.k c.args.order.now = record {
-      hypergraph = c.in_ok-placing.ensures.sound;
-      fixed = c.requires.fixed;
-      blocks = c.requires.some;
-      listed = c.requires.listed;
-    } in
-    subst (Fits c.args.h.now c.args.k c.args.limit) (sym (returns-clause-ok c))
-    (none_overfills c.args.h.now c.args.k c.args.limit c.args.order.now ready (returns-clause-within c))
+pub returns-clause-cause : goal.returns-clause-cause
+returns-clause-cause c =
+    subst (λ (o : List ℕ). IfErr c.place_ranks.result (HasCause (first_overfilling c.args.h.now c.args.limit (unplaced c.args.h.now c.args.k) (placing_order c.args.h.now o))))
+    (vertices_of c.args.h.now c.args.order.now c.deref.result.now (c.deref.ensures.value ∙ c.in_ok-ranks.ensures)) c.place_ranks.ensures.cause

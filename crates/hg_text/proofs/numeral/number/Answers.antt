@@ -22,6 +22,6 @@ returns c =
     let count : ℕ = c.leading_digits-count.result.0 in
     let many : length field ≤ count = omega arith in
     let value : c.leading_digits-count.result.1 ≡ (if nat_lt (digits_value 10 field) (2 ^ 64) then Some (digits_value 10 field) else None) =
-        c.leading_digits-count.ensures.value ∙ rw (take_all count field many) refl in
+    c.leading_digits-count.ensures.value ∙ rw (take_all count field many) refl in
     c.ok_or.ensures.value ∙ ap (λ (o : Option ℕ). ok_or o TooBig) value ∙ fitting_option (digits_value 10 field)
     ∙ sym (number_digits field (omega (arith, prefix_len-le-length is_ascii_digit field)) (omega arith))

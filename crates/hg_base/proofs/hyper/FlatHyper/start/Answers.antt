@@ -1,5 +1,5 @@
 -- The arrays of a new hypergraph have no nets, and the vertices weigh 1.
-use Rattle.std.proofs.Common.{◌≡◌, ◌*◌, replicate, ap, ◌∙◌, arith}
+use Rattle.std.proofs.Common.{ap, ◌∙◌, arith}
 use Rattle.hg_defs.specs.Sums.{total}
 use Rattle.hg_defs.proofs.SumLaws.{total-replicate}
 use Rattle.hg_base.proofs.FlatLaws.{IsLaidOut-bare, IsKept-bare}

@@ -1,16 +1,14 @@
 -- The first least load of all groups is the least one.
-use Rattle.std.proofs.Common.{◌≡◌, ◌*◌, ◌<◌, ◌≤◌, ℕ, min, length, slice_index, ap, arith}
+use Rattle.std.proofs.Common.{◌≡◌, ◌*◌, ◌≤◌, length, slice_index, ap, arith}
 use Rattle.hg_defs.specs.LeastLoaded.{least}
-use Rattle.hg_defs.specs.PlacementLaws.{IsFirstLeast}
 use Rattle.hg_defs.proofs.PlacementLaws.{least_is, first_least_same}
-use Rattle.hg_base.specs.Placing.{IsLeastWithin}
 use Rattle.hg_base.proofs.loads.Loads.least.Goals as goal
 
 pub returns-clause-least : goal.returns-clause-least
 returns-clause-least c =
     let xs = c.args.self.now in
     let b = c.loop-group.best in
-    let best = c.loop-group.invariant in
+    let best = c.loop-group.invariant.0 in
     let groups = c.self.invariant.groups in
     let same : length c.self.inside.loads.items ≡ length xs = ap length c.self.view_is in
     let all : length xs ≤ 16 * c.loop-group.group = omega (arith, c.loop-group-test.false, c.len-group-end.ensures) in

@@ -1,0 +1,5 @@
+pub mod MadeLemmas
+pub mod PenLemmas
+pub mod TextLemmas
+pub mod GraphLemmas
+pub mod GraphLaws

@@ -1,0 +1,54 @@
+//! `hgpart`: cuts hypergraphs into blocks of bounded weight, evaluates partitions, and makes
+//! hypergraphs to try it on.
+#![tactic(auto)]
+
+use hg_defs::NoMemory;
+use hg_io::{AnySink, AnySource, Place, StdSink};
+use part_run::{Status, names, put_status, run};
+use std::env;
+use std::process::ExitCode;
+
+/// The words of the command line behind the program's name, or `None` where one isn't text.
+fn words(rt: &HostRuntime) -> Result<Vec<String>, Status> {
+    let mut words = Vec::new(rt.alloc());
+    let Ok(arguments) = env::args(rt) else {
+        return Err(Status::Usage);
+    };
+    for word in arguments.skip(1) {
+        if words.push(word).is_err() {
+            return Err(Status::NoMemory);
+        }
+    }
+    Ok(words)
+}
+
+/// Carries out the command that the words spell, over files and the standard streams.
+fn carry_out(rt: HostRuntime, words: &[String]) -> Status {
+    let names = match names(rt.alloc(), words) {
+        Ok(names) => names,
+        Err(NoMemory) => return Status::NoMemory,
+    };
+    let mut graph = AnySource::at(rt, rt.stdin(), names.graph);
+    let mut extra = AnySource::at(rt, rt.stdin(), names.extra);
+    let mut out = AnySink::at(rt, rt.stdout(), rt.stderr(), names.out);
+    let mut report = AnySink::at(rt, rt.stdout(), rt.stderr(), names.report);
+    run(
+        rt.alloc(),
+        words,
+        &mut graph,
+        &mut extra,
+        &mut out,
+        &mut report,
+    )
+    .status
+}
+
+fn main(rt: HostRuntime) -> ExitCode {
+    let status = match words(&rt) {
+        Ok(words) => carry_out(rt, words.as_slice()),
+        Err(status) => status,
+    };
+    let mut errors = StdSink::over(rt.stderr());
+    let _ = put_status(&mut errors, &status);
+    ExitCode::from(status.code())
+}

@@ -1,0 +1,6 @@
+use Rattle.hmetis_read.proofs.Placed.{faults_placed}
+use Rattle.hmetis_read.proofs.Counted.{lines_counted}
+use Rattle.hmetis_read.proofs.laws.text_laws.Goals as goal
+
+pub returns : goal.returns
+returns c = record { placed = faults_placed; lines = lines_counted }

@@ -1,0 +1,34 @@
+ghost use Rattle.std.specs.Prelude.{◌^◌, ◌≤◌, length};
+ghost use Rattle.hmetis_read.specs.Graph.{graph};
+ghost use Rattle.hmetis_read.specs.Reads.{Answers};
+
+use crate::header::read_header;
+use crate::net::read_nets;
+use crate::vertex::read_vertices;
+use crate::{GraphFault, LineKind};
+use hg_base::FlatHyper;
+use hg_text::Lines;
+use std::alloc::Global;
+
+/// Reads the hypergraph that a text of at most 2^29 bytes spells, or answers its first fault.
+///
+/// Lines are read from the first to the last, and fields from the left.
+pub fn read_hypergraph(alloc: Global, bytes: &[u8]) -> Result<FlatHyper, GraphFault>
+    requires { length bytes.now ≤ 2 ^ 29 }
+    ensures graph { Answers result (graph bytes.now) }
+{
+    let mut lines = Lines::over(bytes);
+    let shape = read_header(&mut lines)?;
+    let mut hyper = FlatHyper::start(alloc, shape.vertices)?;
+    read_nets(alloc, &mut lines, &shape, &mut hyper)?;
+    if shape.vertex_weights {
+        read_vertices(&mut lines, &mut hyper)?;
+    }
+    match lines.next_kept() {
+        Some(line) => Err(GraphFault::Bad {
+            line: line.line(),
+            kind: LineKind::ExtraLine,
+        }),
+        None => Ok(hyper),
+    }
+}

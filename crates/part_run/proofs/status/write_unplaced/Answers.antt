@@ -1,0 +1,15 @@
+use Rattle.std.proofs.Common.{codes}
+use Rattle.std.specs.Fmt.{decimal}
+use Rattle.trace_text.proofs.PenLemmas.{wrote, cut, exit}
+use Rattle.part_run.proofs.status.write_unplaced.Goals as goal
+
+pub returns-in_err-write-clause-bytes : goal.returns-in_err-write-clause-bytes
+returns-in_err-write-clause-bytes g c =
+    exit c.from_residual.result c.from_residual.ensures.0 (cut (codes "\n") (cut (decimal c.args.vertex) c.in_err-write.ensures.bytes))
+
+pub returns-in_err-put_number-clause-bytes : goal.returns-in_err-put_number-clause-bytes
+returns-in_err-put_number-clause-bytes g c =
+    exit c.from_residual-in_err-put_number.result c.from_residual-in_err-put_number.ensures.0 (cut (codes "\n") (wrote c.in_ok-write.ensures.bytes (rw c.from.ensures at c.in_err-put_number.ensures.bytes)))
+
+pub returns-clause-bytes : goal.returns-clause-bytes
+returns-clause-bytes g c = wrote (wrote c.in_ok-write.ensures.bytes (rw c.from.ensures at c.in_ok-put_number.ensures.bytes)) c.write-2.ensures.bytes

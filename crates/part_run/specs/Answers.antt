@@ -1,0 +1,213 @@
+-- What a run may answer: for each way to end its cause, what was read, and what was written.
+use Rattle.std.specs.Prelude.{◌≡◌, ◌≢◌, ℕ, ◌+◌, List, [], Option, Some, None, Ok, ◌⊎◌}
+use Rattle.std.specs.Io.KnownBytes.{Appends, Keeps}
+use Rattle.hg_defs.specs.Hypergraph.{Hyper, vertex_count, total_weight}
+use Rattle.hg_defs.specs.Partition.{IsPartition, Obeys, Fits, limit}
+use Rattle.hg_defs.specs.Cost.{cost}
+use Rattle.hg_defs.specs.LeastLoaded.{greedy, overfills}
+use Rattle.hg_io.specs.Faults.{Rose}
+use Rattle.hg_io.specs.Transfers.{AppendsPrefix}
+use Rattle.part_text.specs.Part.{part_text}
+use Rattle.part_text.specs.Entries.{spelled_part}
+use Rattle.hg_make.specs.Made.{made}
+use Rattle.hg_make.specs.Text.{hypergraph_text}
+use Rattle.trace_text.specs.Evaluation.{evaluation_text}
+use Rattle.part_run.specs.declared.status.Status.{Status}
+use Rattle.part_run.specs.declared.status.Status.TheVariants.{Done, Usage, Unplaced, WriteFault, NoMemory}
+use Rattle.part_run.specs.declared.ended.Outcome.{Outcome}
+use Rattle.part_run.specs.declared.ended.Ended.{Ended}
+use Rattle.part_run.specs.Wanted.{Command, Partition, Evaluate, Generate, Partitioning, Evaluation}
+use Rattle.part_run.specs.Reads.{IsSuited, Spells, with_objective, IsFixed, IsGraphRefusal, IsFixRefusal, IsPartRefusal}
+
+-- the sources of a run at one moment: the bytes that they have left, where they are known, and their counts of faults
+pub record Inputs : Type 0 where
+  pub graph : Option (List ℕ)
+  pub graph_faults : ℕ
+  pub extra : Option (List ℕ)
+  pub extra_faults : ℕ
+
+-- the sinks of a run at one moment: the bytes that they got, where they are known, and their counts of faults
+pub record Outputs : Type 0 where
+  pub out : Option (List ℕ)
+  pub out_faults : ℕ
+  pub report : Option (List ℕ)
+  pub report_faults : ℕ
+
+-- neither sink got a byte
+pub record IsUnwritten (old new : Outputs) : Type 0 where
+  pub out : Keeps old.out new.out
+  pub report : Keeps old.report new.report
+
+-- both sinks got their whole texts
+pub record IsWritten (old new : Outputs) (out_text report_text : List ℕ) : Type 0 where
+  pub out : Appends old.out new.out out_text
+  pub report : Appends old.report new.report report_text
+
+-- out met a fault and got a prefix of its text, which isn't empty, and the report got nothing
+pub record IsOutFault (old new : Outputs) (out_text : List ℕ) : Type 0 where
+  pub some : out_text ≢ []
+  pub fault : Rose old.out_faults new.out_faults
+  pub out : AppendsPrefix old.out new.out out_text
+  pub report : Keeps old.report new.report
+
+-- out got its whole text, and then the report met a fault and got a prefix of its text
+pub record IsReportFault (old new : Outputs) (out_text report_text : List ℕ) : Type 0 where
+  pub fault : Rose old.report_faults new.report_faults
+  pub out : Appends old.out new.out out_text
+  pub report : AppendsPrefix old.report new.report report_text
+
+-- why two texts weren't written: a sink met a fault
+abbrev pub IsWriteRefusal : Outputs → Outputs → List ℕ → List ℕ → Status → Type 0
+IsWriteRefusal old new out_text report_text WriteFault =
+    IsOutFault old new out_text ⊎ IsReportFault old new out_text report_text
+IsWriteRefusal old new out_text report_text _ = ⊥
+
+-- the hypergraph that `partition` works on: as the graph spells it and suited to k, with the objective and the fixes that the words ask for
+pub record IsAccepted (p : Partitioning) (old new : Inputs) (h : Hyper) : Type 0 where
+  pub spelled : Hyper
+  pub graph : IsSuited p.k old.graph new.graph spelled
+  pub fixed : IsFixed p.fix p.k old.extra new.extra (with_objective p.objective spelled) h
+
+-- the graph is taken, and the fix file that is named isn't
+pub record IsFixRefused (p : Partitioning) (old new : Inputs) (status : Status) : Type 0 where
+  pub hypergraph : Hyper
+  pub graph : IsSuited p.k old.graph new.graph hypergraph
+  pub named : (name : List ℕ) × (p.fix ≡ Some name)
+  pub cause : IsFixRefusal (vertex_count hypergraph) p.k old.extra new.extra old.extra_faults new.extra_faults status
+
+-- why `partition` refuses what it reads
+abbrev pub IsInputRefusal : Partitioning → Inputs → Inputs → Status → Type 0
+IsInputRefusal p old new status =
+    IsGraphRefusal p.k old.graph new.graph old.graph_faults new.graph_faults status ⊎ IsFixRefused p old new status
+
+abbrev pub limit_for : Partitioning → Hyper → ℕ
+limit_for p h = limit (total_weight h) p.k p.eps
+
+-- the partition that is written: greedy placement, with one block for each vertex, where it is fixed and within the limit
+pub record IsResult (p : Partitioning) (h : Hyper) (blocks : List ℕ) : Type 0 where
+  pub greedy : blocks ≡ greedy h p.k
+  pub placed : overfills h p.k (limit_for p h) ≡ None
+  pub partition : IsPartition h p.k blocks
+  pub obeys : Obeys h blocks
+  pub fits : Fits h p.k (limit_for p h) blocks
+
+-- why a hypergraph gets no partition: greedy placement passes the limit at a vertex, numbered from 1, or there was no memory
+abbrev pub IsPlaceRefusal : Partitioning → Hyper → Status → Type 0
+IsPlaceRefusal p h (Unplaced vertex) = (v : ℕ) × (overfills h p.k (limit_for p h) ≡ Some v) × (vertex ≡ v + 1)
+IsPlaceRefusal p h NoMemory = Unit {0}
+IsPlaceRefusal p h _ = ⊥
+
+abbrev pub report_for : Partitioning → Hyper → List ℕ → List ℕ
+report_for p h blocks = evaluation_text h p.k p.eps blocks
+
+-- `partition` is done: the partition and the report were written, and the outcome has the partition and its exact cost
+pub record IsPartitioned (p : Partitioning) (inputs inputs' : Inputs) (outputs outputs' : Outputs) (outcome : Outcome) : Type 0 where
+  pub hypergraph : Hyper
+  pub accepted : IsAccepted p inputs inputs' hypergraph
+  pub result : IsResult p hypergraph outcome.blocks
+  pub cost : outcome.cost ≡ cost hypergraph outcome.blocks
+  pub written : IsWritten outputs outputs' (part_text outcome.blocks) (report_for p hypergraph outcome.blocks)
+
+-- `partition` refuses what it reads, and writes nothing
+pub record IsInputRefused (p : Partitioning) (inputs inputs' : Inputs) (outputs outputs' : Outputs) (status : Status) : Type 0 where
+  pub cause : IsInputRefusal p inputs inputs' status
+  pub unwritten : IsUnwritten outputs outputs'
+
+-- it takes what it reads, finds no partition, and writes nothing
+pub record IsPlaceRefused (p : Partitioning) (inputs inputs' : Inputs) (outputs outputs' : Outputs) (status : Status) : Type 0 where
+  pub hypergraph : Hyper
+  pub accepted : IsAccepted p inputs inputs' hypergraph
+  pub cause : IsPlaceRefusal p hypergraph status
+  pub unwritten : IsUnwritten outputs outputs'
+
+-- it met a fault while it wrote the texts of a result
+pub record IsWriteRefused (p : Partitioning) (inputs inputs' : Inputs) (outputs outputs' : Outputs) (status : Status) : Type 0 where
+  pub hypergraph : Hyper
+  pub blocks : List ℕ
+  pub accepted : IsAccepted p inputs inputs' hypergraph
+  pub result : IsResult p hypergraph blocks
+  pub cause : IsWriteRefusal outputs outputs' (part_text blocks) (report_for p hypergraph blocks) status
+
+-- the stages of `partition`, and at each of them its refusals
+abbrev pub IsPartitionRefused : Partitioning → Inputs → Inputs → Outputs → Outputs → Status → Type 0
+IsPartitionRefused p inputs inputs' outputs outputs' status =
+    IsInputRefused p inputs inputs' outputs outputs' status
+    ⊎ (IsPlaceRefused p inputs inputs' outputs outputs' status ⊎ IsWriteRefused p inputs inputs' outputs outputs' status)
+
+-- `evaluate` takes the graph and the partition file, and the report got the whole evaluation
+pub record IsEvaluated (e : Evaluation) (inputs inputs' : Inputs) (outputs outputs' : Outputs) : Type 0 where
+  pub hypergraph : Hyper
+  pub blocks : List ℕ
+  pub graph : IsSuited e.k inputs.graph inputs'.graph hypergraph
+  pub part : Spells inputs.extra inputs'.extra (λ bytes. spelled_part bytes (vertex_count hypergraph) e.k ≡ Ok blocks)
+  pub written : IsWritten outputs outputs' [] (evaluation_text (with_objective e.objective hypergraph) e.k e.eps blocks)
+
+-- the graph is taken, and the partition file isn't
+pub record IsPartRefused (e : Evaluation) (inputs inputs' : Inputs) (status : Status) : Type 0 where
+  pub hypergraph : Hyper
+  pub graph : IsSuited e.k inputs.graph inputs'.graph hypergraph
+  pub cause : IsPartRefusal (vertex_count hypergraph) e.k inputs.extra inputs'.extra inputs.extra_faults inputs'.extra_faults status
+
+-- `evaluate` refuses what it reads, and writes nothing
+pub record IsUnread (e : Evaluation) (inputs inputs' : Inputs) (outputs outputs' : Outputs) (status : Status) : Type 0 where
+  pub cause : IsGraphRefusal e.k inputs.graph inputs'.graph inputs.graph_faults inputs'.graph_faults status
+      ⊎ IsPartRefused e inputs inputs' status
+  pub unwritten : IsUnwritten outputs outputs'
+
+-- it met a fault while it wrote the evaluation
+pub record IsUnreported (e : Evaluation) (inputs inputs' : Inputs) (outputs outputs' : Outputs) (status : Status) : Type 0 where
+  pub hypergraph : Hyper
+  pub blocks : List ℕ
+  pub graph : IsSuited e.k inputs.graph inputs'.graph hypergraph
+  pub part : Spells inputs.extra inputs'.extra (λ bytes. spelled_part bytes (vertex_count hypergraph) e.k ≡ Ok blocks)
+  pub write_fault : status ≡ WriteFault
+  pub cause : IsReportFault outputs outputs' [] (evaluation_text (with_objective e.objective hypergraph) e.k e.eps blocks)
+
+abbrev pub IsEvaluationRefused : Evaluation → Inputs → Inputs → Outputs → Outputs → Status → Type 0
+IsEvaluationRefused e inputs inputs' outputs outputs' status =
+    IsUnread e inputs inputs' outputs outputs' status ⊎ IsUnreported e inputs inputs' outputs outputs' status
+
+-- `generate` reads nothing, and out got the whole text of the hypergraph
+pub record IsGenerated (n : ℕ) (inputs inputs' : Inputs) (outputs outputs' : Outputs) : Type 0 where
+  pub unread : inputs' ≡ inputs
+  pub written : IsWritten outputs outputs' (hypergraph_text (made n)) []
+
+-- why `generate` wrote no whole text: there was no memory, or out met a fault
+abbrev pub IsGenerationRefusal : ℕ → Outputs → Outputs → Status → Type 0
+IsGenerationRefusal n outputs outputs' NoMemory = IsUnwritten outputs outputs'
+IsGenerationRefusal n outputs outputs' WriteFault = IsOutFault outputs outputs' (hypergraph_text (made n))
+IsGenerationRefusal n outputs outputs' _ = ⊥
+
+pub record IsGenerationRefused (n : ℕ) (inputs inputs' : Inputs) (outputs outputs' : Outputs) (status : Status) : Type 0 where
+  pub unread : inputs' ≡ inputs
+  pub cause : IsGenerationRefusal n outputs outputs' status
+
+-- how each command ends: done, with an outcome where it partitions, or refused
+abbrev pub IsPartitionEnd : Partitioning → Inputs → Inputs → Outputs → Outputs → Status → Option Outcome → Type 0
+IsPartitionEnd p inputs inputs' outputs outputs' Done (Some outcome) = IsPartitioned p inputs inputs' outputs outputs' outcome
+IsPartitionEnd p inputs inputs' outputs outputs' status None = IsPartitionRefused p inputs inputs' outputs outputs' status
+IsPartitionEnd p inputs inputs' outputs outputs' status (Some outcome) = ⊥
+
+abbrev pub IsEvaluationEnd : Evaluation → Inputs → Inputs → Outputs → Outputs → Status → Option Outcome → Type 0
+IsEvaluationEnd e inputs inputs' outputs outputs' Done None = IsEvaluated e inputs inputs' outputs outputs'
+IsEvaluationEnd e inputs inputs' outputs outputs' status None = IsEvaluationRefused e inputs inputs' outputs outputs' status
+IsEvaluationEnd e inputs inputs' outputs outputs' status (Some outcome) = ⊥
+
+abbrev pub IsGenerationEnd : ℕ → Inputs → Inputs → Outputs → Outputs → Status → Option Outcome → Type 0
+IsGenerationEnd n inputs inputs' outputs outputs' Done None = IsGenerated n inputs inputs' outputs outputs'
+IsGenerationEnd n inputs inputs' outputs outputs' status None = IsGenerationRefused n inputs inputs' outputs outputs' status
+IsGenerationEnd n inputs inputs' outputs outputs' status (Some outcome) = ⊥
+
+-- words that spell no command are refused, and nothing is read or written
+pub record IsUsage (inputs inputs' : Inputs) (outputs outputs' : Outputs) (ended : Ended) : Type 0 where
+  pub status : ended.status ≡ Usage
+  pub outcome : ended.outcome ≡ None
+  pub unread : inputs' ≡ inputs
+  pub unwritten : outputs' ≡ outputs
+
+-- how a run of the wanted command ends
+abbrev pub IsEnd : Option Command → Inputs → Inputs → Outputs → Outputs → Ended → Type 0
+IsEnd None inputs inputs' outputs outputs' ended = IsUsage inputs inputs' outputs outputs' ended
+IsEnd (Some (Partition p)) inputs inputs' outputs outputs' ended = IsPartitionEnd p inputs inputs' outputs outputs' ended.status ended.outcome
+IsEnd (Some (Evaluate e)) inputs inputs' outputs outputs' ended = IsEvaluationEnd e inputs inputs' outputs outputs' ended.status ended.outcome
+IsEnd (Some (Generate n)) inputs inputs' outputs outputs' ended = IsGenerationEnd n inputs inputs' outputs outputs' ended.status ended.outcome

@@ -1,0 +1,6 @@
+pub mod Wanted
+pub mod Spelled
+pub mod Places
+pub mod StatusText
+pub mod Reads
+pub mod Answers

@@ -1,0 +1,21 @@
+//! The top call: from the words of a command line to texts and a status.
+#![tactic(auto)]
+
+mod ended;
+mod evaluate;
+mod generate;
+mod naming;
+mod partition;
+mod places;
+mod reading;
+mod status;
+#[cfg(test)]
+mod tests;
+mod top;
+mod words;
+
+pub use ended::{Ended, Outcome};
+pub use naming::names;
+pub use places::Names;
+pub use status::{Status, put_status};
+pub use top::run;

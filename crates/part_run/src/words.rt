@@ -1,0 +1,282 @@
+//! The words of the command line, and the command that they spell.
+
+ghost use Rattle.std.specs.Prelude.{◌≡◌, ◌≤◌, ◌^◌, option_map, option_copied, map, string_bytes, None, Some, IfSome, ◌<◌};
+ghost use Rattle.part_run.specs.Wanted.{number_within, fraction_of, imbalance, file_name, plain_name, objective_of, if_unset, with_word, with_words, no_settings, chosen_objective, partition_words, evaluate_words, generate_words, wanted};
+ghost use Rattle.part_run.specs.Spelled.{settings_of, partitioning_of, evaluation_of, command_of, IsWithinBounds};
+
+use hg_defs::Objective;
+use hg_text::number;
+
+/// The number that `word` spells, where it is from `low` to `high`.
+fn number_within(low: u64, high: u64, word: &str) -> Option<u64>
+    ensures value { result ≡ number_within low high word.now }
+    ensures bounds { IfSome result (λ n. (low ≤ n) × (n ≤ high)) }
+{
+    let value = number(word.as_bytes()).ok()?;
+    (low <= value && value <= high).then_some(value)
+}
+
+/// The name of a file: any word but the empty one.
+fn file_name(word: &str) -> Option<&str>
+    ensures { option_copied result ≡ file_name word.now }
+{
+    if word.is_empty() { None } else { Some(word) }
+}
+
+/// The same, where `-`, which stands for a standard stream, is left out.
+fn plain_name(word: &str) -> Option<&str>
+    ensures { option_copied result ≡ plain_name word.now }
+{
+    if word.is_empty() || word == "-" {
+        None
+    } else {
+        Some(word)
+    }
+}
+
+fn objective_of(word: &str) -> Option<Objective>
+    ensures { result ≡ objective_of word.now }
+{
+    if word == "km1" {
+        Some(Objective::Connectivity)
+    } else if word == "cut" {
+        Some(Objective::CutNet)
+    } else if word == "soed" {
+        Some(Objective::ExternalDegree)
+    } else {
+        None
+    }
+}
+
+/// The same for small numbers.
+fn small_within(low: u32, high: u32, word: &str) -> Option<u32>
+    ensures value { result ≡ number_within low high word.now }
+    ensures bounds { IfSome result (λ n. (low ≤ n) × (n ≤ high)) }
+{
+    let value = number_within(u64::from(low), u64::from(high), word)?;
+    Some(value as u32)
+}
+
+/// The thousandths that one, two or three digits behind a point stand for.
+fn fraction_of(digits: &str) -> Option<u32>
+    ensures value { result ≡ fraction_of digits.now }
+    ensures bound { IfSome result (λ n. n < 100000) }
+{
+    let scale = match digits.len() {
+        1 => 100,
+        2 => 10,
+        3 => 1,
+        _ => return None,
+    };
+    let value = small_within(0, 999, digits)?;
+    Some(value * scale)
+}
+
+/// The imbalance that `word` spells, in thousandths: 100,000 at most.
+fn imbalance(word: &str) -> Option<u32>
+    ensures value { result ≡ imbalance word.now }
+    ensures bound { IfSome result (λ n. n ≤ 100000) }
+{
+    let Some((whole, digits)) = word.split_once('.') else {
+        let whole = small_within(0, 100, word)?;
+        return Some(whole * 1000);
+    };
+    let whole = small_within(0, 100, whole)?;
+    let value = whole * 1000 + fraction_of(digits)?;
+    (value <= 100_000).then_some(value)
+}
+
+/// What the words behind the imbalance set.
+#[derive(Clone, Copy)]
+struct Settings<'a> {
+    seed: Option<u64>,
+    workers: Option<u32>,
+    out: Option<&'a str>,
+    cost: Option<Objective>,
+    fix: Option<&'a str>,
+}
+
+/// The new value of a setting that has no value yet.
+fn if_unset<T: Copy>(old: Option<T>, new: Option<T>) -> Option<T>
+    ensures { result ≡ if_unset old new }
+{
+    match old {
+        None => new,
+        Some(_) => None,
+    }
+}
+
+/// The settings with that of one more word, `key=value`, where the key isn't set yet.
+fn with_word<'a>(settings: Settings<'a>, word: &'a str) -> Option<Settings<'a>>
+    ensures { option_map settings_of result ≡ with_word (settings_of settings.entry) word.now }
+{
+    let (key, value) = word.split_once('=')?;
+    if key == "seed" {
+        let seed = if_unset(settings.seed, number_within(0, u64::MAX, value))?;
+        Some(Settings {
+            seed: Some(seed),
+            ..settings
+        })
+    } else if key == "workers" {
+        let workers = if_unset(settings.workers, small_within(1, 64, value))?;
+        Some(Settings {
+            workers: Some(workers),
+            ..settings
+        })
+    } else if key == "out" {
+        let out = if_unset(settings.out, file_name(value))?;
+        Some(Settings {
+            out: Some(out),
+            ..settings
+        })
+    } else if key == "cost" {
+        let cost = if_unset(settings.cost, objective_of(value))?;
+        Some(Settings {
+            cost: Some(cost),
+            ..settings
+        })
+    } else if key == "fix" {
+        let fix = if_unset(settings.fix, plain_name(value))?;
+        Some(Settings {
+            fix: Some(fix),
+            ..settings
+        })
+    } else {
+        None
+    }
+}
+
+/// The settings of all words.
+fn with_words(words: &[String]) -> Option<Settings<'_>>
+    ensures { option_map settings_of result ≡ with_words no_settings (map string_bytes words.now) }
+{
+    let mut settings = Settings {
+        seed: None,
+        workers: None,
+        out: None,
+        cost: None,
+        fix: None,
+    };
+    for word in words {
+        settings = with_word(settings, word.as_str())?;
+    }
+    Some(settings)
+}
+
+/// The one setting of `evaluate`.
+fn chosen_objective(words: &[String]) -> Option<Objective>
+    ensures { result ≡ chosen_objective (map string_bytes words.now) }
+{
+    match words {
+        [] => Some(Objective::Connectivity),
+        [word] => {
+            let (key, value) = word.as_str().split_once('=')?;
+            if key == "cost" {
+                objective_of(value)
+            } else {
+                None
+            }
+        }
+        _ => None,
+    }
+}
+
+/// What `partition` asks for, with defaults filled in.
+#[derive(Clone, Copy)]
+pub(crate) struct Partitioning<'a> {
+    pub graph: &'a str,
+    pub k: u32,
+    pub eps: u32,
+    pub seed: u64,
+    pub workers: u32,
+    pub out: Option<&'a str>,
+    pub objective: Objective,
+    pub fix: Option<&'a str>,
+}
+
+/// What `evaluate` asks for, with defaults filled in.
+#[derive(Clone, Copy)]
+pub(crate) struct Evaluation<'a> {
+    pub graph: &'a str,
+    pub part: &'a str,
+    pub k: u32,
+    pub eps: u32,
+    pub objective: Objective,
+}
+
+/// The command that the words spell.
+#[derive(Clone, Copy)]
+pub(crate) enum Command<'a> {
+    Partition(Partitioning<'a>),
+    Evaluate(Evaluation<'a>),
+    Generate(u32),
+}
+
+fn partition_words(words: &[String]) -> Option<Partitioning<'_>>
+    ensures bounds { IfSome result (λ p. (2 ≤ p.k) × (p.k ≤ 256) × (p.eps ≤ 100000)) }
+    ensures value { option_map partitioning_of result ≡ partition_words (map string_bytes words.now) }
+{
+    let [graph, k, eps, rest @ ..] = words else {
+        return None;
+    };
+    let graph = file_name(graph.as_str())?;
+    let k = small_within(2, 256, k.as_str())?;
+    let eps = imbalance(eps.as_str())?;
+    let settings = with_words(rest)?;
+    Some(Partitioning {
+        graph,
+        k,
+        eps,
+        seed: settings.seed.unwrap_or(1),
+        workers: settings.workers.unwrap_or(4),
+        out: settings.out,
+        objective: settings.cost.unwrap_or(Objective::Connectivity),
+        fix: settings.fix,
+    })
+}
+
+fn evaluate_words(words: &[String]) -> Option<Evaluation<'_>>
+    ensures bounds { IfSome result (λ e. (2 ≤ e.k) × (e.k ≤ 256) × (e.eps ≤ 100000)) }
+    ensures value { option_map evaluation_of result ≡ evaluate_words (map string_bytes words.now) }
+{
+    let [graph, part, k, eps, rest @ ..] = words else {
+        return None;
+    };
+    Some(Evaluation {
+        graph: file_name(graph.as_str())?,
+        part: plain_name(part.as_str())?,
+        k: small_within(2, 256, k.as_str())?,
+        eps: imbalance(eps.as_str())?,
+        objective: chosen_objective(rest)?,
+    })
+}
+
+fn generate_words(words: &[String]) -> Option<u32>
+    ensures value { result ≡ generate_words (map string_bytes words.now) }
+    ensures bounds { IfSome result (λ n. (1 ≤ n) × (n ≤ 2 ^ 22)) }
+{
+    let [n] = words else {
+        return None;
+    };
+    small_within(1, 1 << 22, n.as_str())
+}
+
+/// The command that the words spell, or none.
+pub(crate) fn parse(words: &[String]) -> Option<Command<'_>>
+    ensures bounds { IfSome result IsWithinBounds }
+    ensures value { option_map command_of result ≡ wanted (map string_bytes words.now) }
+{
+    let [command, rest @ ..] = words else {
+        return None;
+    };
+    let command = command.as_str();
+    if command == "partition" {
+        Some(Command::Partition(partition_words(rest)?))
+    } else if command == "evaluate" {
+        Some(Command::Evaluate(evaluate_words(rest)?))
+    } else if command == "generate" {
+        Some(Command::Generate(generate_words(rest)?))
+    } else {
+        None
+    }
+}

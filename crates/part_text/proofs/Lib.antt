@@ -1,0 +1,4 @@
+pub mod Texts
+pub mod ReadLemmas
+pub mod LineLemmas
+pub mod PartLaws

@@ -1,0 +1,56 @@
+use Rattle.std.proofs.Common.{ℕ, List, ◌∙◌, ap, codes}
+use Rattle.hg_defs.specs.Hypergraph.{net_count, total_weight}
+use Rattle.trace_text.specs.Lines.{number_line}
+use Rattle.trace_text.proofs.PenLemmas.{wrote, cut, exit, spelt}
+use Rattle.trace_text.proofs.lines.put_sizes.Goals as goal
+
+abbrev vertices_line : ℕ → List ℕ
+vertices_line n = number_line (codes "vertices ") n
+
+abbrev nets_line : ℕ → List ℕ
+nets_line n = number_line (codes "nets ") n
+
+abbrev weight_line : ℕ → List ℕ
+weight_line n = number_line (codes "weight ") n
+
+abbrev blocks_line : ℕ → List ℕ
+blocks_line n = number_line (codes "blocks ") n
+
+abbrev limit_line : ℕ → List ℕ
+limit_line n = number_line (codes "limit ") n
+
+pub returns-in_err-put_line-clause-bytes : goal.returns-in_err-put_line-clause-bytes
+returns-in_err-put_line-clause-bytes g c =
+    let h = c.args.h.now in
+    exit c.from_residual.result c.from_residual.ensures.0
+    (cut (limit_line c.args.limit) (cut (blocks_line c.args.k) (cut (weight_line (total_weight h)) (cut (nets_line (net_count h)) (spelt (ap vertices_line (c.from.ensures ∙ c.vertices.ensures.count)) c.in_err-put_line.ensures.bytes)))))
+
+pub returns-in_err-put_line-2-clause-bytes : goal.returns-in_err-put_line-2-clause-bytes
+returns-in_err-put_line-2-clause-bytes g c =
+    let h = c.args.h.now in
+    let one = spelt (ap vertices_line (c.from.ensures ∙ c.vertices.ensures.count)) c.in_ok-put_line.ensures.bytes in
+    exit c.from_residual-in_err-put_line-2.result c.from_residual-in_err-put_line-2.ensures.0
+    (cut (limit_line c.args.limit) (cut (blocks_line c.args.k) (cut (weight_line (total_weight h)) (wrote one (spelt (ap nets_line (c.from-2.ensures ∙ c.nets.ensures.count)) c.in_err-put_line-2.ensures.bytes)))))
+
+pub returns-in_err-put_line-3-clause-bytes : goal.returns-in_err-put_line-3-clause-bytes
+returns-in_err-put_line-3-clause-bytes g c =
+    let one = spelt (ap vertices_line (c.from.ensures ∙ c.vertices.ensures.count)) c.in_ok-put_line.ensures.bytes in
+    let two = wrote one (spelt (ap nets_line (c.from-2.ensures ∙ c.nets.ensures.count)) c.in_ok-put_line-2.ensures.bytes) in
+    exit c.from_residual-in_err-put_line-3.result c.from_residual-in_err-put_line-3.ensures.0
+    (cut (limit_line c.args.limit) (cut (blocks_line c.args.k) (wrote two (spelt (ap weight_line c.total_weight.ensures) c.in_err-put_line-3.ensures.bytes))))
+
+pub returns-in_err-put_line-4-clause-bytes : goal.returns-in_err-put_line-4-clause-bytes
+returns-in_err-put_line-4-clause-bytes g c =
+    let one = spelt (ap vertices_line (c.from.ensures ∙ c.vertices.ensures.count)) c.in_ok-put_line.ensures.bytes in
+    let two = wrote one (spelt (ap nets_line (c.from-2.ensures ∙ c.nets.ensures.count)) c.in_ok-put_line-2.ensures.bytes) in
+    let three = wrote two (spelt (ap weight_line c.total_weight.ensures) c.in_ok-put_line-3.ensures.bytes) in
+    exit c.from_residual-in_err-put_line-4.result c.from_residual-in_err-put_line-4.ensures.0
+    (cut (limit_line c.args.limit) (wrote three (spelt (ap blocks_line c.from-3.ensures) c.in_err-put_line-4.ensures.bytes)))
+
+pub returns-clause-bytes : goal.returns-clause-bytes
+returns-clause-bytes g c =
+    let one = spelt (ap vertices_line (c.from.ensures ∙ c.vertices.ensures.count)) c.in_ok-put_line.ensures.bytes in
+    let two = wrote one (spelt (ap nets_line (c.from-2.ensures ∙ c.nets.ensures.count)) c.in_ok-put_line-2.ensures.bytes) in
+    let three = wrote two (spelt (ap weight_line c.total_weight.ensures) c.in_ok-put_line-3.ensures.bytes) in
+    let four = wrote three (spelt (ap blocks_line c.from-3.ensures) c.in_ok-put_line-4.ensures.bytes) in
+    wrote four c.put_line-5.ensures.bytes

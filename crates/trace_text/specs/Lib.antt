@@ -1,0 +1,3 @@
+pub mod Lines
+pub mod Evaluation
+pub mod Summary
