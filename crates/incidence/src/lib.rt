@@ -6,3 +6,6 @@ mod index;
 
 pub use hg_base::{FREE, FlatHyper, NoMemory, Objective};
 pub use hypergraph::Hypergraph;
+
+#[cfg(test)]
+mod tests;
