@@ -33,10 +33,10 @@ pub saved_past : (h : Hyper) (k : ℕ) (p starts words : List ℕ) (b v : ℕ) �
 saved_past h k p starts words b v told past =
     total-zero (net_saved h p b) (nets_of h v)
     (λ i d l.
-      saved_none h p b (get_or (nets_of h v) i d)
-      (none_past k p (net_of h (get_or (nets_of h v) i d)).pins b
-        (subst (λ n. All (λ u. u < n) (net_of h (get_or (nets_of h v) i d)).pins) (sym told.parted.partition.vertices) (told.parted.sound.nets (get_or (nets_of h v) i d) (record { weight = 0; pins = [] }) (nets_of-below h v i d l)).pins)
-        told.parted.partition.blocks past))
+    saved_none h p b (get_or (nets_of h v) i d)
+    (none_past k p (net_of h (get_or (nets_of h v) i d)).pins b
+    (subst (λ n. All (λ u. u < n) (net_of h (get_or (nets_of h v) i d)).pins) (sym told.parted.partition.vertices) (told.parted.sound.nets (get_or (nets_of h v) i d) (record { weight = 0; pins = [] }) (nets_of-below h v i d l)).pins)
+    told.parted.partition.blocks past))
 
 module _ (h : Hyper) (k l : ℕ) (p starts words loads sums : List ℕ) (v loss : ℕ) (told : IsTold h k p starts words) (loaded : IsLoaded h k p loads) (vertex : v < vertex_count h) (free : IsFree h v) (lost : loss ≡ total (net_lost h p (block_of p v)) (nets_of h v)) (saved : (b : ℕ) → b ≢ block_of p v → slice_index sums b ≡ total (net_saved h p b) (nets_of h v)) where
   pub scored_gain : (b : ℕ) → b < k → b ≢ block_of p v → gain h p v b ≡ pos (slice_index sums b) -ℤ pos loss
@@ -83,20 +83,20 @@ module _ (h : Hyper) (k l : ℕ) (p starts words loads sums : List ℕ) (v loss 
   top_best (Some a) top =
       sym
       (only_best_block h k l p v a
-        (record {
-          allowed = target_allowed a top.0;
-          gains = subst (λ (z : ℤ). pos 0 <ℤ z) (sym (scored_gain a (target_low a top.0) top.0.other)) (above_gain (slice_index sums a) top.1);
-          highest = λ c t.
+      (record {
+        allowed = target_allowed a top.0;
+        gains = subst (λ (z : ℤ). pos 0 <ℤ z) (sym (scored_gain a (target_low a top.0) top.0.other)) (above_gain (slice_index sums a) top.1);
+        highest = λ c t.
             let x = scored_gain a (target_low a top.0) top.0.other in
             let y = scored_gain c t.block t.other in
             let n = top.2 c (allowed_target c t) in
             subst (λ (z : ℤ). z ≤ℤ gain h p v a) (sym y) (subst (λ (z : ℤ). (pos (slice_index sums c) -ℤ pos loss) ≤ℤ z) (sym x) (less (slice_index sums c) (slice_index sums a) n));
-          lowest = λ c m t.
+        lowest = λ c m t.
             let x = scored_gain a (target_low a top.0) top.0.other in
             let y = scored_gain c t.block t.other in
             let n = top.3 c m (allowed_target c t) in
             subst (λ (z : ℤ). z <ℤ gain h p v a) (sym y) (subst (λ (z : ℤ). (pos (slice_index sums c) -ℤ pos loss) <ℤ z) (sym x) (below (slice_index sums c) (slice_index sums a) n));
-        }))
+      }))
     where
       less : (s t : ℕ) → s ≤ t → (pos s -ℤ pos loss) ≤ℤ (pos t -ℤ pos loss)
       less s t n = omega (arith, ints)

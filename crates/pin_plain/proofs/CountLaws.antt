@@ -80,11 +80,11 @@ module _ (h : Hyper) (k : ℕ) where
 
   -- where the words of net e alone change, the other nets keep their counts
   pub HoldsCounts-net :
-    (words new : List ℕ) (counts later : ℕ → ℕ → ℕ) (e : ℕ) → HoldsCounts h k words counts → e < net_count h
-    → ((b : ℕ) → b < net_words h k e * fields_of (net_bits h e) → count_at new (net_start h k e) (net_bits h e) b ≡ later e b)
-    → ((i : ℕ) → ((x : ℕ) → x < net_words h k e → i ≢ net_start h k e + x) → slice_index new i ≡ slice_index words i)
-    → ((i b : ℕ) → i ≢ e → later i b ≡ counts i b)
-    → HoldsCounts h k new later
+      (words new : List ℕ) (counts later : ℕ → ℕ → ℕ) (e : ℕ) → HoldsCounts h k words counts → e < net_count h
+      → ((b : ℕ) → b < net_words h k e * fields_of (net_bits h e) → count_at new (net_start h k e) (net_bits h e) b ≡ later e b)
+      → ((i : ℕ) → ((x : ℕ) → x < net_words h k e → i ≢ net_start h k e + x) → slice_index new i ≡ slice_index words i)
+      → ((i b : ℕ) → i ≢ e → later i b ≡ counts i b)
+      → HoldsCounts h k new later
   HoldsCounts-net words new counts later e held l own others same i b m low = by (cases_eq i e)
     where
       by : (i ≡ e) ⊎ (i ≢ e) → count_at new (net_start h k i) (net_bits h i) b ≡ later i b
@@ -150,29 +150,29 @@ before_other h p e i b other = ap (λ t. if t then counts_of h p i b else 0) (by
 
 module _ (h : Hyper) (k : ℕ) (p words new : List ℕ) (e start bits : ℕ) (pins : List ℕ) (es : start ≡ net_start h k e) (eb : bits ≡ net_bits h e) (ep : pins ≡ (net_of h e).pins) (l : e < net_count h) (blocks : All (λ b. b < k) p) where
   pub counted_net :
-    ((b : ℕ) → count_at new start bits b ≡ count_at words start bits b + pins_in p pins b)
-    → ((i : ℕ) → All (λ b. i ≢ start + b / fields_of bits) p → slice_index new i ≡ slice_index words i)
-    → HoldsCounts h k words (counts_before h p e)
-    → HoldsCounts h k new (counts_before h p (e + 1))
+      ((b : ℕ) → count_at new start bits b ≡ count_at words start bits b + pins_in p pins b)
+      → ((i : ℕ) → All (λ b. i ≢ start + b / fields_of bits) p → slice_index new i ≡ slice_index words i)
+      → HoldsCounts h k words (counts_before h p e)
+      → HoldsCounts h k new (counts_before h p (e + 1))
   counted_net counts others held =
       HoldsCounts-net h k words new (counts_before h p e) (counts_before h p (e + 1)) e held l
       (λ b low.
-        let a = count_same h k e start bits es eb new b in
-        let c = count_same h k e start bits es eb words b in
-        let d = counts b in
-        let f = ap (λ ps. pins_in p ps b) ep in
-        let z = held e b l low in
-        let n = before_not h p e b in
-        let w = before_now h p e b in
-        omega arith)
+      let a = count_same h k e start bits es eb new b in
+      let c = count_same h k e start bits es eb words b in
+      let d = counts b in
+      let f = ap (λ ps. pins_in p ps b) ep in
+      let z = held e b l low in
+      let n = before_not h p e b in
+      let w = before_now h p e b in
+      omega arith)
       (λ i apart.
-        others i
-        (λ j d m q.
-          let low = blocks j d m in
-          let enough = fields_enough (length (net_of h e).pins) k in
-          let inside = word_below (net_bits h e) (net_words h k e) (get_or p j d) (bits_width (length (net_of h e).pins)) (omega arith) in
-          apart (get_or p j d / fields_of (net_bits h e)) inside
-          (q ∙ ap (λ s. s + get_or p j d / fields_of bits) es ∙ ap (λ w. net_start h k e + get_or p j d / fields_of w) eb)))
+      others i
+      (λ j d m q.
+      let low = blocks j d m in
+      let enough = fields_enough (length (net_of h e).pins) k in
+      let inside = word_below (net_bits h e) (net_words h k e) (get_or p j d) (bits_width (length (net_of h e).pins)) (omega arith) in
+      apart (get_or p j d / fields_of (net_bits h e)) inside
+      (q ∙ ap (λ s. s + get_or p j d / fields_of bits) es ∙ ap (λ w. net_start h k e + get_or p j d / fields_of w) eb)))
       (λ i b other. before_other h p e i b other)
 
 -- ---- one pin moved
@@ -219,8 +219,8 @@ module _ (h : Hyper) (k : ℕ) (p : List ℕ) (v to e idx : ℕ) (nets : List �
   changed_counts c =
       let once = times_of-once (net_of h e).pins v rising at_pin in
       let change =
-          subst (λ n. pins_in (slice_set p v to) (net_of h e).pins c + n * weight_if (block_of p v) c 1 ≡ pins_in p (net_of h e).pins c + n * weight_if to c 1) once
-          (pins_in-set p (net_of h e).pins v to c inside) in
+      subst (λ n. pins_in (slice_set p v to) (net_of h e).pins c + n * weight_if (block_of p v) c 1 ≡ pins_in p (net_of h e).pins c + n * weight_if to c 1) once
+      (pins_in-set p (net_of h e).pins v to c inside) in
       let a = one_flip c (block_of p v) in
       let b = one_flip c to in
       omega arith
@@ -253,24 +253,24 @@ module _ (h : Hyper) (k : ℕ) (p : List ℕ) (v to e idx : ℕ) (nets : List �
           omega arith
 
       pub pin_moved :
-        (new : List ℕ)
-        → ((i : ℕ) → i ≢ start + block_of p v / fields_of bits → slice_index mid i ≡ slice_index words i)
-        → ((c : ℕ) → count_at new start bits c ≡ count_at mid start bits c + (if nat_eq c to then 1 else 0))
-        → ((i : ℕ) → i ≢ start + to / fields_of bits → slice_index new i ≡ slice_index mid i)
-        → HoldsCounts h k new (counts_between h p (moved p v to) (take (idx + 1) nets))
+          (new : List ℕ)
+          → ((i : ℕ) → i ≢ start + block_of p v / fields_of bits → slice_index mid i ≡ slice_index words i)
+          → ((c : ℕ) → count_at new start bits c ≡ count_at mid start bits c + (if nat_eq c to then 1 else 0))
+          → ((i : ℕ) → i ≢ start + to / fields_of bits → slice_index new i ≡ slice_index mid i)
+          → HoldsCounts h k new (counts_between h p (moved p v to) (take (idx + 1) nets))
       pin_moved new mid_others raised new_others =
           HoldsCounts-net h k words new (counts_between h p (moved p v to) (take idx nets)) (counts_between h p (moved p v to) (take (idx + 1) nets)) e held at_net
           (λ b low.
-            let a = count_same h k e start bits es eb new b in
-            let n = now_at b low in
-            let l = lowered b in
-            let r = raised b in
-            let c = changed_counts b in
-            let d = between_done h p (moved p v to) (take (idx + 1) nets) e b now in
-            omega arith)
+          let a = count_same h k e start bits es eb new b in
+          let n = now_at b low in
+          let l = lowered b in
+          let r = raised b in
+          let c = changed_counts b in
+          let d = between_done h p (moved p v to) (take (idx + 1) nets) e b now in
+          omega arith)
           (λ i apart.
-            new_others i (λ q. apart (to / fields_of (net_bits h e)) (word_of to block) (q ∙ place to))
-            ∙ mid_others i (λ q. apart (block_of p v / fields_of (net_bits h e)) (word_of (block_of p v) old_block) (q ∙ place (block_of p v))))
+          new_others i (λ q. apart (to / fields_of (net_bits h e)) (word_of to block) (q ∙ place to))
+          ∙ mid_others i (λ q. apart (block_of p v / fields_of (net_bits h e)) (word_of (block_of p v) old_block) (q ∙ place (block_of p v))))
           (λ i b q. ap (λ t. if t then counts_of h (moved p v to) i b else counts_of h p i b) (still i q))
         where
           word_of : (b : ℕ) → b < k → b / fields_of (net_bits h e) < net_words h k e
@@ -299,11 +299,11 @@ between_all h p v to e b inside l = by (is_member nat_eq (nets_of h v) e) refl
     by false q =
         sym
         (pins_in-set_apart p (net_of h e).pins v to inside
-          (λ c.
-            let on = (is_member-Decides Decides-eqb (net_of h e).pins v).1 c in
-            let listed = list_any_at (nat_eq e) (range_with_len 0 (net_count h)) e 0 (let n = length-range_with_len 0 (net_count h) in omega arith) (eq-eqb e (get_or (range_with_len 0 (net_count h)) e 0) (let g = get_or-range_with_len 0 (net_count h) e 0 l in omega arith)) in
-            absurd (true≢false (sym (member_filter (is_on h v) (range_with_len 0 (net_count h)) e on listed) ∙ q)))
-          b)
+        (λ c.
+        let on = (is_member-Decides Decides-eqb (net_of h e).pins v).1 c in
+        let listed = list_any_at (nat_eq e) (range_with_len 0 (net_count h)) e 0 (let n = length-range_with_len 0 (net_count h) in omega arith) (eq-eqb e (get_or (range_with_len 0 (net_count h)) e 0) (let g = get_or-range_with_len 0 (net_count h) e 0 l in omega arith)) in
+        absurd (true≢false (sym (member_filter (is_on h v) (range_with_len 0 (net_count h)) e on listed) ∙ q)))
+        b)
 
 pub all_moved : (h : Hyper) (k : ℕ) (p words : List ℕ) (v to : ℕ) → v < length p → HoldsCounts h k words (counts_between h p (moved p v to) (nets_of h v)) → HoldsCounts h k words (counts_of h (moved p v to))
 all_moved h k p words v to inside held e b l low = held e b l low ∙ between_all h p v to e b inside l

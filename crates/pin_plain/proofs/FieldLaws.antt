@@ -145,7 +145,7 @@ module _ (words : List ℕ) (start bits b : ℕ) (width : IsWidth bits) (inside 
       by true e =
           let quotient = eqb-true (c / fields_of bits) (b / fields_of bits) e in
           let read = ap (slice_index (set words (start + b / fields_of bits) (slice_index words (start + b / fields_of bits) + unit bits (b % fields_of bits)))) (ap (λ x. start + x) quotient)
-              ∙ get_or-set_same words (start + b / fields_of bits) (slice_index words (start + b / fields_of bits) + unit bits (b % fields_of bits)) 0 inside in
+          ∙ get_or-set_same words (start + b / fields_of bits) (slice_index words (start + b / fields_of bits) + unit bits (b % fields_of bits)) 0 inside in
           let step = raise_field (slice_index words (start + b / fields_of bits)) bits (b % fields_of bits) (c % fields_of bits) width (place_below bits b width) (place_below bits c width) room in
           ap (λ w. field w bits (c % fields_of bits)) read
           ∙ step
@@ -164,7 +164,7 @@ module _ (words : List ℕ) (start bits b : ℕ) (width : IsWidth bits) (inside 
       by true e =
           let quotient = eqb-true (c / fields_of bits) (b / fields_of bits) e in
           let read = ap (slice_index (set words (start + b / fields_of bits) (slice_index words (start + b / fields_of bits) - unit bits (b % fields_of bits)))) (ap (λ x. start + x) quotient)
-              ∙ get_or-set_same words (start + b / fields_of bits) (slice_index words (start + b / fields_of bits) - unit bits (b % fields_of bits)) 0 inside in
+          ∙ get_or-set_same words (start + b / fields_of bits) (slice_index words (start + b / fields_of bits) - unit bits (b % fields_of bits)) 0 inside in
           let step = lower_field (slice_index words (start + b / fields_of bits)) bits (b % fields_of bits) (c % fields_of bits) width (place_below bits b width) (place_below bits c width) held in
           ap (λ w. field w bits (c % fields_of bits) + (if nat_eq c b then 1 else 0)) read
           ∙ ap (λ t. field (slice_index words (start + b / fields_of bits) - unit bits (b % fields_of bits)) bits (c % fields_of bits) + (if t then 1 else 0)) (sym (same_place (fields_of bits) b c quotient))

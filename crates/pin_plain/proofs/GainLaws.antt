@@ -150,9 +150,9 @@ alone f k a l h = by (nat_eq (f a) (sum_below f k)) refl
     by false e =
         ne_eqb (sum_below (λ b. present (f b)) k) 1
         (λ r.
-          let others = others_zero (λ b. present (f b)) k a l (r ∙ sym one) in
-          let whole = sum_below-only f k a l (λ j m q. positive_or_zero (f j) (others j m q)) in
-          eqb-false (f a) (sum_below f k) e (sym whole))
+        let others = others_zero (λ b. present (f b)) k a l (r ∙ sym one) in
+        let whole = sum_below-only f k a l (λ j m q. positive_or_zero (f j) (others j m q)) in
+        eqb-false (f a) (sum_below f k) e (sym whole))
 
 some_blocks : (p pins : List ℕ) (v : ℕ) → Contains pins v → 0 < connectivity p pins
 some_blocks p [] v c = absurd (Contains-nil v c)
@@ -199,22 +199,22 @@ module _ (h : Hyper) (k : ℕ) (p : List ℕ) (v b e : ℕ) (good : IsHypergraph
     after = some_blocks (moved p v b) (net_of h e).pins v pin;
     old = old_positive;
     all =
-      let sum = pins_in-sum k p (net_of h e).pins (blocks_of_pins k p (net_of h e).pins whole.blocks below) in
-      let two = two_within (pins_in p (net_of h e).pins) k (block_of p v) b old_block block other in
-      omega arith;
+        let sum = pins_in-sum k p (net_of h e).pins (blocks_of_pins k p (net_of h e).pins whole.blocks below) in
+        let two = two_within (pins_in p (net_of h e).pins) k (block_of p v) b old_block block other in
+        omega arith;
     change = connectivity-set p (net_of h e).pins v b inside is_net.rising pin other;
     whole_before =
-      let low = blocks_of_pins k p (net_of h e).pins whole.blocks below in
-      ap (λ n. nat_eq n 1) (connectivity-sum k p (net_of h e).pins low)
-      ∙ alone (pins_in p (net_of h e).pins) k (block_of p v) old_block old_positive
-      ∙ ap (nat_eq (pins_in p (net_of h e).pins (block_of p v))) (pins_in-sum k p (net_of h e).pins low);
+        let low = blocks_of_pins k p (net_of h e).pins whole.blocks below in
+        ap (λ n. nat_eq n 1) (connectivity-sum k p (net_of h e).pins low)
+        ∙ alone (pins_in p (net_of h e).pins) k (block_of p v) old_block old_positive
+        ∙ ap (nat_eq (pins_in p (net_of h e).pins (block_of p v))) (pins_in-sum k p (net_of h e).pins low);
     whole_after =
-      let low = blocks_of_pins k (moved p v b) (net_of h e).pins moved_blocks moved_below in
-      let new = pins_in-set_new p (net_of h e).pins v b inside is_net.rising pin other in
-      ap (λ n. nat_eq n 1) (connectivity-sum k (moved p v b) (net_of h e).pins low)
-      ∙ alone (pins_in (moved p v b) (net_of h e).pins) k b block (omega arith)
-      ∙ ap (λ n. nat_eq n (sum_below (pins_in (moved p v b) (net_of h e).pins) k)) new
-      ∙ ap (nat_eq (pins_in p (net_of h e).pins b + 1)) (pins_in-sum k (moved p v b) (net_of h e).pins low);
+        let low = blocks_of_pins k (moved p v b) (net_of h e).pins moved_blocks moved_below in
+        let new = pins_in-set_new p (net_of h e).pins v b inside is_net.rising pin other in
+        ap (λ n. nat_eq n 1) (connectivity-sum k (moved p v b) (net_of h e).pins low)
+        ∙ alone (pins_in (moved p v b) (net_of h e).pins) k b block (omega arith)
+        ∙ ap (λ n. nat_eq n (sum_below (pins_in (moved p v b) (net_of h e).pins) k)) new
+        ∙ ap (nat_eq (pins_in p (net_of h e).pins b + 1)) (pins_in-sum k (moved p v b) (net_of h e).pins low);
   }
     where
       old_positive : 0 < pins_in p (net_of h e).pins (block_of p v)
@@ -228,8 +228,8 @@ module _ (h : Hyper) (k : ℕ) (p : List ℕ) (v b e : ℕ) (good : IsHypergraph
       let m = moves in
       let after : connectivity_after p (net_of h e).pins (block_of p v) b ≡ connectivity (moved p v b) (net_of h e).pins = let c = m.change in omega arith in
       let one =
-          one_change h.objective (connectivity p (net_of h e).pins) (connectivity (moved p v b) (net_of h e).pins) (pins_in p (net_of h e).pins (block_of p v)) (pins_in p (net_of h e).pins b)
-          (length (net_of h e).pins) m in
+      one_change h.objective (connectivity p (net_of h e).pins) (connectivity (moved p v b) (net_of h e).pins) (pins_in p (net_of h e).pins (block_of p v)) (pins_in p (net_of h e).pins b)
+      (length (net_of h e).pins) m in
       ap (λ c. pos ((net_of h e).weight * price h.objective (connectivity p (net_of h e).pins)) -ℤ pos ((net_of h e).weight * price h.objective c)) after
       ∙ scaled (net_of h e).weight (price h.objective (connectivity p (net_of h e).pins)) (price h.objective (connectivity (moved p v b) (net_of h e).pins))
       (saved h.objective (pins_in p (net_of h e).pins b) (length (net_of h e).pins))

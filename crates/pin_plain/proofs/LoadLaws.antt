@@ -21,10 +21,10 @@ use Rattle.std.proofs.lemmas.List.Elements.{All-set, All-map}
 
 -- the weight of the next vertex added to the load of its block
 pub weight_added :
-  (ws p loads : List ℕ) (v : ℕ) → v < length ws → v < length p → slice_index p v < length loads
-  → ((b : ℕ) → b < length loads → slice_index loads b ≡ weight_in (take v ws) (take v p) b)
-  → (b : ℕ) → b < length (slice_set loads (slice_index p v) (slice_index loads (slice_index p v) + slice_index ws v))
-  → slice_index (slice_set loads (slice_index p v) (slice_index loads (slice_index p v) + slice_index ws v)) b ≡ weight_in (take (v + 1) ws) (take (v + 1) p) b
+    (ws p loads : List ℕ) (v : ℕ) → v < length ws → v < length p → slice_index p v < length loads
+    → ((b : ℕ) → b < length loads → slice_index loads b ≡ weight_in (take v ws) (take v p) b)
+    → (b : ℕ) → b < length (slice_set loads (slice_index p v) (slice_index loads (slice_index p v) + slice_index ws v))
+    → slice_index (slice_set loads (slice_index p v) (slice_index loads (slice_index p v) + slice_index ws v)) b ≡ weight_in (take (v + 1) ws) (take (v + 1) p) b
 weight_added ws p loads v l m low known b inside = by (cases_eq b (slice_index p v))
   where
     new : ℕ
@@ -34,10 +34,10 @@ weight_added ws p loads v l m low known b inside = by (cases_eq b (slice_index p
     by (inl e) =
         subst (λ c. slice_index (slice_set loads (slice_index p v) (slice_index loads (slice_index p v) + slice_index ws v)) c ≡ weight_in (take (v + 1) ws) (take (v + 1) p) c) (sym e)
         (let at = get_or-set_same loads (slice_index p v) (slice_index loads (slice_index p v) + slice_index ws v) 0 low in
-          let more = weight_in-take_more ws p v (slice_index p v) l m in
-          let was = known (slice_index p v) low in
-          let one = weight_if-same (slice_index p v) (slice_index p v) (slice_index ws v) refl in
-          omega arith)
+        let more = weight_in-take_more ws p v (slice_index p v) l m in
+        let was = known (slice_index p v) low in
+        let one = weight_if-same (slice_index p v) (slice_index p v) (slice_index ws v) refl in
+        omega arith)
     by (inr q) =
         let at = get_or-set_other loads (slice_index p v) b (slice_index loads (slice_index p v) + slice_index ws v) 0 q in
         let more = weight_in-take_more ws p v b l m in
@@ -48,8 +48,8 @@ weight_added ws p loads v l m low known b inside = by (cases_eq b (slice_index p
 
 -- the weight of a vertex moved from the load of its block to that of another one
 pub weight_moved :
-  (h : Hyper) (k : ℕ) (p loads : List ℕ) (v to : ℕ) → IsLoaded h k p loads → length p ≡ vertex_count h → v < vertex_count h → block_of p v < k → to < k → to ≢ block_of p v
-  → IsLoaded h k (moved p v to) (loads_after loads (block_of p v) to (weight_of h v))
+    (h : Hyper) (k : ℕ) (p loads : List ℕ) (v to : ℕ) → IsLoaded h k p loads → length p ≡ vertex_count h → v < vertex_count h → block_of p v < k → to < k → to ≢ block_of p v
+    → IsLoaded h k (moved p v to) (loads_after loads (block_of p v) to (weight_of h v))
 weight_moved h k p loads v to loaded long vertex from block other = record {
   all = length-set (slice_set loads (block_of p v) (slice_index loads (block_of p v) - weight_of h v)) to _ ∙ length-set loads (block_of p v) _ ∙ loaded.all;
   each = λ b low. by b low (cases_eq b to) (cases_eq b (block_of p v));
@@ -64,26 +64,26 @@ weight_moved h k p loads v to loaded long vertex from block other = record {
     by b low (inl e) f =
         subst
         (λ c. slice_index (slice_set (slice_set loads (block_of p v) (slice_index loads (block_of p v) - weight_of h v)) to (slice_index (slice_set loads (block_of p v) (slice_index loads (block_of p v) - weight_of h v)) to + weight_of h v)) c
-          ≡ load h (moved p v to) c)
+        ≡ load h (moved p v to) c)
         (sym e)
         (let len = length-set loads (block_of p v) (slice_index loads (block_of p v) - weight_of h v) in
-          let all = loaded.all in
-          let at = get_or-set_same (slice_set loads (block_of p v) (slice_index loads (block_of p v) - weight_of h v)) to (slice_index (slice_set loads (block_of p v) (slice_index loads (block_of p v) - weight_of h v)) to + weight_of h v) 0 (omega arith) in
-          let was = get_or-set_other loads (block_of p v) to (slice_index loads (block_of p v) - weight_of h v) 0 other in
-          let known = loaded.each to block in
-          let law = load-moved_new h p v to long vertex other in
-          omega arith)
+        let all = loaded.all in
+        let at = get_or-set_same (slice_set loads (block_of p v) (slice_index loads (block_of p v) - weight_of h v)) to (slice_index (slice_set loads (block_of p v) (slice_index loads (block_of p v) - weight_of h v)) to + weight_of h v) 0 (omega arith) in
+        let was = get_or-set_other loads (block_of p v) to (slice_index loads (block_of p v) - weight_of h v) 0 other in
+        let known = loaded.each to block in
+        let law = load-moved_new h p v to long vertex other in
+        omega arith)
     by b low (inr q) (inl f) =
         subst
         (λ c. slice_index (slice_set (slice_set loads (block_of p v) (slice_index loads (block_of p v) - weight_of h v)) to (slice_index (slice_set loads (block_of p v) (slice_index loads (block_of p v) - weight_of h v)) to + weight_of h v)) c
-          ≡ load h (moved p v to) c)
+        ≡ load h (moved p v to) c)
         (sym f)
         (let all = loaded.all in
-          let at = get_or-set_other (slice_set loads (block_of p v) (slice_index loads (block_of p v) - weight_of h v)) to (block_of p v) (slice_index (slice_set loads (block_of p v) (slice_index loads (block_of p v) - weight_of h v)) to + weight_of h v) 0 (λ r. other (sym r)) in
-          let was = get_or-set_same loads (block_of p v) (slice_index loads (block_of p v) - weight_of h v) 0 (omega arith) in
-          let known = loaded.each (block_of p v) from in
-          let law = load-moved_old h p v to long vertex other in
-          omega arith)
+        let at = get_or-set_other (slice_set loads (block_of p v) (slice_index loads (block_of p v) - weight_of h v)) to (block_of p v) (slice_index (slice_set loads (block_of p v) (slice_index loads (block_of p v) - weight_of h v)) to + weight_of h v) 0 (λ r. other (sym r)) in
+        let was = get_or-set_same loads (block_of p v) (slice_index loads (block_of p v) - weight_of h v) 0 (omega arith) in
+        let known = loaded.each (block_of p v) from in
+        let law = load-moved_old h p v to long vertex other in
+        omega arith)
     by b low (inr q) (inr r) =
         let at = get_or-set_other (slice_set loads (block_of p v) (slice_index loads (block_of p v) - weight_of h v)) to b (slice_index (slice_set loads (block_of p v) (slice_index loads (block_of p v) - weight_of h v)) to + weight_of h v) 0 q in
         let was = get_or-set_other loads (block_of p v) b (slice_index loads (block_of p v) - weight_of h v) 0 r in
@@ -100,32 +100,32 @@ weight_within h k p loads v to loaded long vertex from other =
 
 -- what a partition keeps, after a move whose loads and counts were written back through slices
 pub kept_shifted :
-  (h : Hyper) (k : ℕ) (p q loads starts widths words : List ℕ) (v to n m : ℕ) (new_loads old_loads new_words old_words : List ℕ)
-  → IsKept h k p loads starts widths words → to < k → q ≡ moved p v to
-  → IsLoaded h k (moved p v to) new_loads → HoldsCounts h k new_words (counts_of h (moved p v to)) → length new_words ≡ length words → length new_loads ≡ n → length new_words ≡ m
-  → IsKept h k q (take n (new_loads ++ drop (length new_loads) old_loads)) starts widths (take m (new_words ++ drop (length new_words) old_words))
+    (h : Hyper) (k : ℕ) (p q loads starts widths words : List ℕ) (v to n m : ℕ) (new_loads old_loads new_words old_words : List ℕ)
+    → IsKept h k p loads starts widths words → to < k → q ≡ moved p v to
+    → IsLoaded h k (moved p v to) new_loads → HoldsCounts h k new_words (counts_of h (moved p v to)) → length new_words ≡ length words → length new_loads ≡ n → length new_words ≡ m
+    → IsKept h k q (take n (new_loads ++ drop (length new_loads) old_loads)) starts widths (take m (new_words ++ drop (length new_words) old_words))
 kept_shifted h k p q loads starts widths words v to n m new_loads old_loads new_words old_words kept low same loaded counted long ln lm =
     subst (λ ls. IsKept h k q ls starts widths (take m (new_words ++ drop (length new_words) old_words))) (sym (written_back n new_loads old_loads ln))
     (subst (λ ws. IsKept h k q new_loads starts widths ws) (sym (written_back m new_words old_words lm))
-      (subst (λ r. IsKept h k r new_loads starts widths new_words) (sym same)
-        (record {
-          parted = record {
-            sound = kept.parted.sound;
-            bounds = kept.parted.bounds;
-            suits = kept.parted.suits;
-            fixed = kept.parted.fixed;
-            some = kept.parted.some;
-            few = kept.parted.few;
-            partition = record {
-              vertices = length-set p v to ∙ kept.parted.partition.vertices;
-              blocks = All-set (λ b. b < k) p v to low kept.parted.partition.blocks;
-            };
-          };
-          loaded = loaded;
-          laid = record { nets = kept.laid.nets; starts_at = kept.laid.starts_at; all = long ∙ kept.laid.all };
-          wide = kept.wide;
-          counted = counted;
-        })))
+    (subst (λ r. IsKept h k r new_loads starts widths new_words) (sym same)
+    (record {
+      parted = record {
+        sound = kept.parted.sound;
+        bounds = kept.parted.bounds;
+        suits = kept.parted.suits;
+        fixed = kept.parted.fixed;
+        some = kept.parted.some;
+        few = kept.parted.few;
+        partition = record {
+          vertices = length-set p v to ∙ kept.parted.partition.vertices;
+          blocks = All-set (λ b. b < k) p v to low kept.parted.partition.blocks;
+        };
+      };
+      loaded = loaded;
+      laid = record { nets = kept.laid.nets; starts_at = kept.laid.starts_at; all = long ∙ kept.laid.all };
+      wide = kept.wide;
+      counted = counted;
+    })))
 
 -- a difference of small numbers, as a signed word
 pub signed_difference : (a b : ℕ) → a < 2 ^ 55 → b < 2 ^ 55 → to_z w64 (of_z w64 (to_z w64 a -ℤ to_z w64 b)) ≡ pos a -ℤ pos b

@@ -175,7 +175,7 @@ module _ (h : Hyper) (k : ℕ) (p starts words : List ℕ) (told : IsTold h k p 
       let f = fields_of bits in
       let taken = get_or-take (start + count - start) (drop start words) i 0 (omega arith) ∙ get_or-drop start words i 0 in
       let low : i * fields_of (net_bits h e) + place < net_words h k e * fields_of (net_bits h e) =
-          subst (λ g. i * g + place < net_words h k e * g) fields_same (subst (λ w. i * fields_of bits + place < w * fields_of bits) part_size (within_product i count (fields_of bits) place inside m)) in
+      subst (λ g. i * g + place < net_words h k e * g) fields_same (subst (λ w. i * fields_of bits + place < w * fields_of bits) part_size (within_product i count (fields_of bits) place inside m)) in
       let held = told.counted e (i * fields_of (net_bits h e) + place) net low in
       ap (λ w. field w bits place) taken
       ∙ ap (λ x. field (slice_index words (start + x)) bits place) (sym (split_div i f place m))
@@ -199,8 +199,8 @@ module _ (h : Hyper) (k : ℕ) (p starts words : List ℕ) (told : IsTold h k p 
   part_all b past =
       none_past k p pins b pins_below told.parted.partition.blocks
       (let enough = fields_enough (length (net_of h e).pins) k in
-        let n : length (take (start + count - start) (drop start words)) * fields_of bits ≡ net_words h k e * fields_of (net_bits h e) = ap (λ x. x * fields_of bits) (length-part ∙ part_size) ∙ ap (λ g. net_words h k e * g) fields_same in
-        omega arith)
+      let n : length (take (start + count - start) (drop start words)) * fields_of bits ≡ net_words h k e * fields_of (net_bits h e) = ap (λ x. x * fields_of bits) (length-part ∙ part_size) ∙ ap (λ g. net_words h k e * g) fields_same in
+      omega arith)
 
   -- where all pins are in one block, none is in another
   pub whole_elsewhere : (from b : ℕ) → from < k → b ≢ from → counts_of h p e from ≡ length pins → counts_of h p e b ≡ 0
@@ -231,9 +231,9 @@ nets_few h v = let a = length_filter-le (is_on h v) (range_with_len 0 (net_count
 
 -- a sum so far has room for what the next net saves
 pub room_for :
-  (h : Hyper) (p : List ℕ) (b from v i : ℕ) (nets sums : List ℕ) → IsWithinLimits h → nets ≡ nets_of h v → i < length nets → slice_index sums from ≡ 0
-  → ((c : ℕ) → c ≢ from → slice_index sums c ≡ total (net_saved h p c) (take i nets))
-  → slice_index sums b + net_saved h p b (slice_index nets i) < 2 ^ 64
+    (h : Hyper) (p : List ℕ) (b from v i : ℕ) (nets sums : List ℕ) → IsWithinLimits h → nets ≡ nets_of h v → i < length nets → slice_index sums from ≡ 0
+    → ((c : ℕ) → c ≢ from → slice_index sums c ≡ total (net_saved h p c) (take i nets))
+    → slice_index sums b + net_saved h p b (slice_index nets i) < 2 ^ 64
 room_for h p b from v i nets sums bounds is l own known = by (cases_eq b from)
   where
     by : (b ≡ from) ⊎ (b ≢ from) → slice_index sums b + net_saved h p b (slice_index nets i) < 2 ^ 64

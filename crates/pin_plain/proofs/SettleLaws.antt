@@ -87,9 +87,9 @@ follow_more h k l p q [] e unsettled =
 follow_more h k l p q (r ∷ rounds) f unsettled = (f.0, f.1, f.2, f.3, follow_more h k l (after_round p r) q rounds f.4 unsettled)
 
 pub added_more :
-  (h : Hyper) (k l : ℕ) (p q : List ℕ) (old now later : List LoggedRound) (number : ℕ) → AddsSweeps h k l p q old now number → (IsSettled h k l q → ⊥)
-  → later ≡ now ++ round_of (sweep h k l q) (cost h q) (cost h (replay q (sweep h k l q))) ∷ []
-  → AddsSweeps h k l p (replay q (sweep h k l q)) old later (number + 1)
+    (h : Hyper) (k l : ℕ) (p q : List ℕ) (old now later : List LoggedRound) (number : ℕ) → AddsSweeps h k l p q old now number → (IsSettled h k l q → ⊥)
+    → later ≡ now ++ round_of (sweep h k l q) (cost h q) (cost h (replay q (sweep h k l q))) ∷ []
+    → AddsSweeps h k l p (replay q (sweep h k l q)) old later (number + 1)
 added_more h k l p q old now later number a unsettled e = record {
   rounds = a.rounds ++ round_of (sweep h k l q) (cost h q) (cost h (replay q (sweep h k l q))) ∷ [];
   log = e ∙ ap (λ xs. xs ++ round_of (sweep h k l q) (cost h q) (cost h (replay q (sweep h k l q))) ∷ []) a.log ∙ append_assoc old a.rounds (round_of (sweep h k l q) (cost h q) (cost h (replay q (sweep h k l q))) ∷ []);
@@ -140,16 +140,16 @@ module _ (h : Hyper) (first now new : Parted) (same : now ≡ record first { blo
       (settles h first.k first.limit first.blocks now.blocks old logged number added (at_first (λ n m. IsSettled h n m now.blocks) settled))
 
   pub settle_more :
-    (old logged later : List LoggedRound) (number : ℕ) (moves : List Move) (before after_cost : ℕ) (round : LoggedRound) → (IsSettled h now.k now.limit now.blocks → ⊥)
-    → moves ≡ sweep h now.k now.limit now.blocks → before ≡ cost h now.blocks → after_cost ≡ cost h new.blocks → round ≡ round_of moves before after_cost → later ≡ logged ++ round ∷ []
-    → AddsSweeps h first.k first.limit first.blocks now.blocks old logged number
-    → AddsSweeps h first.k first.limit first.blocks new.blocks old later (number + 1)
+      (old logged later : List LoggedRound) (number : ℕ) (moves : List Move) (before after_cost : ℕ) (round : LoggedRound) → (IsSettled h now.k now.limit now.blocks → ⊥)
+      → moves ≡ sweep h now.k now.limit now.blocks → before ≡ cost h now.blocks → after_cost ≡ cost h new.blocks → round ≡ round_of moves before after_cost → later ≡ logged ++ round ∷ []
+      → AddsSweeps h first.k first.limit first.blocks now.blocks old logged number
+      → AddsSweeps h first.k first.limit first.blocks new.blocks old later (number + 1)
   settle_more old logged later number moves before after_cost round unsettled em eb ea er el added =
       subst (λ (q : List ℕ). AddsSweeps h first.k first.limit first.blocks q old later (number + 1)) (sym (new_blocks ∙ at_first (λ n m. replay now.blocks (sweep h now.k now.limit now.blocks) ≡ replay now.blocks (sweep h n m now.blocks)) refl))
       (added_more h first.k first.limit first.blocks now.blocks old logged later number added (λ settled. unsettled (back settled))
-        (el ∙ ap (λ (r : LoggedRound). logged ++ r ∷ []) (er ∙ ap (λ (ms : List Move). round_of ms before after_cost) em ∙ ap (λ (b : ℕ). round_of (sweep h now.k now.limit now.blocks) b after_cost) eb
-            ∙ ap (round_of (sweep h now.k now.limit now.blocks) (cost h now.blocks)) (ea ∙ ap (cost h) new_blocks)
-            ∙ at_first (λ n m. round_of (sweep h now.k now.limit now.blocks) (cost h now.blocks) (cost h (replay now.blocks (sweep h now.k now.limit now.blocks))) ≡ round_of (sweep h n m now.blocks) (cost h now.blocks) (cost h (replay now.blocks (sweep h n m now.blocks)))) refl)))
+      (el ∙ ap (λ (r : LoggedRound). logged ++ r ∷ []) (er ∙ ap (λ (ms : List Move). round_of ms before after_cost) em ∙ ap (λ (b : ℕ). round_of (sweep h now.k now.limit now.blocks) b after_cost) eb
+      ∙ ap (round_of (sweep h now.k now.limit now.blocks) (cost h now.blocks)) (ea ∙ ap (cost h) new_blocks)
+      ∙ at_first (λ n m. round_of (sweep h now.k now.limit now.blocks) (cost h now.blocks) (cost h (replay now.blocks (sweep h now.k now.limit now.blocks))) ≡ round_of (sweep h n m now.blocks) (cost h now.blocks) (cost h (replay now.blocks (sweep h n m now.blocks)))) refl)))
     where
       back : IsSettled h first.k first.limit now.blocks → IsSettled h now.k now.limit now.blocks
       back s = subst (λ n. IsSettled h n now.limit now.blocks) (sym same_k) (subst (λ m. IsSettled h first.k m now.blocks) (sym same_limit) s)

@@ -77,20 +77,20 @@ same_step first now next bs e f =
     f ∙ ap (λ (x : Parted). record x { blocks = bs }) e ∙ ap (λ (b : List ℕ). record first { blocks = b }) (sym (ap (λ (x : Parted). x.blocks) f))
 
 pub visit_more :
-  (h : Hyper) (first now next : Parted) (v : ℕ) (logged items later : List Move) (r : Option Move) → now ≡ record first { blocks = now.blocks } → v < vertex_count h
-  → r ≡ option_map (move_of h now.blocks v) (best_block h now.limit now.blocks v now.k)
-  → next ≡ record now { blocks = replay now.blocks (option_to_list r) }
-  → later ≡ items ++ option_to_list r
-  → IsSweeping h first.k first.limit first.blocks now.blocks v logged items
-  → IsSweeping h first.k first.limit first.blocks next.blocks (v + 1) logged later
+    (h : Hyper) (first now next : Parted) (v : ℕ) (logged items later : List Move) (r : Option Move) → now ≡ record first { blocks = now.blocks } → v < vertex_count h
+    → r ≡ option_map (move_of h now.blocks v) (best_block h now.limit now.blocks v now.k)
+    → next ≡ record now { blocks = replay now.blocks (option_to_list r) }
+    → later ≡ items ++ option_to_list r
+    → IsSweeping h first.k first.limit first.blocks now.blocks v logged items
+    → IsSweeping h first.k first.limit first.blocks next.blocks (v + 1) logged later
 visit_more h first now next v logged items later r same inside made after log s =
     subst (λ (xs : List Move). IsSweeping h first.k first.limit first.blocks next.blocks (v + 1) logged xs) (sym log)
     (subst (λ (q : List ℕ). IsSweeping h first.k first.limit first.blocks q (v + 1) logged (items ++ option_to_list r)) (sym (ap (λ (x : Parted). x.blocks) after))
-      (sweeping_more h first.k first.limit first.blocks now.blocks v logged items (option_to_list r) inside
-        (ap option_to_list made
-          ∙ ap (λ (n : ℕ). option_to_list (option_map (move_of h now.blocks v) (best_block h now.limit now.blocks v n))) (ap (λ (x : Parted). x.k) same)
-          ∙ ap (λ (n : ℕ). option_to_list (option_map (move_of h now.blocks v) (best_block h n now.blocks v first.k))) (ap (λ (x : Parted). x.limit) same))
-        s))
+    (sweeping_more h first.k first.limit first.blocks now.blocks v logged items (option_to_list r) inside
+    (ap option_to_list made
+    ∙ ap (λ (n : ℕ). option_to_list (option_map (move_of h now.blocks v) (best_block h now.limit now.blocks v n))) (ap (λ (x : Parted). x.k) same)
+    ∙ ap (λ (n : ℕ). option_to_list (option_map (move_of h now.blocks v) (best_block h n now.blocks v first.k))) (ap (λ (x : Parted). x.limit) same))
+    s))
 
 pub ltb_no : (a b : ℕ) → b ≤ a → nat_lt a b ≡ false
 ltb_no a b h = by (nat_lt a b) refl

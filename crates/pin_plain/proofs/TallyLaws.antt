@@ -180,20 +180,20 @@ amount_is o w s count size p pins b is ec es = ap (λ x. w * x) is ∙ ap (λ x.
 
 -- the sums after a pin in a block that was not touched yet
 pub sums_step :
-  (p pins : List ℕ) (i block from : ℕ) (o : Objective) (w amount : ℕ) (sums first : List ℕ) → i < length pins → block ≡ block_of p (slice_index pins i) → block < length sums → amount ≡ amount_for o w p pins block
-  → nat_lt 0 (pins_in p (take i pins) block) ≡ false
-  → ((b : ℕ) → b ≢ from → slice_index sums b ≡ slice_index first b + (if nat_lt 0 (pins_in p (take i pins) b) then amount_for o w p pins b else 0))
-  → (b : ℕ) → b ≢ from → slice_index (slice_set sums block (slice_index sums block + amount)) b ≡ slice_index first b + (if nat_lt 0 (pins_in p (take (i + 1) pins) b) then amount_for o w p pins b else 0)
+    (p pins : List ℕ) (i block from : ℕ) (o : Objective) (w amount : ℕ) (sums first : List ℕ) → i < length pins → block ≡ block_of p (slice_index pins i) → block < length sums → amount ≡ amount_for o w p pins block
+    → nat_lt 0 (pins_in p (take i pins) block) ≡ false
+    → ((b : ℕ) → b ≢ from → slice_index sums b ≡ slice_index first b + (if nat_lt 0 (pins_in p (take i pins) b) then amount_for o w p pins b else 0))
+    → (b : ℕ) → b ≢ from → slice_index (slice_set sums block (slice_index sums block + amount)) b ≡ slice_index first b + (if nat_lt 0 (pins_in p (take (i + 1) pins) b) then amount_for o w p pins b else 0)
 sums_step p pins i block from o w amount sums first l is inside same new known b q = by (cases_eq b block)
   where
     by : (b ≡ block) ⊎ (b ≢ block) → slice_index (slice_set sums block (slice_index sums block + amount)) b ≡ slice_index first b + (if nat_lt 0 (pins_in p (take (i + 1) pins) b) then amount_for o w p pins b else 0)
     by (inl e) =
         subst (λ c. slice_index (slice_set sums block (slice_index sums block + amount)) c ≡ slice_index first c + (if nat_lt 0 (pins_in p (take (i + 1) pins) c) then amount_for o w p pins c else 0)) (sym e)
         (let at = get_or-set_same sums block (slice_index sums block + amount) 0 inside in
-          let was = known block (subst (λ c. c ≢ from) e q) in
-          let none = amount_first p pins i block o w new in
-          let now = amount_now p pins (i + 1) block o w (touched_now p pins i block l (sym is)) in
-          omega arith)
+        let was = known block (subst (λ c. c ≢ from) e q) in
+        let none = amount_first p pins i block o w new in
+        let now = amount_now p pins (i + 1) block o w (touched_now p pins i block l (sym is)) in
+        omega arith)
     by (inr r) =
         get_or-set_other sums block b (slice_index sums block + amount) 0 r
         ∙ known b q
@@ -201,9 +201,9 @@ sums_step p pins i block from o w amount sums first l is inside same new known b
 
 -- the marks after it
 pub marks_step :
-  (p pins : List ℕ) (i block from : ℕ) (seen : List ℕ) (stamp : ℕ) → i < length pins → block ≡ block_of p (slice_index pins i) → IsBefore seen (stamp + 1) → block < 256
-  → ((b : ℕ) → b < 256 → b ≢ from → nat_eq (slice_index seen b) stamp ≡ nat_lt 0 (pins_in p (take i pins) b))
-  → (b : ℕ) → b < 256 → b ≢ from → nat_eq (slice_index (slice_set seen block stamp) b) stamp ≡ nat_lt 0 (pins_in p (take (i + 1) pins) b)
+    (p pins : List ℕ) (i block from : ℕ) (seen : List ℕ) (stamp : ℕ) → i < length pins → block ≡ block_of p (slice_index pins i) → IsBefore seen (stamp + 1) → block < 256
+    → ((b : ℕ) → b < 256 → b ≢ from → nat_eq (slice_index seen b) stamp ≡ nat_lt 0 (pins_in p (take i pins) b))
+    → (b : ℕ) → b < 256 → b ≢ from → nat_eq (slice_index (slice_set seen block stamp) b) stamp ≡ nat_lt 0 (pins_in p (take (i + 1) pins) b)
 marks_step p pins i block from seen stamp l is before low known b m q = by (cases_eq b block)
   where
     by : (b ≡ block) ⊎ (b ≢ block) → nat_eq (slice_index (slice_set seen block stamp) b) stamp ≡ nat_lt 0 (pins_in p (take (i + 1) pins) b)
@@ -284,9 +284,9 @@ none_past k p pins b low blocks past = by (cases_eq (pins_in p pins b) 0)
 
 -- the sums after the block at a place of a word
 pub word_step :
-  (o : Objective) (w amount : ℕ) (p pins : List ℕ) (first place from : ℕ) (sums before : List ℕ) → first + place < length sums → amount ≡ amount_for o w p pins (first + place)
-  → ((b : ℕ) → b ≢ from → slice_index sums b ≡ slice_index before b + (if is_between first place b then amount_for o w p pins b else 0))
-  → (b : ℕ) → b ≢ from → slice_index (slice_set sums (first + place) (slice_index sums (first + place) + amount)) b ≡ slice_index before b + (if is_between first (place + 1) b then amount_for o w p pins b else 0)
+    (o : Objective) (w amount : ℕ) (p pins : List ℕ) (first place from : ℕ) (sums before : List ℕ) → first + place < length sums → amount ≡ amount_for o w p pins (first + place)
+    → ((b : ℕ) → b ≢ from → slice_index sums b ≡ slice_index before b + (if is_between first place b then amount_for o w p pins b else 0))
+    → (b : ℕ) → b ≢ from → slice_index (slice_set sums (first + place) (slice_index sums (first + place) + amount)) b ≡ slice_index before b + (if is_between first (place + 1) b then amount_for o w p pins b else 0)
 word_step o w amount p pins first place from sums before inside same known b q = by (cases_eq b (first + place))
   where
     more : (if is_between first place b then amount_for o w p pins b else 0) + (if nat_eq b (first + place) then amount_for o w p pins b else 0) ≡ (if is_between first (place + 1) b then amount_for o w p pins b else 0)

@@ -19,7 +19,11 @@ fn split(bits: u32, b: u32) -> (u32, u32)
     ensures word { result.0 ≡ b / fields_of bits }
     ensures place { result.1 ≡ b % fields_of bits }
 {
-    if bits == 16 { (b / 4, b % 4) } else { (b / 2, b % 2) }
+    if bits == 16 {
+        (b / 4, b % 4)
+    } else {
+        (b / 2, b % 2)
+    }
 }
 
 /// The count of block `b`.
@@ -39,9 +43,7 @@ pub fn raise(words: &mut [u64], start: u32, bits: u32, b: u32)
     requires inside { start + b / fields_of bits < length words.old }
     requires few { length words.old < 2 ^ 32 }
     requires room { count_at words.old start bits b + 1 < 2 ^ bits }
-    ensures counts {
-        (c : ℕ) → count_at words.new start bits c ≡ count_at words.old start bits c + (if nat_eq c b then 1 else 0)
-    }
+    ensures counts { (c : ℕ) → count_at words.new start bits c ≡ count_at words.old start bits c + (if nat_eq c b then 1 else 0) }
     ensures others { (i : ℕ) → i ≢ start + b / fields_of bits → slice_index words.new i ≡ slice_index words.old i }
 {
     let (word, place) = split(bits, b);
@@ -54,9 +56,7 @@ pub fn lower(words: &mut [u64], start: u32, bits: u32, b: u32)
     requires inside { start + b / fields_of bits < length words.old }
     requires few { length words.old < 2 ^ 32 }
     requires held { 0 < count_at words.old start bits b }
-    ensures counts {
-        (c : ℕ) → count_at words.new start bits c + (if nat_eq c b then 1 else 0) ≡ count_at words.old start bits c
-    }
+    ensures counts { (c : ℕ) → count_at words.new start bits c + (if nat_eq c b then 1 else 0) ≡ count_at words.old start bits c }
     ensures others { (i : ℕ) → i ≢ start + b / fields_of bits → slice_index words.new i ≡ slice_index words.old i }
 {
     let (word, place) = split(bits, b);
@@ -70,12 +70,8 @@ fn count_net(words: &mut [u64], start: u32, bits: u32, pins: &[u32], blocks: &[u
     requires pins { All (λ v. v < length blocks.now) pins.now }
     requires inside { All (λ b. start + b / fields_of bits < length words.old) blocks.now }
     requires room { All (λ b. count_at words.old start bits b + length pins.now < 2 ^ bits) blocks.now }
-    ensures counts {
-        (b : ℕ) → count_at words.new start bits b ≡ count_at words.old start bits b + pins_in blocks.now pins.now b
-    }
-    ensures others {
-        (i : ℕ) → All (λ b. i ≢ start + b / fields_of bits) blocks.now → slice_index words.new i ≡ slice_index words.old i
-    }
+    ensures counts { (b : ℕ) → count_at words.new start bits b ≡ count_at words.old start bits b + pins_in blocks.now pins.now b }
+    ensures others { (i : ℕ) → All (λ b. i ≢ start + b / fields_of bits) blocks.now → slice_index words.new i ≡ slice_index words.old i }
 {
     for v in pins {
         raise(words, start, bits, blocks[*v as usize]);
@@ -92,12 +88,26 @@ pub fn count_nets(h: &Hypergraph, k: u32, blocks: &[u32], starts: &[u32], words:
     prove!(k <= 256);
     for e in 0..h.nets() {
         let pins = h.pins(e);
-        count_net(words, starts[e as usize], bits_of(pins.len() as u32), pins, blocks);
+        count_net(
+            words,
+            starts[e as usize],
+            bits_of(pins.len() as u32),
+            pins,
+            blocks,
+        );
     }
 }
 
 /// Moves the pin of a vertex to another block in the counts of each of its nets.
-pub fn move_pin(h: &Hypergraph, k: u32, blocks: &[u32], starts: &[u32], words: &mut [u64], v: u32, to: u32)
+pub fn move_pin(
+    h: &Hypergraph,
+    k: u32,
+    blocks: &[u32],
+    starts: &[u32],
+    words: &mut [u64],
+    v: u32,
+    to: u32,
+)
     requires parted { IsParted h.now k blocks.now }
     requires laid { IsLaidOut h.now k starts.now words.old }
     requires counted { HoldsCounts h.now k words.old (counts_of h.now blocks.now) }

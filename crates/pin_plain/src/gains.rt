@@ -43,7 +43,15 @@ pub fn lost(objective: Objective, count: u32, size: u32) -> u64
 }
 
 /// What the nets of a vertex save and lose where it goes to a block.
-pub fn saved_and_lost(h: &Hypergraph, k: u32, blocks: &[u32], starts: &[u32], words: &[u64], v: u32, to: u32) -> (u64, u64)
+pub fn saved_and_lost(
+    h: &Hypergraph,
+    k: u32,
+    blocks: &[u32],
+    starts: &[u32],
+    words: &[u64],
+    v: u32,
+    to: u32,
+) -> (u64, u64)
     requires told { IsTold h.now k blocks.now starts.now words.now }
     requires vertex { v < vertex_count h.now }
     requires block { to < k }

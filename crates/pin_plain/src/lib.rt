@@ -8,3 +8,6 @@ mod scores;
 
 pub use hg_base::NoMemory;
 pub use partition::Partition;
+
+#[cfg(test)]
+mod tests;

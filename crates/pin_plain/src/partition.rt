@@ -79,7 +79,13 @@ fn mapped(alloc: Global, blocks: &[u32], map: &[u32]) -> Result<Vec<u32>, NoMemo
 
 impl Partition {
     /// Makes a partition of the blocks, one below `k` for each vertex, `k` being from 2 to 256.
-    pub fn of(alloc: Global, h: &Hypergraph, k: u32, limit: u64, blocks: Blocks) -> Result<Self, NoMemory>
+    pub fn of(
+        alloc: Global,
+        h: &Hypergraph,
+        k: u32,
+        limit: u64,
+        blocks: Blocks,
+    ) -> Result<Self, NoMemory>
         requires some { 2 ≤ k }
         requires few { k ≤ 256 }
         requires partition { IsPartition h.now k blocks }
@@ -92,7 +98,13 @@ impl Partition {
         let layout = lay_out(alloc, h, k)?;
         let mut words = vec![in alloc; 0u64; layout.words as usize]?;
         add_weights(h, blocks.slice(), loads.as_mut_slice());
-        count_nets(h, k, blocks.slice(), layout.starts.as_slice(), words.as_mut_slice());
+        count_nets(
+            h,
+            k,
+            blocks.slice(),
+            layout.starts.as_slice(),
+            words.as_mut_slice(),
+        );
         Ok(Partition {
             hyper: Snapshot::of(h),
             k,
@@ -159,7 +171,12 @@ impl Partition {
     {
         let starts = self.starts.as_slice();
         let widths = self.widths.as_slice();
-        count(self.words.as_slice(), starts[e as usize], u32::from(widths[e as usize]), b)
+        count(
+            self.words.as_slice(),
+            starts[e as usize],
+            u32::from(widths[e as usize]),
+            b,
+        )
     }
 
     /// Moves a vertex to a block.
@@ -173,7 +190,15 @@ impl Partition {
         if from == to {
             return;
         }
-        move_pin(h, self.k, self.blocks.slice(), self.starts.as_slice(), self.words.as_mut_slice(), v, to);
+        move_pin(
+            h,
+            self.k,
+            self.blocks.slice(),
+            self.starts.as_slice(),
+            self.words.as_mut_slice(),
+            v,
+            to,
+        );
         move_weight(self.loads.as_mut_slice(), h.vertex_weight(v), from, to);
         self.blocks.set(v as usize, to);
     }
@@ -189,7 +214,15 @@ impl Partition {
         if blocks[v as usize] == to {
             return 0;
         }
-        let (saved, lost) = saved_and_lost(h, self.k, blocks, self.starts.as_slice(), self.words.as_slice(), v, to);
+        let (saved, lost) = saved_and_lost(
+            h,
+            self.k,
+            blocks,
+            self.starts.as_slice(),
+            self.words.as_slice(),
+            v,
+            to,
+        );
         saved as i64 - lost as i64
     }
 
@@ -200,10 +233,10 @@ impl Partition {
         requires suits { Suits fine.now self.now.k }
         requires fixed { IsFixedWithin fine.now self.now.k }
         ensures value { IfOk result (λ p. p ≡ record {
-            hyper = fine.now;
-            k = self.now.k;
-            limit = self.now.limit;
-            blocks = after self.now.blocks map.now;
+          hyper = fine.now;
+          k = self.now.k;
+          limit = self.now.limit;
+          blocks = after self.now.blocks map.now;
         }) }
         ensures cost { IfOk result (λ p. KeepsCost self.now.hyper self.now.blocks fine.now map.now p.blocks) }
     {

@@ -85,14 +85,10 @@ impl Scores {
         requires blocks { All (λ b. b < 256) blocks.now }
         requires inside { All (λ b. net.now.start + b / fields_of net.now.bits < length words.now) blocks.now }
         requires counts { All (λ b. count_at words.now net.now.start net.now.bits b ≡ pins_in blocks.now net.now.pins.now b) blocks.now }
-        requires room {
-            (b : ℕ) → slice_index self.old.sums b + amount_for net.now.objective net.now.weight blocks.now net.now.pins.now b < 2 ^ 64
-        }
+        requires room { (b : ℕ) → slice_index self.old.sums b + amount_for net.now.objective net.now.weight blocks.now net.now.pins.now b < 2 ^ 64 }
         ensures tracked { IsTracked self.new.sums self.new.touched self.new.count }
-        ensures sums {
-            (b : ℕ) → b ≢ from
-            → slice_index self.new.sums b ≡ slice_index self.old.sums b + amount_for net.now.objective net.now.weight blocks.now net.now.pins.now b
-        }
+        ensures sums { (b : ℕ) → b ≢ from
+            → slice_index self.new.sums b ≡ slice_index self.old.sums b + amount_for net.now.objective net.now.weight blocks.now net.now.pins.now b }
         ensures own { slice_index self.new.sums from ≡ slice_index self.old.sums from }
         ensures seen { IsBefore self.new.seen (self.old.stamp + 1) }
         ensures stamp { self.new.stamp ≡ self.old.stamp }
@@ -120,22 +116,16 @@ impl Scores {
         requires pins { All (λ v. v < length blocks.now) net.now.pins.now }
         requires blocks { All (λ b. b < 256) blocks.now }
         requires first { first ≤ 2 ^ 20 }
-        requires counts {
-            (place : ℕ) → place < fields_of net.now.bits
-            → packed.field word net.now.bits place ≡ pins_in blocks.now net.now.pins.now (first + place)
-        }
-        requires room {
-            (place : ℕ) → place < fields_of net.now.bits
+        requires counts { (place : ℕ) → place < fields_of net.now.bits
+            → packed.field word net.now.bits place ≡ pins_in blocks.now net.now.pins.now (first + place) }
+        requires room { (place : ℕ) → place < fields_of net.now.bits
             → slice_index self.old.sums (first + place)
-              + amount_for net.now.objective net.now.weight blocks.now net.now.pins.now (first + place) < 2 ^ 64
-        }
+            + amount_for net.now.objective net.now.weight blocks.now net.now.pins.now (first + place) < 2 ^ 64 }
         ensures tracked { IsTracked self.new.sums self.new.touched self.new.count }
-        ensures sums {
-            (b : ℕ) → b ≢ from
+        ensures sums { (b : ℕ) → b ≢ from
             → slice_index self.new.sums b ≡ slice_index self.old.sums b
-              + (if is_between first (fields_of net.now.bits) b
-                then amount_for net.now.objective net.now.weight blocks.now net.now.pins.now b else 0)
-        }
+            + (if is_between first (fields_of net.now.bits) b
+            then amount_for net.now.objective net.now.weight blocks.now net.now.pins.now b else 0) }
         ensures own { slice_index self.new.sums from ≡ slice_index self.old.sums from }
         ensures seen { self.new.seen ≡ self.old.seen }
         ensures stamp { self.new.stamp ≡ self.old.stamp }
@@ -162,22 +152,14 @@ impl Scores {
         requires small { length net.now.pins.now ≤ 2 ^ 25 }
         requires pins { All (λ v. v < length blocks.now) net.now.pins.now }
         requires blocks { All (λ b. b < 256) blocks.now }
-        requires counts {
-            (i place : ℕ) → i < length words.now → place < fields_of net.now.bits
+        requires counts { (i place : ℕ) → i < length words.now → place < fields_of net.now.bits
             → packed.field (slice_index words.now i) net.now.bits place
-              ≡ pins_in blocks.now net.now.pins.now (i * fields_of net.now.bits + place)
-        }
-        requires all {
-            (b : ℕ) → length words.now * fields_of net.now.bits ≤ b → pins_in blocks.now net.now.pins.now b ≡ 0
-        }
-        requires room {
-            (b : ℕ) → slice_index self.old.sums b + amount_for net.now.objective net.now.weight blocks.now net.now.pins.now b < 2 ^ 64
-        }
+            ≡ pins_in blocks.now net.now.pins.now (i * fields_of net.now.bits + place) }
+        requires all { (b : ℕ) → length words.now * fields_of net.now.bits ≤ b → pins_in blocks.now net.now.pins.now b ≡ 0 }
+        requires room { (b : ℕ) → slice_index self.old.sums b + amount_for net.now.objective net.now.weight blocks.now net.now.pins.now b < 2 ^ 64 }
         ensures tracked { IsTracked self.new.sums self.new.touched self.new.count }
-        ensures sums {
-            (b : ℕ) → b ≢ from
-            → slice_index self.new.sums b ≡ slice_index self.old.sums b + amount_for net.now.objective net.now.weight blocks.now net.now.pins.now b
-        }
+        ensures sums { (b : ℕ) → b ≢ from
+            → slice_index self.new.sums b ≡ slice_index self.old.sums b + amount_for net.now.objective net.now.weight blocks.now net.now.pins.now b }
         ensures own { slice_index self.new.sums from ≡ slice_index self.old.sums from }
         ensures seen { self.new.seen ≡ self.old.seen }
         ensures stamp { self.new.stamp ≡ self.old.stamp }
@@ -205,10 +187,8 @@ impl Scores {
         requires room { (b : ℕ) → slice_index self.old.sums b + net_saved lent.now.h.now lent.now.blocks.now b e < 2 ^ 64 }
         ensures lost { result ≡ net_lost lent.now.h.now lent.now.blocks.now from e }
         ensures tracked { IsTracked self.new.sums self.new.touched self.new.count }
-        ensures sums {
-            (b : ℕ) → b ≢ from
-            → slice_index self.new.sums b ≡ slice_index self.old.sums b + net_saved lent.now.h.now lent.now.blocks.now b e
-        }
+        ensures sums { (b : ℕ) → b ≢ from
+            → slice_index self.new.sums b ≡ slice_index self.old.sums b + net_saved lent.now.h.now lent.now.blocks.now b e }
         ensures own { slice_index self.new.sums from ≡ slice_index self.old.sums from }
         ensures seen { IsBefore self.new.seen self.new.stamp }
         ensures stamp { self.new.stamp ≤ self.old.stamp + 1 }
@@ -233,7 +213,12 @@ impl Scores {
             self.stamp += 1;
         } else {
             let start = net.start as usize;
-            self.add_by_words(&net, lent.blocks, &lent.words[start..start + words as usize], from);
+            self.add_by_words(
+                &net,
+                lent.blocks,
+                &lent.words[start..start + words as usize],
+                from,
+            );
         }
         loss
     }
@@ -252,7 +237,13 @@ impl Scores {
     }
 
     /// The best block of a vertex, and the gain there, where there is one. Loads are those of the blocks.
-    pub fn best_move(&mut self, lent: &Lent<'_>, loads: &[u64], limit: u64, v: u32) -> Option<(u32, u64)>
+    pub fn best_move(
+        &mut self,
+        lent: &Lent<'_>,
+        loads: &[u64],
+        limit: u64,
+        v: u32,
+    ) -> Option<(u32, u64)>
         requires ready { IsReady self.old.sums self.old.touched self.old.count self.old.seen self.old.stamp (2 ^ 22 * v + 1) }
         requires told { IsTold lent.now.h.now lent.now.k lent.now.blocks.now lent.now.starts.now lent.now.words.now }
         requires loaded { IsLoaded lent.now.h.now lent.now.k lent.now.blocks.now loads.now }
@@ -297,10 +288,8 @@ impl Scores {
         ensures lost { result ≡ total (net_lost lent.now.h.now lent.now.blocks.now (block_of lent.now.blocks.now v)) (nets_of lent.now.h.now v) }
         ensures bound { result < 2 ^ 55 }
         ensures tracked { IsTracked self.new.sums self.new.touched self.new.count }
-        ensures sums {
-            (b : ℕ) → b ≢ block_of lent.now.blocks.now v
-            → slice_index self.new.sums b ≡ total (net_saved lent.now.h.now lent.now.blocks.now b) (nets_of lent.now.h.now v)
-        }
+        ensures sums { (b : ℕ) → b ≢ block_of lent.now.blocks.now v
+            → slice_index self.new.sums b ≡ total (net_saved lent.now.h.now lent.now.blocks.now b) (nets_of lent.now.h.now v) }
         ensures own { slice_index self.new.sums (block_of lent.now.blocks.now v) ≡ 0 }
         ensures seen { IsBefore self.new.seen self.new.stamp }
         ensures stamp { self.new.stamp ≤ self.old.stamp + 2 ^ 22 }

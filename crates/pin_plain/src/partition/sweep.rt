@@ -77,17 +77,18 @@ impl Partition {
     ///
     /// Answers whether there were moves: false exactly where the partition was settled. Where there is no
     /// memory, nothing is changed.
-    pub fn sweep(&mut self, alloc: Global, h: &Hypergraph, log: &mut Moves) -> Result<bool, NoMemory>
+    pub fn sweep(
+        &mut self,
+        alloc: Global,
+        h: &Hypergraph,
+        log: &mut Moves,
+    ) -> Result<bool, NoMemory>
         requires belongs { self.old.hyper ≡ h.now }
-        ensures after {
-            OnOk result (self.new ≡ record self.old {
-              blocks = replay self.old.blocks (sweeps.sweep h.now self.old.k self.old.limit self.old.blocks);
-            })
-        }
+        ensures after { OnOk result (self.new ≡ record self.old {
+          blocks = replay self.old.blocks (sweeps.sweep h.now self.old.k self.old.limit self.old.blocks);
+        }) }
         ensures log { OnOk result (log.new ≡ log.old ++ sweeps.sweep h.now self.old.k self.old.limit self.old.blocks) }
-        ensures settled {
-            IfOk result (λ moved. (moved ≡ false) ↔ IsSettled h.now self.old.k self.old.limit self.old.blocks)
-        }
+        ensures settled { IfOk result (λ moved. (moved ≡ false) ↔ IsSettled h.now self.old.k self.old.limit self.old.blocks) }
         ensures err { OnErr result ((self.new ≡ self.old) × (log.new ≡ log.old)) }
     {
         let count = h.vertices();
@@ -113,15 +114,16 @@ impl Partition {
     /// Answers the number of these rounds.
     ///
     /// Where there is no memory, the logged sweeps were made, or one more.
-    pub fn settle(&mut self, alloc: Global, h: &Hypergraph, log: &mut RoundList) -> Result<u64, NoMemory>
+    pub fn settle(
+        &mut self,
+        alloc: Global,
+        h: &Hypergraph,
+        log: &mut RoundList,
+    ) -> Result<u64, NoMemory>
         requires belongs { self.old.hyper ≡ h.now }
         ensures kept { self.new ≡ record self.old { blocks = self.new.blocks } }
-        ensures ok {
-            IfOk result (Settles h.now self.old.k self.old.limit self.old.blocks self.new.blocks log.old log.new)
-        }
-        ensures err {
-            OnErr result (BreaksOff h.now self.old.k self.old.limit self.old.blocks self.new.blocks log.old log.new)
-        }
+        ensures ok { IfOk result (Settles h.now self.old.k self.old.limit self.old.blocks self.new.blocks log.old log.new) }
+        ensures err { OnErr result (BreaksOff h.now self.old.k self.old.limit self.old.blocks self.new.blocks log.old log.new) }
     {
         let _vertices = h.vertices();
         let mut before = self.cost(h);
@@ -144,23 +146,21 @@ fn swept(alloc: Global, moves: Moves, before: u64, after: u64) -> Result<LoggedR
     requires few { length moves < 2 ^ 32 }
     requires lower { after ≤ before }
     requires small { before < 2 ^ 57 }
-    ensures {
-        IfOk result (λ round. round ≡ record {
-          kind = Kind.Sweep;
-          level = 0;
-          moves = moves;
-          kept = length moves;
-          gains = (pos before -ℤ pos after) ∷ [];
-          before = before;
-          made = after;
-          after = after;
-          first = 0;
-          second = 0;
-          region = [];
-          value = 0;
-          tabled = false;
-        })
-    }
+    ensures { IfOk result (λ round. round ≡ record {
+      kind = Kind.Sweep;
+      level = 0;
+      moves = moves;
+      kept = length moves;
+      gains = (pos before -ℤ pos after) ∷ [];
+      before = before;
+      made = after;
+      after = after;
+      first = 0;
+      second = 0;
+      region = [];
+      value = 0;
+      tabled = false;
+    }) }
 {
     let mut gains = Gains::new(alloc);
     gains.push((before - after) as i64)?;

@@ -21,10 +21,10 @@ loop-v-preserved c =
     let v = slice_index c.args.pins.now c.loop-v.v-index in
     record {
       counts = λ b.
-        let one = c.raise.ensures.counts b in
-        let was = c.loop-v.invariant.counts b in
-        let more = total-take_more (λ u. weight_if (block_of c.args.blocks.now u) b 1) c.args.pins.now c.loop-v.v-index 0 c.loop-v-test.true in
-        let flip = one_flip b (slice_index c.args.blocks.now v) in
-        omega arith;
+          let one = c.raise.ensures.counts b in
+          let was = c.loop-v.invariant.counts b in
+          let more = total-take_more (λ u. weight_if (block_of c.args.blocks.now u) b 1) c.args.pins.now c.loop-v.v-index 0 c.loop-v-test.true in
+          let flip = one_flip b (slice_index c.args.blocks.now v) in
+          omega arith;
       others = λ i apart. c.raise.ensures.others i (apart v 0 (c.requires.pins c.loop-v.v-index 0 c.loop-v-test.true)) ∙ c.loop-v.invariant.others i apart;
     }

@@ -15,8 +15,8 @@ lower-requires-clause-inside c =
     let blocks = c.requires.parted.partition in
     let vertex = c.requires.vertex in
     let inside =
-        part_inside h c.args.k c.args.starts.now c.args.words.now e (slice_index c.args.blocks.now c.args.v) (slice_index c.args.starts.now e) c.bits_of-bits.result c.requires.laid net
-        (blocks.blocks c.args.v 0 (let long = blocks.vertices in omega arith)) (c.requires.laid.starts_at e net) bits in
+    part_inside h c.args.k c.args.starts.now c.args.words.now e (slice_index c.args.blocks.now c.args.v) (slice_index c.args.starts.now e) c.bits_of-bits.result c.requires.laid net
+    (blocks.blocks c.args.v 0 (let long = blocks.vertices in omega arith)) (c.requires.laid.starts_at e net) bits in
     omega arith
 
 pub lower-requires-clause-few : goal.lower-requires-clause-few
@@ -41,8 +41,8 @@ raise-requires-clause-inside c =
     let net = c.nets_of-e-items.ensures.below c.loop-e.e-index 0 c.loop-e-test.true in
     let bits : c.bits_of-bits.result ≡ net_bits h e = c.bits_of-bits.ensures.value ∙ ap (λ ps. bits_of (length ps)) c.pins.ensures.value in
     let inside =
-        part_inside h c.args.k c.args.starts.now c.args.words.now e c.args.to (slice_index c.args.starts.now e) c.bits_of-bits.result c.requires.laid net c.requires.block
-        (c.requires.laid.starts_at e net) bits in
+    part_inside h c.args.k c.args.starts.now c.args.words.now e c.args.to (slice_index c.args.starts.now e) c.bits_of-bits.result c.requires.laid net c.requires.block
+    (c.requires.laid.starts_at e net) bits in
     omega arith
 
 pub raise-requires-clause-few : goal.raise-requires-clause-few

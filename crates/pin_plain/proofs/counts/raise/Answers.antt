@@ -10,8 +10,8 @@ overflow_add-words-2 c =
     let at = ap (λ x. slice_index c.args.words.now (c.args.start + x)) c.split-word.ensures.word in
     let one = c.unit.ensures ∙ ap (unit c.args.bits) c.split-word.ensures.place in
     let fits =
-        raise_field-fits (slice_index c.args.words.now (c.args.start + c.args.b / f)) c.args.bits (c.args.b % f) c.requires.width
-        (place_below c.args.bits c.args.b c.requires.width) (omega arith) c.requires.room in
+    raise_field-fits (slice_index c.args.words.now (c.args.start + c.args.b / f)) c.args.bits (c.args.b % f) c.requires.width
+    (place_below c.args.bits c.args.b c.requires.width) (omega arith) c.requires.room in
     omega arith
 
 pub returns-clause-counts : goal.returns-clause-counts

@@ -21,8 +21,8 @@ pub saved-requires : goal.saved-requires
 saved-requires c =
     let e = slice_index c.nets_of-e-items.result.now c.loop-e.e-index in
     let now =
-        told_count c.args.h.now c.args.k c.args.blocks.now c.args.starts.now c.args.words.now c.requires.told e 0 c.bits_of-bits.result c.pins.result.now
-        (c.nets_of-e-items.ensures.below c.loop-e.e-index 0 c.loop-e-test.true) c.pins.ensures.value c.bits_of-bits.ensures.value c.args.to c.requires.block in
+    told_count c.args.h.now c.args.k c.args.blocks.now c.args.starts.now c.args.words.now c.requires.told e 0 c.bits_of-bits.result c.pins.result.now
+    (c.nets_of-e-items.ensures.below c.loop-e.e-index 0 c.loop-e-test.true) c.pins.ensures.value c.bits_of-bits.ensures.value c.args.to c.requires.block in
     let few = pins_in-le c.args.blocks.now (net_of c.args.h.now e).pins c.args.to in
     let same = ap length c.pins.ensures.value in
     let read = c.count.ensures in
@@ -33,8 +33,8 @@ overflow_add-up c =
     let h = c.args.h.now in
     let e = slice_index c.nets_of-e-items.result.now c.loop-e.e-index in
     let now =
-        told_count h c.args.k c.args.blocks.now c.args.starts.now c.args.words.now c.requires.told e 0 c.bits_of-bits.result c.pins.result.now
-        (c.nets_of-e-items.ensures.below c.loop-e.e-index 0 c.loop-e-test.true) c.pins.ensures.value c.bits_of-bits.ensures.value c.args.to c.requires.block in
+    told_count h c.args.k c.args.blocks.now c.args.starts.now c.args.words.now c.requires.told e 0 c.bits_of-bits.result c.pins.result.now
+    (c.nets_of-e-items.ensures.below c.loop-e.e-index 0 c.loop-e-test.true) c.pins.ensures.value c.bits_of-bits.ensures.value c.args.to c.requires.block in
     let one = saved_is h c.args.blocks.now c.args.to e _ _ _ _ _ c.net_weight-weight.ensures.value c.objective-objective.ensures (c.count.ensures.value ∙ now) (ap length c.pins.ensures.value) c.saved.ensures.value in
     let bound = saved_so_far h c.args.blocks.now c.args.to c.args.v c.loop-e.e-index c.nets_of-e-items.result.now c.requires.told.parted.bounds c.nets_of-e-items.ensures.value c.loop-e-test.true in
     let up = c.loop-e.invariant.up in
@@ -60,8 +60,8 @@ overflow_add-down c =
     let vertex = c.requires.vertex in
     let from = block_of c.args.blocks.now c.args.v in
     let now =
-        told_count h c.args.k c.args.blocks.now c.args.starts.now c.args.words.now c.requires.told e 0 c.bits_of-bits.result c.pins.result.now
-        (c.nets_of-e-items.ensures.below c.loop-e.e-index 0 c.loop-e-test.true) c.pins.ensures.value c.bits_of-bits.ensures.value from (whole.blocks c.args.v 0 (omega arith)) in
+    told_count h c.args.k c.args.blocks.now c.args.starts.now c.args.words.now c.requires.told e 0 c.bits_of-bits.result c.pins.result.now
+    (c.nets_of-e-items.ensures.below c.loop-e.e-index 0 c.loop-e-test.true) c.pins.ensures.value c.bits_of-bits.ensures.value from (whole.blocks c.args.v 0 (omega arith)) in
     let one = lost_is h c.args.blocks.now from e _ _ _ _ _ c.net_weight-weight.ensures.value c.objective-objective.ensures (c.count-in-loop-e.ensures.value ∙ now) (ap length c.pins.ensures.value) c.lost.ensures.value in
     let bound = lost_so_far h c.args.blocks.now from c.args.v c.loop-e.e-index c.nets_of-e-items.result.now c.requires.told.parted.bounds c.nets_of-e-items.ensures.value c.loop-e-test.true in
     let down = c.loop-e.invariant.down in

@@ -25,7 +25,7 @@ returns-clause-cost c =
     IfOk-weaker c.of.result (λ (p : Parted). p ≡ record { hyper = c.args.fine.now; k = c.self.inside.k; limit = c.self.inside.limit; blocks = c.from_vec.result })
     (λ (p : Parted). KeepsCost c.args.self.now.hyper c.args.self.now.blocks c.args.fine.now c.args.map.now p.blocks)
     (λ (p : Parted) e.
-      subst (λ (q : List ℕ). KeepsCost c.args.self.now.hyper c.args.self.now.blocks c.args.fine.now c.args.map.now q) (sym (ap (λ (x : Parted). x.blocks) e ∙ same))
-      (subst (λ (x : Parted). KeepsCost x.hyper x.blocks c.args.fine.now c.args.map.now (after c.self.inside.blocks c.args.map.now)) c.self.view_is
-        (after_keeps c.self.inside.hyper.value c.args.fine.now c.self.inside.blocks c.args.map.now long)))
+    subst (λ (q : List ℕ). KeepsCost c.args.self.now.hyper c.args.self.now.blocks c.args.fine.now c.args.map.now q) (sym (ap (λ (x : Parted). x.blocks) e ∙ same))
+    (subst (λ (x : Parted). KeepsCost x.hyper x.blocks c.args.fine.now c.args.map.now (after c.self.inside.blocks c.args.map.now)) c.self.view_is
+    (after_keeps c.self.inside.hyper.value c.args.fine.now c.self.inside.blocks c.args.map.now long)))
     c.of.ensures

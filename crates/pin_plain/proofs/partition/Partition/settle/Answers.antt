@@ -22,8 +22,8 @@ swept-requires-clause-few c =
 pub swept-requires-clause-lower : goal.swept-requires-clause-lower
 swept-requires-clause-lower c =
     let less =
-        settle_less c.args.h.now c.args.self.now c.loop-moves.self c.sweep.new.self c.loop-moves.invariant.same c.in_ok-sweep.ensures.after
-        (λ settled. true≢false (sym c.if-not-branch.false ∙ c.in_ok-sweep.ensures.settled.1 settled)) in
+    settle_less c.args.h.now c.args.self.now c.loop-moves.self c.sweep.new.self c.loop-moves.invariant.same c.in_ok-sweep.ensures.after
+    (λ settled. true≢false (sym c.if-not-branch.false ∙ c.in_ok-sweep.ensures.settled.1 settled)) in
     let before = c.loop-moves.invariant.before in
     let after = c.cost-after.ensures.value in
     omega arith
@@ -31,8 +31,8 @@ swept-requires-clause-lower c =
 pub loop-moves-smaller : goal.loop-moves-smaller
 loop-moves-smaller c =
     let less =
-        settle_less c.args.h.now c.args.self.now c.loop-moves.self c.sweep.new.self c.loop-moves.invariant.same c.in_ok-sweep.ensures.after
-        (λ settled. true≢false (sym c.if-not-branch.false ∙ c.in_ok-sweep.ensures.settled.1 settled)) in
+    settle_less c.args.h.now c.args.self.now c.loop-moves.self c.sweep.new.self c.loop-moves.invariant.same c.in_ok-sweep.ensures.after
+    (λ settled. true≢false (sym c.if-not-branch.false ∙ c.in_ok-sweep.ensures.settled.1 settled)) in
     let before = c.loop-moves.invariant.before in
     let after = c.cost-after.ensures.value in
     omega arith
@@ -40,8 +40,8 @@ loop-moves-smaller c =
 pub loop-moves-preserved : goal.loop-moves-preserved
 loop-moves-preserved c =
     let less =
-        settle_less c.args.h.now c.args.self.now c.loop-moves.self c.sweep.new.self c.loop-moves.invariant.same c.in_ok-sweep.ensures.after
-        (λ settled. true≢false (sym c.if-not-branch.false ∙ c.in_ok-sweep.ensures.settled.1 settled)) in
+    settle_less c.args.h.now c.args.self.now c.loop-moves.self c.sweep.new.self c.loop-moves.invariant.same c.in_ok-sweep.ensures.after
+    (λ settled. true≢false (sym c.if-not-branch.false ∙ c.in_ok-sweep.ensures.settled.1 settled)) in
     let before = c.loop-moves.invariant.before in
     let after = c.cost-after.ensures.value in
     record {
@@ -50,8 +50,8 @@ loop-moves-preserved c =
       small = c.cost-after.ensures.bound;
       number = let was = c.loop-moves.invariant.number in omega arith;
       added =
-        settle_more c.args.h.now c.args.self.now c.loop-moves.self c.sweep.new.self c.loop-moves.invariant.same c.in_ok-sweep.ensures.after c.args.log.now c.loop-moves.log c.push.new.self c.loop-moves.rounds
-        c.sweep.new.log c.loop-moves.before c.cost-after.result c.in_ok-swept.field-0 (λ settled. true≢false (sym c.if-not-branch.false ∙ c.in_ok-sweep.ensures.settled.1 settled))
-        (c.in_ok-sweep.ensures.log ∙ ap (λ (xs : List Move). xs ++ sweep c.args.h.now c.loop-moves.self.k c.loop-moves.self.limit c.loop-moves.self.blocks) c.new-moves.ensures) before after c.in_ok-swept.ensures
-        c.in_ok-push.ensures.ok c.loop-moves.invariant.added;
+          settle_more c.args.h.now c.args.self.now c.loop-moves.self c.sweep.new.self c.loop-moves.invariant.same c.in_ok-sweep.ensures.after c.args.log.now c.loop-moves.log c.push.new.self c.loop-moves.rounds
+          c.sweep.new.log c.loop-moves.before c.cost-after.result c.in_ok-swept.field-0 (λ settled. true≢false (sym c.if-not-branch.false ∙ c.in_ok-sweep.ensures.settled.1 settled))
+          (c.in_ok-sweep.ensures.log ∙ ap (λ (xs : List Move). xs ++ sweep c.args.h.now c.loop-moves.self.k c.loop-moves.self.limit c.loop-moves.self.blocks) c.new-moves.ensures) before after c.in_ok-swept.ensures
+          c.in_ok-push.ensures.ok c.loop-moves.invariant.added;
     }

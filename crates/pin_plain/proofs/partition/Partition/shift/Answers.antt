@@ -52,13 +52,13 @@ invariant_of-self c =
     let low : to < k = let b = c.requires.block in omega arith in
     let weight : c.vertex_weight.result ≡ weight_of h v = c.vertex_weight.ensures.value ∙ ap (λ (x : Hyper). weight_of x v) (sym hyper) in
     let after =
-        c.move_weight.ensures
-        ∙ ap (λ (xs : List ℕ). loads_after xs (slice_index c.slice.result.now v) to c.vertex_weight.result) c.as_mut_slice-2.ensures.value
-        ∙ ap (λ (b : ℕ). loads_after c.self.inside.loads.items b to c.vertex_weight.result) from
-        ∙ ap (loads_after c.self.inside.loads.items (block_of p v) to) weight in
+    c.move_weight.ensures
+    ∙ ap (λ (xs : List ℕ). loads_after xs (slice_index c.slice.result.now v) to c.vertex_weight.result) c.as_mut_slice-2.ensures.value
+    ∙ ap (λ (b : ℕ). loads_after c.self.inside.loads.items b to c.vertex_weight.result) from
+    ∙ ap (loads_after c.self.inside.loads.items (block_of p v) to) weight in
     let loaded = subst (IsLoaded h k (moved p v to)) (sym after) (weight_moved h k p c.self.inside.loads.items v to c.self.invariant.loaded long vertex (whole.blocks v 0 (omega arith)) low other) in
     let counted =
-        subst (λ (x : Hyper). HoldsCounts x k c.move_pin.new.words (counts_of x (moved p v to))) (sym hyper)
-        (subst (λ (xs : List ℕ). HoldsCounts c.args.h.now k c.move_pin.new.words (counts_of c.args.h.now (moved xs v to))) c.slice-2.ensures c.move_pin.ensures) in
+    subst (λ (x : Hyper). HoldsCounts x k c.move_pin.new.words (counts_of x (moved p v to))) (sym hyper)
+    (subst (λ (xs : List ℕ). HoldsCounts c.args.h.now k c.move_pin.new.words (counts_of c.args.h.now (moved xs v to))) c.slice-2.ensures c.move_pin.ensures) in
     kept_shifted h k p c.set.new.self c.self.inside.loads.items c.self.inside.starts.items c.self.inside.widths.items c.self.inside.words.items v to c.self.inside.loads.len c.self.inside.words.len
     c.move_weight.new.loads _ c.move_pin.new.words _ c.self.invariant low c.set.ensures loaded counted (omega arith) (omega arith) (omega arith)

@@ -29,10 +29,11 @@ pub returns-clause-tracked : goal.returns-clause-tracked
 returns-clause-tracked c =
     let s = c.args.self.now in
     let some : 0 < c.args.amount = let q = c.if-amount-eq0.false in omega arith in
-    elim c.if-sum-eq0.branch
-    [ then-sum-eq0 w ↦
-      subst (λ (t : Scores). IsTracked (slice_set t.sums c.args.block (slice_index s.sums c.args.block + c.args.amount)) t.touched t.count) (sym w.self-is)
-      (tracked_new s.sums s.touched s.count c.args.block c.args.amount c.requires.tracked c.requires.block some w.if-sum-eq0.true)
-    | else-sum-eq0 w ↦
-      subst (λ (t : Scores). IsTracked (slice_set t.sums c.args.block (slice_index s.sums c.args.block + c.args.amount)) t.touched t.count) (sym w.self-is)
-      (tracked_old s.sums s.touched s.count c.args.block c.args.amount c.requires.tracked c.requires.block some (let q = w.if-sum-eq0.false in omega arith)) ]
+    elim c.if-sum-eq0.branch [
+      | then-sum-eq0 w ↦
+          subst (λ (t : Scores). IsTracked (slice_set t.sums c.args.block (slice_index s.sums c.args.block + c.args.amount)) t.touched t.count) (sym w.self-is)
+          (tracked_new s.sums s.touched s.count c.args.block c.args.amount c.requires.tracked c.requires.block some w.if-sum-eq0.true)
+      | else-sum-eq0 w ↦
+          subst (λ (t : Scores). IsTracked (slice_set t.sums c.args.block (slice_index s.sums c.args.block + c.args.amount)) t.touched t.count) (sym w.self-is)
+          (tracked_old s.sums s.touched s.count c.args.block c.args.amount c.requires.tracked c.requires.block some (let q = w.if-sum-eq0.false in omega arith))
+    ]

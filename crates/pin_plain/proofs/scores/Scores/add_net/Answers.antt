@@ -15,12 +15,12 @@ pub returns-then-own-size-clause-sums : goal.returns-then-own-size-clause-sums
 returns-then-own-size-clause-sums c b q =
     let l = c.args.lent.now in
     let own =
-        sym (told_count l.h.now l.k l.blocks.now l.starts.now l.words.now c.requires.told c.args.e 0 c.bits_of.result c.pins-pins.result.now c.requires.net c.pins-pins.ensures.value c.bits_of.ensures.value c.args.from c.requires.from)
-        ∙ sym c.count-own.ensures.value ∙ c.if-own-size.true in
+    sym (told_count l.h.now l.k l.blocks.now l.starts.now l.words.now c.requires.told c.args.e 0 c.bits_of.result c.pins-pins.result.now c.requires.net c.pins-pins.ensures.value c.bits_of.ensures.value c.args.from c.requires.from)
+    ∙ sym c.count-own.ensures.value ∙ c.if-own-size.true in
     let none =
-        saved_none l.h.now l.blocks.now b c.args.e
-        (whole_elsewhere l.h.now l.k l.blocks.now l.starts.now l.words.now c.requires.told c.args.e (slice_index l.starts.now c.args.e) _ c.bits_of.result c.pins-pins.result.now c.requires.net c.pins-pins.ensures.value
-          c.bits_of.ensures.value refl refl c.args.from b c.requires.from q own) in
+    saved_none l.h.now l.blocks.now b c.args.e
+    (whole_elsewhere l.h.now l.k l.blocks.now l.starts.now l.words.now c.requires.told c.args.e (slice_index l.starts.now c.args.e) _ c.bits_of.result c.pins-pins.result.now c.requires.net c.pins-pins.ensures.value
+    c.bits_of.ensures.value refl refl c.args.from b c.requires.from q own) in
     omega arith
 
 pub add_by_pins-requires-clause-few : goal.add_by_pins-requires-clause-few
@@ -36,8 +36,8 @@ pub slice_bounds-add_by_words-end : goal.slice_bounds-add_by_words-end
 slice_bounds-add_by_words-end c =
     let l = c.args.lent.now in
     let within =
-        part_within l.h.now l.k l.blocks.now l.starts.now l.words.now c.requires.told c.args.e (slice_index l.starts.now c.args.e) c.words_of-words.result c.bits_of.result c.pins-pins.result.now c.requires.net c.pins-pins.ensures.value
-        c.bits_of.ensures.value refl c.words_of-words.ensures in
+    part_within l.h.now l.k l.blocks.now l.starts.now l.words.now c.requires.told c.args.e (slice_index l.starts.now c.args.e) c.words_of-words.result c.bits_of.result c.pins-pins.result.now c.requires.net c.pins-pins.ensures.value
+    c.bits_of.ensures.value refl c.words_of-words.ensures in
     omega arith
 
 pub add_by_words-requires-clause-counts : goal.add_by_words-requires-clause-counts

@@ -42,9 +42,9 @@ loop-place-preserved c =
     record {
       tracked = c.add.ensures.tracked;
       sums = λ b q.
-        ap (λ xs. slice_index xs b) c.add.ensures.sums
-        ∙ word_step net.objective net.weight (net.weight * c.saved.result) c.args.blocks.now net.pins.now c.args.first c.loop-place.place c.args.from c.loop-place.self.sums c.args.self.now.sums
-        (let size = c.loop-place.invariant.tracked.blocks in omega arith) amount c.loop-place.invariant.sums b q;
+          ap (λ xs. slice_index xs b) c.add.ensures.sums
+          ∙ word_step net.objective net.weight (net.weight * c.saved.result) c.args.blocks.now net.pins.now c.args.first c.loop-place.place c.args.from c.loop-place.self.sums c.args.self.now.sums
+          (let size = c.loop-place.invariant.tracked.blocks in omega arith) amount c.loop-place.invariant.sums b q;
       own = ap (λ xs. slice_index xs c.args.from) c.add.ensures.sums ∙ get_or-set_other c.loop-place.self.sums block c.args.from _ 0 (λ e. c.if-block-from.false (sym e)) ∙ c.loop-place.invariant.own;
       seen = c.add.ensures.seen ∙ c.loop-place.invariant.seen;
       stamp = c.add.ensures.stamp ∙ c.loop-place.invariant.stamp;

@@ -45,7 +45,7 @@ returns-clause-gain c =
     let top = subst (λ (w : ℕ). IsTop sums c.args.loads.now c.args.limit w (block_of l.blocks.now c.args.v) c.score-loss.result c.top-best.result) c.vertex_weight-weight.ensures.value c.top-best.ensures in
     subst (λ (o : Option (ℕ × ℕ)). IfSome o (λ m. pos m.1 ≡ gain l.h.now l.blocks.now c.args.v m.0)) (sym c.with_gain-found.ensures)
     (found_gain l.h.now l.k c.args.limit l.blocks.now l.starts.now l.words.now c.args.loads.now sums c.args.v c.score-loss.result c.requires.told c.requires.loaded c.requires.vertex free c.score-loss.ensures.lost
-      c.score-loss.ensures.sums c.top-best.result top)
+    c.score-loss.ensures.sums c.top-best.result top)
 
 pub returns-clause-bound : goal.returns-clause-bound
 returns-clause-bound c =
@@ -55,4 +55,4 @@ returns-clause-bound c =
     let top = subst (λ (w : ℕ). IsTop sums c.args.loads.now c.args.limit w (block_of l.blocks.now c.args.v) c.score-loss.result c.top-best.result) c.vertex_weight-weight.ensures.value c.top-best.ensures in
     subst (λ (o : Option (ℕ × ℕ)). IfSome o (λ m. m.1 < 2 ^ 55)) (sym c.with_gain-found.ensures)
     (found_bound l.h.now l.k c.args.limit l.blocks.now l.starts.now l.words.now c.args.loads.now sums c.args.v c.score-loss.result c.requires.told c.requires.loaded c.requires.vertex free c.score-loss.ensures.lost
-      c.score-loss.ensures.sums c.top-best.result top)
+    c.score-loss.ensures.sums c.top-best.result top)

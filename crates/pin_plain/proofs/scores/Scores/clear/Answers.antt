@@ -14,4 +14,4 @@ returns-clause-tracked c =
     let s = c.args.self.now in
     tracked_none c.loop-i.self.sums c.loop-i.self.touched c.loop-i.invariant.size (ap (λ (xs : List ℕ). length xs) c.loop-i.invariant.touched ∙ c.requires.tracked.places)
     (clear_after s.sums c.loop-i.self.sums s.touched s.count c.requires.tracked c.loop-i.invariant.less
-      (subst (λ (n : ℕ). (b : ℕ) → is_member nat_eq (take n s.touched) b ≡ true → slice_index c.loop-i.self.sums b ≡ 0) (let end = c.loop-i.auto.i-end in let stop = c.loop-i-test.false in omega arith) c.loop-i.invariant.cleared))
+    (subst (λ (n : ℕ). (b : ℕ) → is_member nat_eq (take n s.touched) b ≡ true → slice_index c.loop-i.self.sums b ≡ 0) (let end = c.loop-i.auto.i-end in let stop = c.loop-i-test.false in omega arith) c.loop-i.invariant.cleared))

@@ -28,16 +28,16 @@ loop-e-preserved c =
     let from = block_of l.blocks.now c.args.v in
     record {
       lost =
-        let more = total-take_more (net_lost l.h.now l.blocks.now from) c.nets_of-e-items.result.now c.loop-e.e-index 0 c.loop-e-test.true in
-        let now = c.loop-e.invariant.lost in
-        let one = c.add_net-loss.ensures.lost in
-        omega arith;
+          let more = total-take_more (net_lost l.h.now l.blocks.now from) c.nets_of-e-items.result.now c.loop-e.e-index 0 c.loop-e-test.true in
+          let now = c.loop-e.invariant.lost in
+          let one = c.add_net-loss.ensures.lost in
+          omega arith;
       tracked = c.add_net-loss.ensures.tracked;
       sums = λ b q.
-        let more = total-take_more (net_saved l.h.now l.blocks.now b) c.nets_of-e-items.result.now c.loop-e.e-index 0 c.loop-e-test.true in
-        let now = c.loop-e.invariant.sums b q in
-        let one = c.add_net-loss.ensures.sums b q in
-        omega arith;
+          let more = total-take_more (net_saved l.h.now l.blocks.now b) c.nets_of-e-items.result.now c.loop-e.e-index 0 c.loop-e-test.true in
+          let now = c.loop-e.invariant.sums b q in
+          let one = c.add_net-loss.ensures.sums b q in
+          omega arith;
       own = c.add_net-loss.ensures.own ∙ c.loop-e.invariant.own;
       seen = c.add_net-loss.ensures.seen;
       stamp = let was = c.loop-e.invariant.stamp in let step = c.add_net-loss.ensures.stamp in omega arith;
