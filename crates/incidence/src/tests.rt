@@ -39,7 +39,10 @@ fn readers(rt: HostRuntime) -> Result<(), Fail> {
     assert_eq!(rt; (h.net_weight(2), h.vertex_weight(3)), (8, 1));
     assert_eq!(rt; h.objective(), Objective::Connectivity);
     assert_eq!(rt; (h.fix(6), h.fix(0)), (1, FREE));
-    assert_eq!(rt; (h.fixed_within(1), h.fixed_within(2), h.suits(2)), (false, true, true));
+    assert_eq!(rt;
+        (h.fixed_within(1), h.fixed_within(2), h.suits(2)),
+        (false, true, true)
+    );
     assert_eq!(rt; h.flat().pins(0), [0, 1].as_slice());
     Ok(())
 }

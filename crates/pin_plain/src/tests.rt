@@ -158,3 +158,33 @@ fn projection(rt: HostRuntime) -> Result<(), Fail> {
     assert_eq!(rt; (q.cost(&fine), q.weight(0), q.weight(1)), (10, 2, 5));
     Ok(())
 }
+
+#[test]
+fn wide_nets(rt: HostRuntime) -> Result<(), Fail> {
+    let n: u32 = 65536;
+    let mut all = Vec::new(rt.alloc());
+    let mut blocks = Vec::new(rt.alloc());
+    for v in 0..n {
+        all.push(v)?;
+        blocks.push(v % 3)?;
+    }
+    let pins = all.as_slice();
+    assert_eq!(rt; pins.len(), n as usize);
+    assert!(rt; pins.iter().all(|v| *v < n));
+    let mut flat = FlatHyper::start(rt.alloc(), n)?;
+    flat.push_net(1, &pins[1..])?;
+    flat.push_net(1, pins)?;
+    let h = Hypergraph::build(rt.alloc(), flat)?;
+    let mut p = parted(&rt, rt.alloc(), &h, 3, 65536, &blocks)?;
+    assert_eq!(rt; (p.count(0, 0), p.count(0, 1), p.count(0, 2)), (21845, 21845, 21845));
+    assert_eq!(rt; (p.count(1, 0), p.count(1, 1), p.count(1, 2)), (21846, 21845, 21845));
+    for v in 0..n {
+        if v % 3 != 2 {
+            p.shift(&h, v, 2);
+        }
+    }
+    assert_eq!(rt; (p.count(0, 0), p.count(0, 1), p.count(0, 2)), (0, 0, 65535));
+    assert_eq!(rt; (p.count(1, 0), p.count(1, 1), p.count(1, 2)), (0, 0, 65536));
+    assert_eq!(rt; p.cost(&h), 0);
+    Ok(())
+}
