@@ -1,0 +1,309 @@
+-- Laws of the counts of all nets: where they stand, and what a change of one net's words leaves.
+use Rattle.std.proofs.Common.{◌≡◌, ◌≢◌, ◌⊎◌, inl, inr, ℕ, zero, suc, ◌+◌, ◌-◌, ◌*◌, ◌/◌, ◌%◌, ◌^◌, ◌<◌, ◌≤◌, Bool, true, false, ◌||◌, cond, if◌then◌else◌, nat_eq, nat_lt, nat_le, List, [], ◌∷◌, length, filter, take, All, Contains, slice_index, get_or, slice_set, refl, sym, ap, ◌∙◌, subst, arith, true≢false}
+use Rattle.std.proofs.lemmas.Bool.{eqb-true, eqb-false, ne_eqb, eq-eqb, ltb-true, ltb-false, lt-ltb, leb-true, leb-false, cases_eq, cases_lt}
+use Rattle.hg_base.specs.Packed.{IsWidth, fields_of, bits_of, words_of, field}
+use Rattle.hg_defs.specs.Sums.{sum_below}
+use Rattle.hg_defs.specs.Hypergraph.{Hyper, IsHypergraph, vertex_count, net_count, net_of, Suits}
+use Rattle.hg_defs.specs.Partition.{IsPartition, block_of}
+use Rattle.hg_defs.specs.Pins.{pins_in}
+use Rattle.hg_defs.specs.Moves.{moved}
+use Rattle.std.specs.Set.{is_member}
+use Rattle.std.specs.List.{range_with_len, list_any}
+use Rattle.std.specs.List.Sorted.{IsStrictlyIncreasing}
+use Rattle.incidence.specs.Incidence.{is_on, nets_of}
+use Rattle.hg_defs.proofs.SumLaws.{sum_below_more, sum_below-le, sum_below-constant, weight_if}
+use Rattle.hg_defs.proofs.DistinctLaws.{times_of-once, pins_in-set, pins_in-set_old, pins_in-set_apart, pins_in-sum, blocks_of_pins}
+use Rattle.std.proofs.Math.Bool.{or-false, or-true}
+use Rattle.std.proofs.lemmas.Bool.Decides.{Decides-eqb}
+use Rattle.std.proofs.lemmas.Map.Made.{is_member-Decides}
+use Rattle.std.proofs.lemmas.List.Folds.{list_any_at}
+use Rattle.std.proofs.lemmas.List.FromFn.{length-range_with_len, get_or-range_with_len}
+use Rattle.incidence.proofs.IndexLaws.{sum_below_upto-le, nets_of-below, nets_of-rising, is_pin_new, is_pin_more}
+use Rattle.pin_plain.proofs.GainLaws.{nets_of-hold, two_within}
+use Rattle.pin_plain.specs.Counts.{count_at, net_bits, net_words, net_start, IsLaidOut, HoldsCounts, counts_of, counts_before, counts_between}
+
+-- ---- the width of a net's counts
+
+pub bits_width : (n : ℕ) → IsWidth (bits_of n)
+bits_width n = by (nat_le n 65535)
+  where
+    by : (t : Bool) → IsWidth (if t then 16 else 32)
+    by true = inl refl
+    by false = inr refl
+
+-- a count of as many pins as the net has is below the next field
+pub bits_room : (n : ℕ) → n ≤ 2 ^ 25 → n < 2 ^ bits_of n
+bits_room n h = by (nat_le n 65535) refl
+  where
+    by : (t : Bool) → nat_le n 65535 ≡ t → n < 2 ^ (if t then 16 else 32)
+    by true e = let r = leb-true n 65535 e in omega arith
+    by false e = omega arith
+
+at_width : (P : ℕ → Type 0) (bits : ℕ) → IsWidth bits → P 16 → P 32 → P bits
+at_width P bits (inl e) a b = subst P (sym e) a
+at_width P bits (inr e) a b = subst P (sym e) b
+
+pub words-le : (n k : ℕ) → 2 ≤ k → words_of n k ≤ k
+words-le n k h = at_width (λ b. (k * b + 63) / 64 ≤ k) (bits_of n) (bits_width n) (omega arith) (omega arith)
+
+-- the fields of a net's words are enough for k blocks
+pub fields_enough : (n k : ℕ) → k ≤ words_of n k * fields_of (bits_of n)
+fields_enough n k = at_width (λ b. k ≤ (k * b + 63) / 64 * (64 / b)) (bits_of n) (bits_width n) (omega arith) (omega arith)
+
+pub word_below : (bits words b : ℕ) → IsWidth bits → b < words * fields_of bits → b / fields_of bits < words
+word_below bits words b width = at_width (λ w. b < words * (64 / w) → b / (64 / w) < words) bits width (λ h. omega arith) (λ h. omega arith)
+
+-- ---- where the words of a net stand
+
+module _ (h : Hyper) (k : ℕ) where
+  pub net_start_next : (e : ℕ) → net_start h k (e + 1) ≡ net_start h k e + net_words h k e
+  net_start_next e = sum_below_more (net_words h k) e
+
+  pub net_part : (e : ℕ) → e < net_count h → net_start h k e + net_words h k e ≤ net_start h k (net_count h)
+  net_part e l =
+      let next = net_start_next e in
+      let upto = sum_below_upto-le (net_words h k) (e + 1) (net_count h) (omega arith) in
+      omega arith
+
+  pub all_words-le : 2 ≤ k → Suits h k → net_start h k (net_count h) ≤ 2 ^ 26
+  all_words-le some suits =
+      let each = sum_below-le (net_words h k) (λ e. k) (net_count h) (λ e l. words-le (length (net_of h e).pins) k some) in
+      let sum = sum_below-constant k (net_count h) in
+      omega arith
+
+  parts_apart : (e i x y : ℕ) → e < net_count h → i < net_count h → i ≢ e → x < net_words h k e → y < net_words h k i → net_start h k i + y ≢ net_start h k e + x
+  parts_apart e i x y l m other a b = by (cases_lt i e)
+    where
+      by : (i < e) ⊎ (e ≤ i) → net_start h k i + y ≢ net_start h k e + x
+      by (inl q) = let next = net_start_next i in let upto = sum_below_upto-le (net_words h k) (i + 1) e (omega arith) in omega arith
+      by (inr q) = let next = net_start_next e in let upto = sum_below_upto-le (net_words h k) (e + 1) i (omega arith) in omega arith
+
+  -- where the words of net e alone change, the other nets keep their counts
+  pub HoldsCounts-net :
+      (words new : List ℕ) (counts later : ℕ → ℕ → ℕ) (e : ℕ) → HoldsCounts h k words counts → e < net_count h
+      → ((b : ℕ) → b < net_words h k e * fields_of (net_bits h e) → count_at new (net_start h k e) (net_bits h e) b ≡ later e b)
+      → ((i : ℕ) → ((x : ℕ) → x < net_words h k e → i ≢ net_start h k e + x) → slice_index new i ≡ slice_index words i)
+      → ((i b : ℕ) → i ≢ e → later i b ≡ counts i b)
+      → HoldsCounts h k new later
+  HoldsCounts-net words new counts later e held l own others same i b m low = by (cases_eq i e)
+    where
+      by : (i ≡ e) ⊎ (i ≢ e) → count_at new (net_start h k i) (net_bits h i) b ≡ later i b
+      by (inl q) =
+          subst (λ j. b < net_words h k j * fields_of (net_bits h j) → count_at new (net_start h k j) (net_bits h j) b ≡ later j b) (sym q) (own b) low
+      by (inr q) =
+          let inside = word_below (net_bits h i) (net_words h k i) b (bits_width (length (net_of h i).pins)) low in
+          let word = others (net_start h k i + b / fields_of (net_bits h i)) (λ x a. parts_apart e i x (b / fields_of (net_bits h i)) l m q a inside) in
+          ap (λ w. field w (net_bits h i) (b % fields_of (net_bits h i))) word ∙ held i b m low ∙ sym (same i b q)
+
+-- ---- one net counted
+
+eq_flip : (a b : ℕ) → nat_eq a b ≡ nat_eq b a
+eq_flip a b = by (nat_eq b a) refl
+  where
+    by : (t : Bool) → nat_eq b a ≡ t → nat_eq a b ≡ t
+    by true e = eq-eqb a b (sym (eqb-true b a e))
+    by false e = ne_eqb a b (λ q. eqb-false b a e (sym q))
+
+pub one_flip : (a b : ℕ) → weight_if a b 1 ≡ weight_if b a 1
+one_flip a b = ap (λ t. if t then 1 else 0) (eq_flip a b)
+
+pub part_inside : (h : Hyper) (k : ℕ) (starts words : List ℕ) (e b start bits : ℕ) → IsLaidOut h k starts words → e < net_count h → b < k → start ≡ net_start h k e → bits ≡ net_bits h e → start + b / fields_of bits < length words
+part_inside h k starts words e b start bits laid l low es eb =
+    let enough = fields_enough (length (net_of h e).pins) k in
+    let inside = word_below (net_bits h e) (net_words h k e) b (bits_width (length (net_of h e).pins)) (omega arith) in
+    let part = net_part h k e l in
+    let all = laid.all in
+    let same : start + b / fields_of bits ≡ net_start h k e + b / fields_of (net_bits h e) = ap (λ s. s + b / fields_of bits) es ∙ ap (λ w. net_start h k e + b / fields_of w) eb in
+    omega arith
+
+pub count_same : (h : Hyper) (k e start bits : ℕ) → start ≡ net_start h k e → bits ≡ net_bits h e → (words : List ℕ) (b : ℕ) → count_at words start bits b ≡ count_at words (net_start h k e) (net_bits h e) b
+count_same h k e start bits es eb words b = ap (λ s. count_at words s bits b) es ∙ ap (λ w. count_at words (net_start h k e) w b) eb
+
+before_not : (h : Hyper) (p : List ℕ) (e b : ℕ) → counts_before h p e e b ≡ 0
+before_not h p e b = ap (λ t. if t then counts_of h p e b else 0) (not_below e)
+  where
+    not_below : (n : ℕ) → nat_lt n n ≡ false
+    not_below n = by (nat_lt n n) refl
+      where
+        by : (t : Bool) → nat_lt n n ≡ t → t ≡ false
+        by true q = let r = ltb-true n n q in absurd (omega arith)
+        by false q = refl
+
+before_now : (h : Hyper) (p : List ℕ) (e b : ℕ) → counts_before h p (e + 1) e b ≡ counts_of h p e b
+before_now h p e b = ap (λ t. if t then counts_of h p e b else 0) (lt-ltb e (e + 1) (omega arith))
+
+before_other : (h : Hyper) (p : List ℕ) (e i b : ℕ) → i ≢ e → counts_before h p (e + 1) i b ≡ counts_before h p e i b
+before_other h p e i b other = ap (λ t. if t then counts_of h p i b else 0) (by (nat_lt i e) refl)
+  where
+    by : (t : Bool) → nat_lt i e ≡ t → nat_lt i (e + 1) ≡ t
+    by true q = let r = ltb-true i e q in lt-ltb i (e + 1) (omega arith)
+    by false q =
+        let r = ltb-false i e q in
+        ltb-no i (e + 1) (λ s. other (omega arith))
+      where
+        ltb-no : (a b : ℕ) → (a < b → ⊥) → nat_lt a b ≡ false
+        ltb-no a b n = from (nat_lt a b) refl
+          where
+            from : (t : Bool) → nat_lt a b ≡ t → t ≡ false
+            from true s = absurd (n (ltb-true a b s))
+            from false s = refl
+
+module _ (h : Hyper) (k : ℕ) (p words new : List ℕ) (e start bits : ℕ) (pins : List ℕ) (es : start ≡ net_start h k e) (eb : bits ≡ net_bits h e) (ep : pins ≡ (net_of h e).pins) (l : e < net_count h) (blocks : All (λ b. b < k) p) where
+  pub counted_net :
+      ((b : ℕ) → count_at new start bits b ≡ count_at words start bits b + pins_in p pins b)
+      → ((i : ℕ) → All (λ b. i ≢ start + b / fields_of bits) p → slice_index new i ≡ slice_index words i)
+      → HoldsCounts h k words (counts_before h p e)
+      → HoldsCounts h k new (counts_before h p (e + 1))
+  counted_net counts others held =
+      HoldsCounts-net h k words new (counts_before h p e) (counts_before h p (e + 1)) e held l
+      (λ b low.
+      let a = count_same h k e start bits es eb new b in
+      let c = count_same h k e start bits es eb words b in
+      let d = counts b in
+      let f = ap (λ ps. pins_in p ps b) ep in
+      let z = held e b l low in
+      let n = before_not h p e b in
+      let w = before_now h p e b in
+      omega arith)
+      (λ i apart.
+      others i
+      (λ j d m q.
+      let low = blocks j d m in
+      let enough = fields_enough (length (net_of h e).pins) k in
+      let inside = word_below (net_bits h e) (net_words h k e) (get_or p j d) (bits_width (length (net_of h e).pins)) (omega arith) in
+      apart (get_or p j d / fields_of (net_bits h e)) inside
+      (q ∙ ap (λ s. s + get_or p j d / fields_of bits) es ∙ ap (λ w. net_start h k e + get_or p j d / fields_of w) eb)))
+      (λ i b other. before_other h p e i b other)
+
+-- ---- one pin moved
+
+-- two blocks have no more pins than there are
+pub pins_in-two : (p pins : List ℕ) (a b k : ℕ) → a < k → b < k → b ≢ a → All (λ v. block_of p v < k) pins → pins_in p pins a + pins_in p pins b ≤ length pins
+pins_in-two p pins a b k l m q low =
+    let sum = pins_in-sum k p pins low in
+    let two = two_within (pins_in p pins) k a b l m q in
+    omega arith
+
+between_other : (h : Hyper) (p after nets : List ℕ) (i b : ℕ) → is_member nat_eq nets i ≡ false → counts_between h p after nets i b ≡ counts_of h p i b
+between_other h p after nets i b q = ap (λ t. if t then counts_of h after i b else counts_of h p i b) q
+
+between_done : (h : Hyper) (p after nets : List ℕ) (i b : ℕ) → is_member nat_eq nets i ≡ true → counts_between h p after nets i b ≡ counts_of h after i b
+between_done h p after nets i b q = ap (λ t. if t then counts_of h after i b else counts_of h p i b) q
+
+module _ (h : Hyper) (k : ℕ) (p : List ℕ) (v to e idx : ℕ) (nets : List ℕ) (good : IsHypergraph h) (whole : IsPartition h k p) (vertex : v < vertex_count h) (block : to < k) (other : to ≢ block_of p v) (same : nets ≡ nets_of h v) (at : idx < length nets) (here : e ≡ slice_index nets idx) where
+  pub at_net : e < net_count h
+  at_net = subst (λ i. i < net_count h) (sym here) (subst (All (λ i. i < net_count h)) (sym same) (nets_of-below h v) idx 0 at)
+
+  at_pin : Contains (net_of h e).pins v
+  at_pin = subst (λ i. Contains (net_of h i).pins v) (sym here) (subst (All (λ i. Contains (net_of h i).pins v)) (sym same) (nets_of-hold h v) idx 0 at)
+
+  rising : IsStrictlyIncreasing (net_of h e).pins
+  rising = (good.nets e (record { weight = 0; pins = [] }) at_net).rising
+
+  inside : v < length p
+  inside = let x = whole.vertices in omega arith
+
+  not_yet : is_member nat_eq (take idx nets) e ≡ false
+  not_yet = subst (λ i. is_member nat_eq (take idx nets) i ≡ false) (sym here) (is_pin_new nets idx (subst IsStrictlyIncreasing (sym same) (nets_of-rising h v)) at)
+
+  now : is_member nat_eq (take (idx + 1) nets) e ≡ true
+  now = is_pin_more nets idx e at ∙ ap (λ b. is_member nat_eq (take idx nets) e || b) (eq-eqb e (slice_index nets idx) here) ∙ or-true (is_member nat_eq (take idx nets) e)
+
+  still : (i : ℕ) → i ≢ e → is_member nat_eq (take (idx + 1) nets) i ≡ is_member nat_eq (take idx nets) i
+  still i q =
+      is_pin_more nets idx i at
+      ∙ ap (λ b. is_member nat_eq (take idx nets) i || b) (ne_eqb i (slice_index nets idx) (λ r. q (r ∙ sym here)))
+      ∙ or-false (is_member nat_eq (take idx nets) i)
+
+  changed_counts : (c : ℕ) → counts_of h (moved p v to) e c + weight_if c (block_of p v) 1 ≡ counts_of h p e c + weight_if c to 1
+  changed_counts c =
+      let once = times_of-once (net_of h e).pins v rising at_pin in
+      let change =
+      subst (λ n. pins_in (slice_set p v to) (net_of h e).pins c + n * weight_if (block_of p v) c 1 ≡ pins_in p (net_of h e).pins c + n * weight_if to c 1) once
+      (pins_in-set p (net_of h e).pins v to c inside) in
+      let a = one_flip c (block_of p v) in
+      let b = one_flip c to in
+      omega arith
+
+  old_held : 0 < counts_of h p e (block_of p v)
+  old_held = let change = pins_in-set_old p (net_of h e).pins v to inside rising at_pin other in omega arith
+
+  module _ (words : List ℕ) (start bits : ℕ) (es : start ≡ net_start h k e) (eb : bits ≡ net_bits h e) (held : HoldsCounts h k words (counts_between h p (moved p v to) (take idx nets))) where
+    old_block : block_of p v < k
+    old_block = whole.blocks v 0 inside
+
+    now_at : (b : ℕ) → b < net_words h k e * fields_of (net_bits h e) → count_at words start bits b ≡ counts_of h p e b
+    now_at b low = count_same h k e start bits es eb words b ∙ held e b at_net low ∙ between_other h p (moved p v to) (take idx nets) e b not_yet
+
+    within : (b : ℕ) → b < k → b < net_words h k e * fields_of (net_bits h e)
+    within b low = let enough = fields_enough (length (net_of h e).pins) k in omega arith
+
+    pub pin_held : 0 < count_at words start bits (block_of p v)
+    pin_held = let n = now_at (block_of p v) (within (block_of p v) old_block) in let z = old_held in omega arith
+
+    module _ (mid : List ℕ) (lowered : (c : ℕ) → count_at mid start bits c + (if nat_eq c (block_of p v) then 1 else 0) ≡ count_at words start bits c) where
+      pub pin_room : length (net_of h e).pins ≤ 2 ^ 25 → count_at mid start bits to + 1 < 2 ^ bits
+      pin_room few =
+          let n = now_at to (within to block) in
+          let l = lowered to in
+          let two = pins_in-two p (net_of h e).pins (block_of p v) to k old_block block other (blocks_of_pins k p (net_of h e).pins whole.blocks (subst (λ n. All (λ u. u < n) (net_of h e).pins) (sym whole.vertices) (good.nets e (record { weight = 0; pins = [] }) at_net).pins)) in
+          let z = old_held in
+          let room = bits_room (length (net_of h e).pins) few in
+          let width = ap (λ w. 2 ^ w) eb in
+          omega arith
+
+      pub pin_moved :
+          (new : List ℕ)
+          → ((i : ℕ) → i ≢ start + block_of p v / fields_of bits → slice_index mid i ≡ slice_index words i)
+          → ((c : ℕ) → count_at new start bits c ≡ count_at mid start bits c + (if nat_eq c to then 1 else 0))
+          → ((i : ℕ) → i ≢ start + to / fields_of bits → slice_index new i ≡ slice_index mid i)
+          → HoldsCounts h k new (counts_between h p (moved p v to) (take (idx + 1) nets))
+      pin_moved new mid_others raised new_others =
+          HoldsCounts-net h k words new (counts_between h p (moved p v to) (take idx nets)) (counts_between h p (moved p v to) (take (idx + 1) nets)) e held at_net
+          (λ b low.
+          let a = count_same h k e start bits es eb new b in
+          let n = now_at b low in
+          let l = lowered b in
+          let r = raised b in
+          let c = changed_counts b in
+          let d = between_done h p (moved p v to) (take (idx + 1) nets) e b now in
+          omega arith)
+          (λ i apart.
+          new_others i (λ q. apart (to / fields_of (net_bits h e)) (word_of to block) (q ∙ place to))
+          ∙ mid_others i (λ q. apart (block_of p v / fields_of (net_bits h e)) (word_of (block_of p v) old_block) (q ∙ place (block_of p v))))
+          (λ i b q. ap (λ t. if t then counts_of h (moved p v to) i b else counts_of h p i b) (still i q))
+        where
+          word_of : (b : ℕ) → b < k → b / fields_of (net_bits h e) < net_words h k e
+          word_of b low = word_below (net_bits h e) (net_words h k e) b (bits_width (length (net_of h e).pins)) (within b low)
+
+          place : (b : ℕ) → start + b / fields_of bits ≡ net_start h k e + b / fields_of (net_bits h e)
+          place b = ap (λ s. s + b / fields_of bits) es ∙ ap (λ w. net_start h k e + b / fields_of w) eb
+
+-- ---- the pin moved on all nets
+
+member_filter : (test : ℕ → Bool) (xs : List ℕ) (e : ℕ) → test e ≡ true → is_member nat_eq xs e ≡ true → is_member nat_eq (filter test xs) e ≡ true
+member_filter test [] e t m = m
+member_filter test (x ∷ xs) e t m = by (nat_eq e x) (test x) refl refl m (member_filter test xs e t)
+  where
+    by : (s u : Bool) → nat_eq e x ≡ s → test x ≡ u → (s || is_member nat_eq xs e) ≡ true → (is_member nat_eq xs e ≡ true → is_member nat_eq (filter test xs) e ≡ true) → is_member nat_eq (cond u (x ∷ filter test xs) (filter test xs)) e ≡ true
+    by true true q r m f = ap (λ b. b || is_member nat_eq (filter test xs) e) q
+    by true false q r m f = absurd (true≢false (sym t ∙ ap test (eqb-true e x q) ∙ r))
+    by false true q r m f = ap (λ b. nat_eq e x || b) (f m) ∙ or-true (nat_eq e x)
+    by false false q r m f = f m
+
+between_all : (h : Hyper) (p : List ℕ) (v to e b : ℕ) → v < length p → e < net_count h → counts_between h p (moved p v to) (nets_of h v) e b ≡ counts_of h (moved p v to) e b
+between_all h p v to e b inside l = by (is_member nat_eq (nets_of h v) e) refl
+  where
+    by : (t : Bool) → is_member nat_eq (nets_of h v) e ≡ t → (if t then counts_of h (moved p v to) e b else counts_of h p e b) ≡ counts_of h (moved p v to) e b
+    by true q = refl
+    by false q =
+        sym
+        (pins_in-set_apart p (net_of h e).pins v to inside
+        (λ c.
+        let on = (is_member-Decides Decides-eqb (net_of h e).pins v).1 c in
+        let listed = list_any_at (nat_eq e) (range_with_len 0 (net_count h)) e 0 (let n = length-range_with_len 0 (net_count h) in omega arith) (eq-eqb e (get_or (range_with_len 0 (net_count h)) e 0) (let g = get_or-range_with_len 0 (net_count h) e 0 l in omega arith)) in
+        absurd (true≢false (sym (member_filter (is_on h v) (range_with_len 0 (net_count h)) e on listed) ∙ q)))
+        b)
+
+pub all_moved : (h : Hyper) (k : ℕ) (p words : List ℕ) (v to : ℕ) → v < length p → HoldsCounts h k words (counts_between h p (moved p v to) (nets_of h v)) → HoldsCounts h k words (counts_of h (moved p v to))
+all_moved h k p words v to inside held e b l low = held e b l low ∙ between_all h p v to e b inside l

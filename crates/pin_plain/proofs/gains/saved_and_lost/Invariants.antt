@@ -1,0 +1,11 @@
+use Rattle.std.proofs.Common.{◌≡◌, take}
+use Rattle.hg_defs.specs.Sums.{total}
+use Rattle.hg_defs.specs.Partition.{block_of}
+use Rattle.pin_plain.specs.Savings.{net_saved, net_lost}
+use Rattle.pin_plain.proofs.gains.saved_and_lost.Given as goal
+
+abbrev pub invariant-loop-e : goal.invariant-loop-e
+invariant-loop-e l = record {
+  up : l.up ≡ total (net_saved l.h l.blocks l.to) (take l.e-index l.e-items);
+  down : l.down ≡ total (net_lost l.h l.blocks (block_of l.blocks l.v)) (take l.e-index l.e-items);
+}

@@ -1,0 +1,39 @@
+use Rattle.std.proofs.Common.{◌≡◌, ◌+◌, ◌<◌, ℕ, slice_index, slice_set, sym, subst, arith}
+use Rattle.pin_plain.specs.declared.scores.Scores.{Scores}
+use Rattle.pin_plain.specs.Scores.{IsTracked}
+use Rattle.pin_plain.proofs.TallyLaws.{tracked_room, tracked_new, tracked_old}
+use Rattle.pin_plain.proofs.scores.Scores.add.Goals as goal
+use Rattle.pin_plain.proofs.scores.Scores.add.Goals.{then-sum-eq0, else-sum-eq0}
+
+pub offset_bounds-self-self : goal.offset_bounds-self-self
+offset_bounds-self-self c =
+    let s = c.args.self.now in
+    let some : 0 < c.args.amount = let q = c.if-amount-eq0.false in omega arith in
+    let room = tracked_room s.sums s.touched s.count c.args.block c.args.amount c.requires.tracked c.requires.block some c.if-sum-eq0.true in
+    omega arith
+
+pub bounds-self-self : goal.bounds-self-self
+bounds-self-self c =
+    let s = c.args.self.now in
+    let some : 0 < c.args.amount = let q = c.if-amount-eq0.false in omega arith in
+    tracked_room s.sums s.touched s.count c.args.block c.args.amount c.requires.tracked c.requires.block some c.if-sum-eq0.true
+
+pub overflow_add-self : goal.overflow_add-self
+overflow_add-self c =
+    let s = c.args.self.now in
+    let some : 0 < c.args.amount = let q = c.if-amount-eq0.false in omega arith in
+    let room = tracked_room s.sums s.touched s.count c.args.block c.args.amount c.requires.tracked c.requires.block some c.if-sum-eq0.true in
+    omega arith
+
+pub returns-clause-tracked : goal.returns-clause-tracked
+returns-clause-tracked c =
+    let s = c.args.self.now in
+    let some : 0 < c.args.amount = let q = c.if-amount-eq0.false in omega arith in
+    elim c.if-sum-eq0.branch [
+      | then-sum-eq0 w ↦
+          subst (λ (t : Scores). IsTracked (slice_set t.sums c.args.block (slice_index s.sums c.args.block + c.args.amount)) t.touched t.count) (sym w.self-is)
+          (tracked_new s.sums s.touched s.count c.args.block c.args.amount c.requires.tracked c.requires.block some w.if-sum-eq0.true)
+      | else-sum-eq0 w ↦
+          subst (λ (t : Scores). IsTracked (slice_set t.sums c.args.block (slice_index s.sums c.args.block + c.args.amount)) t.touched t.count) (sym w.self-is)
+          (tracked_old s.sums s.touched s.count c.args.block c.args.amount c.requires.tracked c.requires.block some (let q = w.if-sum-eq0.false in omega arith))
+    ]

@@ -1,0 +1,54 @@
+-- The pin counts of all nets, packed into words: the words of each net stand after those of the nets before it.
+use Rattle.std.specs.Prelude.{◌≡◌, ℕ, ◌+◌, ◌*◌, ◌/◌, ◌%◌, ◌<◌, List, length, slice_index, nat_eq, nat_lt, if◌then◌else◌}
+use Rattle.std.specs.Set.{is_member}
+use Rattle.hg_defs.specs.Sums.{sum_below}
+use Rattle.hg_defs.specs.Hypergraph.{Hyper, net_count, net_of}
+use Rattle.hg_defs.specs.Pins.{pins_in}
+use Rattle.hg_base.specs.Packed.{bits_of, fields_of, words_of, field}
+
+-- the count of block b, where the counts of its net start at a word and take so many bits
+abbrev pub count_at : List ℕ → ℕ → ℕ → ℕ → ℕ
+count_at words start bits b = field (slice_index words (start + b / fields_of bits)) bits (b % fields_of bits)
+
+-- the bits, words and start of a net's counts
+abbrev pub net_bits : Hyper → ℕ → ℕ
+net_bits h e = bits_of (length (net_of h e).pins)
+
+abbrev pub net_words : Hyper → ℕ → ℕ → ℕ
+net_words h k e = words_of (length (net_of h e).pins) k
+
+abbrev pub net_start : Hyper → ℕ → ℕ → ℕ
+net_start h k e = sum_below (net_words h k) e
+
+-- where the counts of each net start
+pub record HasStarts (h : Hyper) (k : ℕ) (starts : List ℕ) : Type 0 where
+  pub nets : length starts ≡ net_count h
+  pub starts_at : (e : ℕ) → e < net_count h → slice_index starts e ≡ net_start h k e
+
+-- how many bits a count of each net takes
+pub record HasWidths (h : Hyper) (widths : List ℕ) : Type 0 where
+  pub nets : length widths ≡ net_count h
+  pub width_of : (e : ℕ) → e < net_count h → slice_index widths e ≡ net_bits h e
+
+-- each net has a part of the words
+pub record IsLaidOut (h : Hyper) (k : ℕ) (starts words : List ℕ) : Type 0 where
+  pub nets : length starts ≡ net_count h
+  pub starts_at : (e : ℕ) → e < net_count h → slice_index starts e ≡ net_start h k e
+  pub all : length words ≡ net_start h k (net_count h)
+
+-- the words hold these counts, also in the fields past block k
+abbrev pub HoldsCounts : Hyper → ℕ → List ℕ → (ℕ → ℕ → ℕ) → Type 0
+HoldsCounts h k words counts =
+    (e b : ℕ) → e < net_count h → b < net_words h k e * fields_of (net_bits h e) → count_at words (net_start h k e) (net_bits h e) b ≡ counts e b
+
+-- the pin counts of a partition
+abbrev pub counts_of : Hyper → List ℕ → ℕ → ℕ → ℕ
+counts_of h p e b = pins_in p (net_of h e).pins b
+
+-- nets below e hold their pin counts, and the later ones 0
+abbrev pub counts_before : Hyper → List ℕ → ℕ → ℕ → ℕ → ℕ
+counts_before h p e i b = if nat_lt i e then counts_of h p i b else 0
+
+-- the nets among these hold the counts after a move, and the others those before it
+abbrev pub counts_between : Hyper → List ℕ → List ℕ → List ℕ → ℕ → ℕ → ℕ
+counts_between h before after nets e b = if is_member nat_eq nets e then counts_of h after e b else counts_of h before e b

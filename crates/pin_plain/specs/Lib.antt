@@ -1,0 +1,5 @@
+pub mod Counts
+pub mod Savings
+pub mod Parted
+pub mod Scores
+pub mod Settling

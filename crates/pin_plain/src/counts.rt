@@ -1,0 +1,162 @@
+//! Pin counts packed into words: one count raised or lowered, and the pins of one net counted or moved.
+
+ghost use Rattle.std.specs.Prelude.{◌≡◌, ◌≢◌, ℕ, ◌+◌, ◌*◌, ◌/◌, ◌%◌, ◌^◌, ◌<◌, ◌≤◌, All, length, slice_index, replicate, IfOk, if◌then◌else◌, nat_eq};
+ghost use Rattle.hg_base.specs.Packed.{IsWidth, fields_of};
+ghost use Rattle.hg_defs.specs.Hypergraph.{vertex_count, net_count, Suits};
+ghost use Rattle.hg_defs.specs.Partition.{block_of};
+ghost use Rattle.hg_defs.specs.Moves.{moved};
+ghost use Rattle.hg_defs.specs.Pins.{pins_in};
+ghost use Rattle.pin_plain.specs.Counts.{count_at, net_start, counts_of, IsLaidOut, HasStarts, HasWidths, HoldsCounts};
+ghost use Rattle.pin_plain.specs.Parted.{IsParted};
+
+use hg_base::{NoMemory, bits_of, field, unit, words_of};
+use incidence::Hypergraph;
+use std::alloc::Global;
+
+/// The word and the place in it at which the count of block `b` stands.
+fn split(bits: u32, b: u32) -> (u32, u32)
+    requires { IsWidth bits }
+    ensures word { result.0 ≡ b / fields_of bits }
+    ensures place { result.1 ≡ b % fields_of bits }
+{
+    if bits == 16 {
+        (b / 4, b % 4)
+    } else {
+        (b / 2, b % 2)
+    }
+}
+
+/// The count of block `b`.
+pub fn count(words: &[u64], start: u32, bits: u32, b: u32) -> u32
+    requires width { IsWidth bits }
+    requires inside { start + b / fields_of bits < length words.now }
+    requires few { length words.now < 2 ^ 32 }
+    ensures value { result ≡ count_at words.now start bits b }
+{
+    let (word, place) = split(bits, b);
+    field(words[(start + word) as usize], bits, place) as u32
+}
+
+/// Raises the count of block `b` by one.
+pub fn raise(words: &mut [u64], start: u32, bits: u32, b: u32)
+    requires width { IsWidth bits }
+    requires inside { start + b / fields_of bits < length words.old }
+    requires few { length words.old < 2 ^ 32 }
+    requires room { count_at words.old start bits b + 1 < 2 ^ bits }
+    ensures counts { (c : ℕ) → count_at words.new start bits c ≡ count_at words.old start bits c + (if nat_eq c b then 1 else 0) }
+    ensures others { (i : ℕ) → i ≢ start + b / fields_of bits → slice_index words.new i ≡ slice_index words.old i }
+{
+    let (word, place) = split(bits, b);
+    words[(start + word) as usize] += unit(bits, place);
+}
+
+/// Lowers the count of block `b` by one.
+pub fn lower(words: &mut [u64], start: u32, bits: u32, b: u32)
+    requires width { IsWidth bits }
+    requires inside { start + b / fields_of bits < length words.old }
+    requires few { length words.old < 2 ^ 32 }
+    requires held { 0 < count_at words.old start bits b }
+    ensures counts { (c : ℕ) → count_at words.new start bits c + (if nat_eq c b then 1 else 0) ≡ count_at words.old start bits c }
+    ensures others { (i : ℕ) → i ≢ start + b / fields_of bits → slice_index words.new i ≡ slice_index words.old i }
+{
+    let (word, place) = split(bits, b);
+    words[(start + word) as usize] -= unit(bits, place);
+}
+
+/// Counts the pins of one net in the blocks.
+fn count_net(words: &mut [u64], start: u32, bits: u32, pins: &[u32], blocks: &[u32])
+    requires width { IsWidth bits }
+    requires few { length words.old < 2 ^ 32 }
+    requires pins { All (λ v. v < length blocks.now) pins.now }
+    requires inside { All (λ b. start + b / fields_of bits < length words.old) blocks.now }
+    requires room { All (λ b. count_at words.old start bits b + length pins.now < 2 ^ bits) blocks.now }
+    ensures counts { (b : ℕ) → count_at words.new start bits b ≡ count_at words.old start bits b + pins_in blocks.now pins.now b }
+    ensures others { (i : ℕ) → All (λ b. i ≢ start + b / fields_of bits) blocks.now → slice_index words.new i ≡ slice_index words.old i }
+{
+    for v in pins {
+        raise(words, start, bits, blocks[*v as usize]);
+    }
+}
+
+/// Counts the pins of all nets in `k` blocks, from words of 0.
+pub fn count_nets(h: &Hypergraph, k: u32, blocks: &[u32], starts: &[u32], words: &mut [u64])
+    requires parted { IsParted h.now k blocks.now }
+    requires laid { IsLaidOut h.now k starts.now words.old }
+    requires zeros { words.old ≡ replicate (length words.old) 0 }
+    ensures { HoldsCounts h.now k words.new (counts_of h.now blocks.now) }
+{
+    prove!(k <= 256);
+    for e in 0..h.nets() {
+        let pins = h.pins(e);
+        count_net(
+            words,
+            starts[e as usize],
+            bits_of(pins.len() as u32),
+            pins,
+            blocks,
+        );
+    }
+}
+
+/// Moves the pin of a vertex to another block in the counts of each of its nets.
+pub fn move_pin(
+    h: &Hypergraph,
+    k: u32,
+    blocks: &[u32],
+    starts: &[u32],
+    words: &mut [u64],
+    v: u32,
+    to: u32,
+)
+    requires parted { IsParted h.now k blocks.now }
+    requires laid { IsLaidOut h.now k starts.now words.old }
+    requires counted { HoldsCounts h.now k words.old (counts_of h.now blocks.now) }
+    requires vertex { v < vertex_count h.now }
+    requires block { to < k }
+    requires other { to ≢ block_of blocks.now v }
+    ensures { HoldsCounts h.now k words.new (counts_of h.now (moved blocks.now v to)) }
+{
+    prove!(to < k);
+    let from = blocks[v as usize];
+    for e in h.nets_of(v) {
+        let start = starts[*e as usize];
+        let bits = bits_of(h.pins(*e).len() as u32);
+        lower(words, start, bits, from);
+        raise(words, start, bits, to);
+    }
+}
+
+/// Where the counts of each net stand: the word at which they start, and their width in bits.
+#[derive(Drop)]
+pub struct Layout {
+    pub starts: Vec<u32>,
+    pub widths: Vec<u8>,
+    /// How many words there are in all.
+    pub words: u32,
+}
+
+/// Lays out the counts of all nets for `k` blocks.
+pub fn lay_out(alloc: Global, h: &Hypergraph, k: u32) -> Result<Layout, NoMemory>
+    requires some { 2 ≤ k }
+    requires few { k ≤ 256 }
+    requires suits { Suits h.now k }
+    ensures starts { IfOk result (λ l. HasStarts h.now k l.starts.items) }
+    ensures widths { IfOk result (λ l. HasWidths h.now l.widths.items) }
+    ensures words { IfOk result (λ l. l.words ≡ net_start h.now k (net_count h.now)) }
+{
+    let nets = h.nets();
+    let mut starts = Vec::with_capacity(alloc, nets as usize)?;
+    let mut widths = Vec::with_capacity(alloc, nets as usize)?;
+    let mut words = 0;
+    for e in 0..nets {
+        let size = h.pins(e).len() as u32;
+        starts.push(words)?;
+        widths.push(bits_of(size) as u8)?;
+        words += words_of(size, k);
+    }
+    Ok(Layout {
+        starts,
+        widths,
+        words,
+    })
+}

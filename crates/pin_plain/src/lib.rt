@@ -1,0 +1,13 @@
+//! The plain partition: loads, packed pin counts, gains, sweeps, and a settled result.
+#![tactic(auto)]
+
+mod counts;
+mod gains;
+mod partition;
+mod scores;
+
+pub use hg_base::NoMemory;
+pub use partition::Partition;
+
+#[cfg(test)]
+mod tests;

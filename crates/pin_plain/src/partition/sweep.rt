@@ -1,0 +1,183 @@
+//! Sweeps over all vertices, until no single move helps.
+
+ghost use Rattle.std.specs.Prelude.{◌≡◌, ◌≢◌, ℕ, ◌+◌, ◌*◌, ◌<◌, ◌≤◌, ◌^◌, List, [], ◌∷◌, ◌++◌, length, ℤ, pos, ◌-ℤ◌, false, IsTrue, ◌↔◌, IfOk, IfSome, OnOk, OnErr, option_map, option_to_list};
+ghost use Rattle.hg_defs.specs.Hypergraph.{vertex_count};
+ghost use Rattle.hg_defs.specs.Replay.{replay};
+ghost use Rattle.hg_defs.specs.Moves as sweeps;
+ghost use Rattle.hg_defs.specs.Moves.{IsSettled, best_block, gain, move_of};
+ghost use Rattle.pin_plain.specs.Scores.{IsReady};
+ghost use Rattle.pin_plain.specs.Settling.{Settles, BreaksOff};
+
+use crate::partition::Partition;
+use crate::scores::{Lent, Scores};
+use hg_base::{Gains, Move, NoMemory, Verts};
+use incidence::Hypergraph;
+use round_log::{Kind, LoggedRound, Moves, RoundList};
+use std::alloc::Global;
+use std::mem;
+
+impl Partition {
+    /// The best block of a vertex, and the gain there, where there is one.
+    fn best_move(&self, h: &Hypergraph, v: u32, scores: &mut Scores) -> Option<(u32, u64)>
+        requires belongs { self.now.hyper ≡ h.now }
+        requires vertex { v < vertex_count h.now }
+        requires ready { IsReady scores.old.sums scores.old.touched scores.old.count scores.old.seen scores.old.stamp (2 ^ 22 * v + 1) }
+        ensures best { option_map (λ m. m.0) result ≡ best_block h.now self.now.limit self.now.blocks v self.now.k }
+        ensures gain { IfSome result (λ m. pos m.1 ≡ gain h.now self.now.blocks v m.0) }
+        ensures bound { IfSome result (λ m. m.1 < 2 ^ 55) }
+        ensures ready { IsReady scores.new.sums scores.new.touched scores.new.count scores.new.seen scores.new.stamp (2 ^ 22 * (v + 1) + 1) }
+    {
+        let lent = Lent {
+            h,
+            k: self.k,
+            blocks: self.blocks.slice(),
+            starts: self.starts.as_slice(),
+            words: self.words.as_slice(),
+        };
+        scores.best_move(&lent, self.loads.as_slice(), self.limit, v)
+    }
+
+    /// Whether no single allowed move makes the partition cheaper.
+    pub fn settled(&self, h: &Hypergraph) -> bool
+        requires belongs { self.now.hyper ≡ h.now }
+        ensures { IsTrue result ↔ IsSettled h.now self.now.k self.now.limit self.now.blocks }
+    {
+        let mut scores = Scores::new();
+        for v in 0..h.vertices() {
+            if self.best_move(h, v, &mut scores).is_some() {
+                return false;
+            }
+        }
+        true
+    }
+
+    /// Moves a vertex to its best block, where there is one, and answers the move.
+    fn visit(&mut self, h: &Hypergraph, v: u32, scores: &mut Scores) -> Option<Move>
+        requires belongs { self.old.hyper ≡ h.now }
+        requires vertex { v < vertex_count h.now }
+        requires ready { IsReady scores.old.sums scores.old.touched scores.old.count scores.old.seen scores.old.stamp (2 ^ 22 * v + 1) }
+        ensures made { result ≡ option_map (move_of h.now self.old.blocks v) (best_block h.now self.old.limit self.old.blocks v self.old.k) }
+        ensures after { self.new ≡ record self.old { blocks = replay self.old.blocks (option_to_list result) } }
+        ensures ready { IsReady scores.new.sums scores.new.touched scores.new.count scores.new.seen scores.new.stamp (2 ^ 22 * (v + 1) + 1) }
+    {
+        let (to, gain) = self.best_move(h, v, scores)?;
+        let from = self.blocks()[v as usize];
+        self.shift(h, v, to);
+        Some(Move {
+            vertex: v,
+            from,
+            to,
+            worker: 0,
+            booked: gain as i64,
+        })
+    }
+
+    /// Visits all vertices in rising number, and moves each to its allowed block of the highest gain above
+    /// 0, the lowest block at a tie. The moves are appended to the log with their gains.
+    ///
+    /// Answers whether there were moves: false exactly where the partition was settled. Where there is no
+    /// memory, nothing is changed.
+    pub fn sweep(
+        &mut self,
+        alloc: Global,
+        h: &Hypergraph,
+        log: &mut Moves,
+    ) -> Result<bool, NoMemory>
+        requires belongs { self.old.hyper ≡ h.now }
+        ensures after { OnOk result (self.new ≡ record self.old {
+          blocks = replay self.old.blocks (sweeps.sweep h.now self.old.k self.old.limit self.old.blocks);
+        }) }
+        ensures log { OnOk result (log.new ≡ log.old ++ sweeps.sweep h.now self.old.k self.old.limit self.old.blocks) }
+        ensures settled { IfOk result (λ moved. (moved ≡ false) ↔ IsSettled h.now self.old.k self.old.limit self.old.blocks) }
+        ensures err { OnErr result ((self.new ≡ self.old) × (log.new ≡ log.old)) }
+    {
+        let count = h.vertices();
+        let mut moves = mem::replace(log, Moves::new(alloc)).into_vec();
+        let before = moves.len();
+        if moves.reserve(count as usize).is_err() {
+            *log = Moves::from_vec(moves);
+            return Err(NoMemory);
+        }
+        let mut scores = Scores::new();
+        for v in 0..count {
+            let Some(step) = self.visit(h, v, &mut scores) else {
+                continue;
+            };
+            moves.push(step)?;
+        }
+        let moved = moves.len() > before;
+        *log = Moves::from_vec(moves);
+        Ok(moved)
+    }
+
+    /// Sweeps until the partition is settled, and appends a round for each sweep that moved something.
+    /// Answers the number of these rounds.
+    ///
+    /// Where there is no memory, the logged sweeps were made, or one more.
+    pub fn settle(
+        &mut self,
+        alloc: Global,
+        h: &Hypergraph,
+        log: &mut RoundList,
+    ) -> Result<u64, NoMemory>
+        requires belongs { self.old.hyper ≡ h.now }
+        ensures kept { self.new ≡ record self.old { blocks = self.new.blocks } }
+        ensures ok { IfOk result (Settles h.now self.old.k self.old.limit self.old.blocks self.new.blocks log.old log.new) }
+        ensures err { OnErr result (BreaksOff h.now self.old.k self.old.limit self.old.blocks self.new.blocks log.old log.new) }
+    {
+        let _vertices = h.vertices();
+        let mut before = self.cost(h);
+        let mut rounds = 0;
+        loop {
+            let mut moves = Moves::new(alloc);
+            if !self.sweep(alloc, h, &mut moves)? {
+                return Ok(rounds);
+            }
+            let after = self.cost(h);
+            log.push(swept(alloc, moves, before, after)?)?;
+            rounds += 1;
+            before = after;
+        }
+    }
+}
+
+/// The round of a sweep of the file's hypergraph.
+fn swept(alloc: Global, moves: Moves, before: u64, after: u64) -> Result<LoggedRound, NoMemory>
+    requires few { length moves < 2 ^ 32 }
+    requires lower { after ≤ before }
+    requires small { before < 2 ^ 57 }
+    ensures { IfOk result (λ round. round ≡ record {
+      kind = Kind.Sweep;
+      level = 0;
+      moves = moves;
+      kept = length moves;
+      gains = (pos before -ℤ pos after) ∷ [];
+      before = before;
+      made = after;
+      after = after;
+      first = 0;
+      second = 0;
+      region = [];
+      value = 0;
+      tabled = false;
+    }) }
+{
+    let mut gains = Gains::new(alloc);
+    gains.push((before - after) as i64)?;
+    let kept = moves.len() as u32;
+    Ok(LoggedRound {
+        kind: Kind::Sweep,
+        level: 0,
+        moves,
+        kept,
+        gains,
+        before,
+        made: after,
+        after,
+        first: 0,
+        second: 0,
+        region: Verts::new(alloc),
+        value: 0,
+        tabled: false,
+    })
+}

@@ -1,0 +1,190 @@
+ghost use Rattle.std.specs.Prelude.{◌≡◌, ◌≤◌, ◌<◌, IfOk};
+ghost use Rattle.hg_defs.specs.Hypergraph.{vertex_count, net_count};
+
+use super::*;
+use hg_base::{Blocks, FlatHyper, Objective};
+use incidence::Hypergraph;
+use round_log::{Kind, Moves, RoundList};
+use std::alloc::Global;
+use std::process::Abort;
+use std::test::Fail;
+
+/// Seven vertices of weight 1 and four nets of weights 2, 3, 8 and 7.
+fn four_nets(alloc: Global) -> Result<FlatHyper, NoMemory>
+    ensures vertices { IfOk result (λ h. vertex_count h ≡ 7) }
+    ensures nets { IfOk result (λ h. net_count h ≡ 4) }
+{
+    let mut h = FlatHyper::start(alloc, 7)?;
+    h.push_net(2, &[0, 1])?;
+    h.push_net(3, &[0, 6, 4, 5])?;
+    h.push_net(8, &[4, 5, 3])?;
+    h.push_net(7, &[1, 2, 3])?;
+    Ok(h)
+}
+
+/// Six vertices in a row, with a net of weight 1 between neighbours.
+fn path(alloc: Global) -> Result<Hypergraph, NoMemory>
+    ensures { IfOk result (λ h. vertex_count h ≡ 6) }
+{
+    let mut flat = FlatHyper::start(alloc, 6)?;
+    flat.push_net(1, &[0, 1])?;
+    flat.push_net(1, &[1, 2])?;
+    flat.push_net(1, &[2, 3])?;
+    flat.push_net(1, &[3, 4])?;
+    flat.push_net(1, &[4, 5])?;
+    Hypergraph::build(alloc, flat)
+}
+
+/// The partition of these blocks.
+fn parted(
+    rt: &impl Abort,
+    alloc: Global,
+    h: &Hypergraph,
+    k: u32,
+    limit: u64,
+    blocks: &[u32],
+) -> Result<Partition, Fail>
+    requires some { 2 ≤ k }
+    requires few { k ≤ 256 }
+    ensures hyper { IfOk result (λ p. p.hyper ≡ h.now) }
+    ensures blocks { IfOk result (λ p. p.k ≡ k) }
+{
+    assert_eq!(rt; blocks.len(), h.vertices() as usize);
+    assert!(rt; blocks.iter().all(|b| *b < k));
+    assert!(rt; h.suits(k));
+    assert!(rt; h.fixed_within(k));
+    let blocks = Blocks::from_vec(blocks.to_vec(alloc)?);
+    Ok(Partition::of(alloc, h, k, limit, blocks)?)
+}
+
+#[test]
+fn settles_path(rt: HostRuntime) -> Result<(), Fail> {
+    let h = path(rt.alloc())?;
+    for (k, limit, blocks, cost) in [
+        (2, 4, [0, 1, 0, 1, 0, 1], 1),
+        (16, 6, [0, 1, 2, 3, 4, 5], 0),
+    ] {
+        let mut p = parted(&rt, rt.alloc(), &h, k, limit, &blocks)?;
+        assert_eq!(rt; (p.cost(&h), p.settled(&h)), (5, false));
+        let mut log = RoundList::new(rt.alloc());
+        assert_eq!(rt; p.settle(rt.alloc(), &h, &mut log)?, 1);
+        assert_eq!(rt; (p.cost(&h), p.settled(&h), p.fits()), (cost, true, true));
+        assert_eq!(rt; log.len(), 1);
+        let round = &log.slice()[0];
+        assert_eq!(rt;
+            (round.kind, round.before, round.after),
+            (Kind::Sweep, 5, cost)
+        );
+    }
+    Ok(())
+}
+
+#[test]
+fn one_sweep(rt: HostRuntime) -> Result<(), Fail> {
+    let h = Hypergraph::build(rt.alloc(), four_nets(rt.alloc())?)?;
+    let mut p = parted(&rt, rt.alloc(), &h, 2, 4, &[0, 1, 0, 1, 0, 1, 0])?;
+    assert_eq!(rt; p.cost(&h), 20);
+    let mut log = Moves::new(rt.alloc());
+    assert!(rt; p.sweep(rt.alloc(), &h, &mut log)?);
+    assert_eq!(rt; log.len(), 1);
+    let step = log.slice()[0];
+    assert_eq!(rt;
+        (step.vertex, step.from, step.to, step.booked),
+        (0, 0, 1, 2)
+    );
+    assert_eq!(rt; p.blocks(), [1, 1, 0, 1, 0, 1, 0].as_slice());
+    assert_eq!(rt; (p.cost(&h), p.k(), p.limit()), (18, 2, 4));
+    assert_eq!(rt; (p.weight(0), p.weight(1)), (3, 4));
+    assert_eq!(rt; (p.count(1, 0), p.count(1, 1)), (2, 2));
+    assert!(rt; !p.sweep(rt.alloc(), &h, &mut log)?);
+    Ok(())
+}
+
+#[test]
+fn costs_and_gains(rt: HostRuntime) -> Result<(), Fail> {
+    for (objective, cost) in [
+        (Objective::Connectivity, 38),
+        (Objective::CutNet, 20),
+        (Objective::ExternalDegree, 58),
+    ] {
+        let mut flat = four_nets(rt.alloc())?;
+        flat.set_objective(objective);
+        let h = Hypergraph::build(rt.alloc(), flat)?;
+        let mut p = parted(&rt, rt.alloc(), &h, 3, 3, &[0, 1, 2, 0, 1, 2, 0])?;
+        assert_eq!(rt; p.cost(&h), cost);
+        for (v, to) in [(0, 1), (2, 1), (3, 1), (4, 0), (5, 1), (6, 2)] {
+            let before = p.cost(&h) as i64;
+            let gain = p.gain(&h, v, to);
+            p.shift(&h, v, to);
+            assert_eq!(rt; gain, before - p.cost(&h) as i64, "vertex {v} to {to}");
+        }
+    }
+    Ok(())
+}
+
+#[test]
+fn fixed_vertices_stay(rt: HostRuntime) -> Result<(), Fail> {
+    let mut flat = four_nets(rt.alloc())?;
+    let blocks = [0, 0, 0, 1, 1, 1, 0];
+    for (v, block) in blocks.iter().enumerate() {
+        flat.set_fix(v as u32, *block);
+    }
+    let h = Hypergraph::build(rt.alloc(), flat)?;
+    let mut p = parted(&rt, rt.alloc(), &h, 2, 4, &blocks)?;
+    let mut log = RoundList::new(rt.alloc());
+    assert_eq!(rt; p.settle(rt.alloc(), &h, &mut log)?, 0);
+    assert_eq!(rt; p.cost(&h), 10);
+    assert_eq!(rt; p.blocks(), blocks.as_slice());
+    Ok(())
+}
+
+#[test]
+fn projection(rt: HostRuntime) -> Result<(), Fail> {
+    let fine = Hypergraph::build(rt.alloc(), four_nets(rt.alloc())?)?;
+    let mut flat = FlatHyper::start(rt.alloc(), 3)?;
+    flat.set_vertex_weight(0, 2);
+    flat.set_vertex_weight(1, 2);
+    flat.set_vertex_weight(2, 3);
+    flat.push_net(7, &[0, 1])?;
+    flat.push_net(3, &[0, 2])?;
+    flat.push_net(8, &[1, 2])?;
+    let coarse = Hypergraph::build(rt.alloc(), flat)?;
+    let p = parted(&rt, rt.alloc(), &coarse, 2, 5, &[0, 1, 1])?;
+    assert_eq!(rt; p.cost(&coarse), 10);
+    assert!(rt; fine.suits(2));
+    assert!(rt; fine.fixed_within(2));
+    let q = p.project(rt.alloc(), &fine, &[0, 0, 1, 1, 2, 2, 2])?;
+    assert_eq!(rt; q.blocks(), [0, 0, 1, 1, 1, 1, 1].as_slice());
+    assert_eq!(rt; (q.cost(&fine), q.weight(0), q.weight(1)), (10, 2, 5));
+    Ok(())
+}
+
+#[test]
+fn wide_nets(rt: HostRuntime) -> Result<(), Fail> {
+    let n: u32 = 65536;
+    let mut all = Vec::new(rt.alloc());
+    let mut blocks = Vec::new(rt.alloc());
+    for v in 0..n {
+        all.push(v)?;
+        blocks.push(v % 3)?;
+    }
+    let pins = all.as_slice();
+    assert_eq!(rt; pins.len(), n as usize);
+    assert!(rt; pins.iter().all(|v| *v < n));
+    let mut flat = FlatHyper::start(rt.alloc(), n)?;
+    flat.push_net(1, &pins[1..])?;
+    flat.push_net(1, pins)?;
+    let h = Hypergraph::build(rt.alloc(), flat)?;
+    let mut p = parted(&rt, rt.alloc(), &h, 3, 65536, &blocks)?;
+    assert_eq!(rt; (p.count(0, 0), p.count(0, 1), p.count(0, 2)), (21845, 21845, 21845));
+    assert_eq!(rt; (p.count(1, 0), p.count(1, 1), p.count(1, 2)), (21846, 21845, 21845));
+    for v in 0..n {
+        if v % 3 != 2 {
+            p.shift(&h, v, 2);
+        }
+    }
+    assert_eq!(rt; (p.count(0, 0), p.count(0, 1), p.count(0, 2)), (0, 0, 65535));
+    assert_eq!(rt; (p.count(1, 0), p.count(1, 1), p.count(1, 2)), (0, 0, 65536));
+    assert_eq!(rt; p.cost(&h), 0);
+    Ok(())
+}
