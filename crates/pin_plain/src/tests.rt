@@ -176,15 +176,27 @@ fn wide_nets(rt: HostRuntime) -> Result<(), Fail> {
     flat.push_net(1, pins)?;
     let h = Hypergraph::build(rt.alloc(), flat)?;
     let mut p = parted(&rt, rt.alloc(), &h, 3, 65536, &blocks)?;
-    assert_eq!(rt; (p.count(0, 0), p.count(0, 1), p.count(0, 2)), (21845, 21845, 21845));
-    assert_eq!(rt; (p.count(1, 0), p.count(1, 1), p.count(1, 2)), (21846, 21845, 21845));
+    assert_eq!(rt;
+        (p.count(0, 0), p.count(0, 1), p.count(0, 2)),
+        (21845, 21845, 21845)
+    );
+    assert_eq!(rt;
+        (p.count(1, 0), p.count(1, 1), p.count(1, 2)),
+        (21846, 21845, 21845)
+    );
     for v in 0..n {
         if v % 3 != 2 {
             p.shift(&h, v, 2);
         }
     }
-    assert_eq!(rt; (p.count(0, 0), p.count(0, 1), p.count(0, 2)), (0, 0, 65535));
-    assert_eq!(rt; (p.count(1, 0), p.count(1, 1), p.count(1, 2)), (0, 0, 65536));
+    assert_eq!(rt;
+        (p.count(0, 0), p.count(0, 1), p.count(0, 2)),
+        (0, 0, 65535)
+    );
+    assert_eq!(rt;
+        (p.count(1, 0), p.count(1, 1), p.count(1, 2)),
+        (0, 0, 65536)
+    );
     assert_eq!(rt; p.cost(&h), 0);
     Ok(())
 }
