@@ -1,0 +1,4 @@
+pub mod State
+pub mod Events
+pub mod Run
+pub mod Balance

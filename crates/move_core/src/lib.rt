@@ -1,0 +1,11 @@
+//! The books of a raced round: a pure machine of events over words and the accounts of passes.
+//!
+//! No thread stands here. A table of atomic words that makes each of its steps as one of these
+//! events keeps the same books.
+#![tactic(auto)]
+
+mod account;
+mod events;
+
+pub use account::{Account, Owed, Stage};
+pub use events::{Event, Word};
