@@ -3,7 +3,8 @@ use Rattle.std.specs.Prelude.{ℕ, ◌+◌, ◌*◌, List, [], ◌∷◌, map, f
 use Rattle.std.specs.List.{range_with_len, flat_map}
 use Rattle.hg_defs.specs.Sums.{total, sum_below}
 use Rattle.hg_defs.specs.Hypergraph.{Hyper, vertex_count, net_count, net_of}
-use Rattle.hg_defs.specs.Partition.{block_of, load}
+use Rattle.hg_defs.specs.Partition.{load}
+use Rattle.hg_defs.specs.Pins.{pins_in, present}
 use Rattle.move_core.specs.declared.account.Account.{Account}
 use Rattle.move_core.specs.declared.account.Stage.TheVariants.{Idle}
 use Rattle.move_core.specs.declared.events.Word.{Word}
@@ -40,8 +41,7 @@ pub record State : Type 0 where
 
 -- how often a number stands in a list
 abbrev pub times : ℕ → List ℕ → ℕ
-times v [] = 0
-times v (x ∷ xs) = (if nat_eq x v then 1 else 0) + times v xs
+times v xs = total (λ x. if nat_eq x v then 1 else 0) xs
 
 -- the nets of a vertex, in rising number
 abbrev pub nets_of : Hyper → ℕ → List ℕ
@@ -98,13 +98,13 @@ blank live = record {
 abbrev pub account : State → ℕ → Account
 account s i = slice_index_or s.accounts i (blank false)
 
--- how many of a net's pins are in a block of a partition
-abbrev pub pins_in : Hyper → List ℕ → ℕ → ℕ → ℕ
-pins_in h p e b = total (λ v. if nat_eq (block_of p v) b then 1 else 0) (net_of h e).pins
+-- how many of a net's pins are in a block at the opening
+abbrev pub opening_pins : Setup → ℕ → ℕ → ℕ
+opening_pins s e b = pins_in s.opening (net_of s.graph e).pins b
 
--- how many of the numbers below a bound have a positive count
-abbrev pub positive_below : (ℕ → ℕ) → ℕ → ℕ
-positive_below f n = sum_below (λ b. if nat_lt 0 (f b) then 1 else 0) n
+-- how many of the blocks below a bound have a positive count
+abbrev pub present_below : (ℕ → ℕ) → ℕ → ℕ
+present_below f n = sum_below (λ b. present (f b)) n
 
 -- the state at the opening: nothing claimed, and so many passes that have done nothing
 abbrev pub opened : Setup → ℕ → State
@@ -115,8 +115,8 @@ opened s passes =
       claims = replicate (vertex_count h) 0;
       names = s.opening;
       loads = map (load h s.opening) (range_with_len 0 s.blocks);
-      counts = flat_map (λ e. map (pins_in h s.opening e) (range_with_len 0 s.blocks)) (range_with_len 0 (net_count h));
-      spreads = map (λ e. 64 + positive_below (pins_in h s.opening e) s.blocks) (range_with_len 0 (net_count h));
+      counts = flat_map (λ e. map (opening_pins s e) (range_with_len 0 s.blocks)) (range_with_len 0 (net_count h));
+      spreads = map (λ e. 64 + present_below (opening_pins s e) s.blocks) (range_with_len 0 (net_count h));
       next = 0;
       cursor = 0;
       accounts = replicate passes (blank true);
