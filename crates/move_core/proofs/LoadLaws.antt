@@ -11,7 +11,7 @@ use Rattle.move_core.specs.declared.account.Stage.{Stage}
 use Rattle.move_core.specs.State.{Setup, Readings, times, blank}
 use Rattle.move_core.specs.Events.{moved}
 use Rattle.move_core.specs.Balance.{Claims, Moves, Loads, IsMove, carried, stage_vertices, reserved_weight, refused_weight, arrived, departed}
-use Rattle.move_core.proofs.TimesLaws.{total_changed, total_at, all_at, all_changed}
+use Rattle.move_core.proofs.TimesLaws.{total_changed, total_at, pick}
 use Rattle.move_core.proofs.HeldLaws.{carried_weight}
 
 -- two sums of which one is the greater at each element differ by no less than they do at one element
@@ -88,3 +88,74 @@ module _ (s : Setup) (r r' : Readings) (accounts : List Account) (i : ℕ) (a a'
       let f = ap (arrived s.graph b) e in
       omega arith)
       (λ b k. let x = same b k in let y = q b k in inl (omega arith))
+
+  -- Reserve: a weight comes into a block, granted within the limit or refused
+  pub loads_added : (to x : ℕ) → a'.moves ≡ a.moves → ((b : ℕ) → b < s.blocks → reserved_weight s.graph b a'.stage ≡ reserved_weight s.graph b a.stage + weight_if to b x) → ((b : ℕ) → b < s.blocks → r'.load b ≡ (if nat_eq to b then r.load to + x else r.load b)) → ((r.load to + x ≤ s.limit) × ((b : ℕ) → b < s.blocks → refused_weight s.graph b a'.stage ≡ refused_weight s.graph b a.stage)) ⊎ ((b : ℕ) → b < s.blocks → refused_weight s.graph b a'.stage ≡ refused_weight s.graph b a.stage + weight_if to b x) → Loads s r' (set accounts i a')
+  loads_added to x e p f q =
+      loads_changed
+      (λ b k.
+        let y = p b k in
+        let d = ap (departed s.graph b) e in
+        let g = ap (arrived s.graph b) e in
+        let z = f b k in
+        elim (pick to b (r.load to + x) (r.load b)) [
+          inl n ↦ let j = weight_if-same to b x n.0 in let o = ap r.load n.0 in let y1 = n.1 in omega arith
+        | inr n ↦ let j = weight_if-other to b x n.0 in let y1 = n.1 in omega arith
+        ])
+      (λ b k.
+        let z = f b k in
+        elim (pick to b (r.load to + x) (r.load b)) [
+          inl n ↦
+            let j = weight_if-same to b x n.0 in
+            let o = ap r.load n.0 in
+            let y1 = n.1 in
+            elim q [ inl u ↦ let u0 = u.0 in inr (omega arith) | inr u ↦ let u1 = u b k in inl (omega arith) ]
+        | inr n ↦
+            let j = weight_if-other to b x n.0 in
+            let y1 = n.1 in
+            elim q [ inl u ↦ let u1 = u.1 b k in inl (omega arith) | inr u ↦ let u1 = u b k in inl (omega arith) ]
+        ])
+
+  -- TakeBack: a weight that stood at a stage leaves its block
+  pub loads_taken : (to x : ℕ) → x ≤ r.load to → a'.moves ≡ a.moves → ((b : ℕ) → b < s.blocks → reserved_weight s.graph b a.stage ≡ reserved_weight s.graph b a'.stage + weight_if to b x) → ((b : ℕ) → b < s.blocks → r'.load b ≡ (if nat_eq to b then r.load to - x else r.load b)) → ((b : ℕ) → b < s.blocks → refused_weight s.graph b a.stage ≤ refused_weight s.graph b a'.stage + weight_if to b x) → Loads s r' (set accounts i a')
+  loads_taken to x w0 e p f q =
+      loads_changed
+      (λ b k.
+        let y = p b k in
+        let d = ap (departed s.graph b) e in
+        let g = ap (arrived s.graph b) e in
+        let z = f b k in
+        elim (pick to b (r.load to - x) (r.load b)) [
+          inl n ↦ let j = weight_if-same to b x n.0 in let o = ap r.load n.0 in let y1 = n.1 in omega arith
+        | inr n ↦ let j = weight_if-other to b x n.0 in let y1 = n.1 in omega arith
+        ])
+      (λ b k.
+        let z = f b k in
+        let u = q b k in
+        elim (pick to b (r.load to - x) (r.load b)) [
+          inl n ↦ let j = weight_if-same to b x n.0 in let o = ap r.load n.0 in let y1 = n.1 in inl (omega arith)
+        | inr n ↦ let j = weight_if-other to b x n.0 in let y1 = n.1 in inl (omega arith)
+        ])
+
+  -- GiveBack: the move is done, and its weight leaves the old block
+  pub loads_given : (z : Move) → weight_of s.graph z.vertex ≤ r.load z.from → a'.moves ≡ a.moves ++ z ∷ [] → ((b : ℕ) → b < s.blocks → reserved_weight s.graph b a.stage ≡ weight_if z.to b (weight_of s.graph z.vertex)) → ((b : ℕ) → b < s.blocks → reserved_weight s.graph b a'.stage ≡ 0) → ((b : ℕ) → b < s.blocks → refused_weight s.graph b a'.stage ≡ refused_weight s.graph b a.stage) → ((b : ℕ) → b < s.blocks → r'.load b ≡ (if nat_eq z.from b then r.load z.from - weight_of s.graph z.vertex else r.load b)) → Loads s r' (set accounts i a')
+  loads_given z w0 e p p' q f =
+      let x = weight_of s.graph z.vertex in
+      loads_changed
+      (λ b k.
+        let y = p b k in
+        let y' = p' b k in
+        let d = ap (departed s.graph b) e ∙ total_push (λ (m : Move). if nat_eq m.from b then weight_of s.graph m.vertex else 0) a.moves z in
+        let g = ap (arrived s.graph b) e ∙ total_push (λ (m : Move). if nat_eq m.to b then weight_of s.graph m.vertex else 0) a.moves z in
+        let v = f b k in
+        elim (pick z.from b (r.load z.from - x) (r.load b)) [
+          inl n ↦ let j = weight_if-same z.from b x n.0 in let o = ap r.load n.0 in let y1 = n.1 in omega arith
+        | inr n ↦ let j = weight_if-other z.from b x n.0 in let y1 = n.1 in omega arith
+        ])
+      (λ b k.
+        let v = f b k in
+        let u = q b k in
+        elim (pick z.from b (r.load z.from - x) (r.load b)) [
+          inl n ↦ let o = ap r.load n.0 in let y1 = n.1 in inl (omega arith)
+        | inr n ↦ let y1 = n.1 in inl (omega arith)
+        ])
