@@ -18,10 +18,10 @@ use Rattle.move_core.proofs.TimesLaws.{All_at_times, All_from_times, total_uncha
 use Rattle.move_core.proofs.HeldLaws.{carried_below, moved_below, held_alone}
 
 -- names that are the same at each vertex of some moves
-names-same : (name name' : ℕ → ℕ) (ms : List Move) → All (λ m. name' m.vertex ≡ name m.vertex) ms → All (λ m. name m.vertex ≡ m.to) ms → All (λ m. name' m.vertex ≡ m.to) ms
+pub names-same : (name name' : ℕ → ℕ) (ms : List Move) → All (λ m. name' m.vertex ≡ name m.vertex) ms → All (λ m. name m.vertex ≡ m.to) ms → All (λ m. name' m.vertex ≡ m.to) ms
 names-same name name' ms e h k d l = e k d l ∙ h k d l
 
-stage-same : (name name' : ℕ → ℕ) (stage : Stage) → All (λ v. name' v ≡ name v) (named_at stage) → IsNamed name stage → IsNamed name' stage
+pub stage-same : (name name' : ℕ → ℕ) (stage : Stage) → All (λ v. name' v ≡ name v) (named_at stage) → IsNamed name stage → IsNamed name' stage
 stage-same name name' Idle e h = tt
 stage-same name name' (Refused v to seen) e h = tt
 stage-same name name' (Granted v from to seen) e h = tt
@@ -36,7 +36,7 @@ apart v (x ∷ xs) h =
     (λ e. let s = weight_if-same x v 1 (sym e) in absurd (omega arith))
     (apart v xs (omega arith))
 
-from-map : (P : ℕ → Type 0) (ms : List Move) → All P (map (λ m. m.vertex) ms) → All (λ m. P m.vertex) ms
+pub from-map : (P : ℕ → Type 0) (ms : List Move) → All P (map (λ m. m.vertex) ms) → All (λ m. P m.vertex) ms
 from-map P [] h = All-nil (λ (m : Move). P m.vertex)
 from-map P (m ∷ ms) h =
     All-cons (λ (m : Move). P m.vertex) m ms
@@ -54,28 +54,38 @@ times-named_at v (Moving u from to number named raised lowered owed booked) = by
     by false = omega arith
 
 module _ (s : Setup) (r r' : Readings) (accounts : List Account) (c : Claims s.graph r accounts) (m : Moves s accounts) (n : Names s r accounts) where
-  named_below : (k : ℕ) (d : Account) → k < length accounts → All (λ v. v < vertex_count s.graph) (named_at (get_or accounts k d).stage)
+  pub named_below : (k : ℕ) (d : Account) → k < length accounts → All (λ v. v < vertex_count s.graph) (named_at (get_or accounts k d).stage)
   named_below k d l =
       let a = get_or accounts k d in
       All_from_times (λ v. v < vertex_count s.graph) (named_at a.stage) (λ v p. All_at_times (λ u. u < vertex_count s.graph) (carried a) v (carried_below s r accounts c m k d l) (let e = times-named_at v a.stage in let f = total-append (λ x. weight_if x v 1) (moved a) (stage_vertices a.stage) in omega arith))
 
   module _ (i : ℕ) (a a' : Account) (l : i < length accounts) (at : get_or accounts i (blank false) ≡ a) where
     -- the names stay, and the vertices renamed too
-    pub names_kept : ((v : ℕ) → v < vertex_count s.graph → r'.name v ≡ r.name v) → ((v : ℕ) → times v (renamed a') ≡ times v (renamed a)) → (All (λ z. r.name z.vertex ≡ z.to) a.moves → IsNamed r.name a.stage → All (λ z. r'.name z.vertex ≡ z.to) a'.moves × IsNamed r'.name a'.stage) → Names s r' (set accounts i a')
+    pub names_kept : ((v : ℕ) → v < vertex_count s.graph → r'.name v ≡ r.name v) → ((v : ℕ) → times v (renamed a') ≡ times v (renamed a)) → (All (λ z. r.name z.vertex ≡ z.to) a.moves → IsNamed r.name a.stage → All (λ z. r.name z.vertex ≡ z.to) a'.moves × IsNamed r.name a'.stage) → Names s r' (set accounts i a')
     names_kept same e own = record {
       done =
         all_changed accounts i a a' l at (λ (x : Account). All (λ z. r'.name z.vertex ≡ z.to) x.moves)
         (λ k d q. names-same r.name r'.name (get_or accounts k d).moves (λ j y p. same (get_or (get_or accounts k d).moves j y).vertex (moved_below s r accounts c m k d q j y p)) (n.done k d q))
-        ours.0;
+        (names-same r.name r'.name a'.moves (from-map (λ u. r'.name u ≡ r.name u) a'.moves (All_from_times (λ u. r'.name u ≡ r.name u) (moved a') (λ u p. same u (below u (let f = parts u in omega arith))))) ours.0);
       stages =
         all_changed accounts i a a' l at (λ (x : Account). IsNamed r'.name x.stage)
         (λ k d q. stage-same r.name r'.name (get_or accounts k d).stage (λ j y p. same (get_or (named_at (get_or accounts k d).stage) j y) (named_below k d q j y p)) (n.stages k d q))
-        ours.1;
+        (stage-same r.name r'.name a'.stage (All_from_times (λ u. r'.name u ≡ r.name u) (named_at a'.stage) (λ u p. same u (below u (let f = parts u in omega arith)))) ours.1);
       others = λ v q z. same v q ∙ n.others v q (sym (total_unchanged accounts i a a' l at (λ x. times v (renamed x)) (e v)) ∙ z);
     }
       where
-        ours : All (λ z. r'.name z.vertex ≡ z.to) a'.moves × IsNamed r'.name a'.stage
+        ours : All (λ z. r.name z.vertex ≡ z.to) a'.moves × IsNamed r.name a'.stage
         ours = own (all_at accounts i a a' l at (λ (x : Account). All (λ z. r.name z.vertex ≡ z.to) x.moves) n.done) (all_at accounts i a a' l at (λ (x : Account). IsNamed r.name x.stage) n.stages)
+        parts : (u : ℕ) → times u (renamed a') ≡ times u (moved a') + times u (named_at a'.stage)
+        parts u = total-append (λ x. weight_if x u 1) (moved a') (named_at a'.stage)
+        below : (u : ℕ) → 0 < times u (renamed a') → u < vertex_count s.graph
+        below u p =
+            All_at_times (λ x. x < vertex_count s.graph) (carried a) u (all_at accounts i a a' l at (λ (x : Account). All (λ y. y < vertex_count s.graph) (carried x)) (carried_below s r accounts c m))
+            (let f = total-append (λ x. weight_if x u 1) (moved a) (named_at a.stage) in
+            let g = total-append (λ x. weight_if x u 1) (moved a) (stage_vertices a.stage) in
+            let h = times-named_at u a.stage in
+            let j = e u in
+            omega arith)
 
     -- Name: the vertex of a stage gets its new block
     pub names_written : (v to : ℕ) → v < vertex_count s.graph → ((u : ℕ) → u < vertex_count s.graph → r'.name u ≡ (if nat_eq v u then to else r.name u)) → 0 < times v a.held → times v (moved a) ≡ 0 → a'.moves ≡ a.moves → ((u : ℕ) → times u (named_at a'.stage) ≡ times u (named_at a.stage) + weight_if v u 1) → (r'.name v ≡ to → IsNamed r'.name a'.stage) → Names s r' (set accounts i a')
