@@ -83,10 +83,10 @@ module _ (s : Setup) (ok : IsSetup s) (r r' : Readings) (accounts : List Account
   acc = staged held moves numbers seeds gain
 
   -- what the account says of moves before
-  moves_at : (stage : Stage) → get_or accounts i (blank false) ≡ acc stage → (u : ℕ) → times u (map (λ (m : Move). m.vertex) moves ++ stage_vertices stage) ≤ times u held
+  pub moves_at : (stage : Stage) → get_or accounts i (blank false) ≡ acc stage → (u : ℕ) → times u (map (λ (m : Move). m.vertex) moves ++ stage_vertices stage) ≤ times u held
   moves_at stage at = all_at accounts i (acc stage) (acc stage) l at (λ x. (u : ℕ) → times u (carried x) ≤ times u x.held) b.moves.held
 
-  moves_to : (stage stage' : Stage) → get_or accounts i (blank false) ≡ acc stage → ((u : ℕ) → times u (map (λ (m : Move). m.vertex) moves ++ stage_vertices stage') ≤ times u held) → IsStageMove s stage' → Moves s (set accounts i (acc stage'))
+  pub moves_to : (stage stage' : Stage) → get_or accounts i (blank false) ≡ acc stage → ((u : ℕ) → times u (map (λ (m : Move). m.vertex) moves ++ stage_vertices stage') ≤ times u held) → IsStageMove s stage' → Moves s (set accounts i (acc stage'))
   moves_to stage stage' at h q = record {
     held = all_changed accounts i (acc stage) (acc stage') l at (λ x. (u : ℕ) → times u (carried x) ≤ times u x.held) b.moves.held h;
     done = all_changed accounts i (acc stage) (acc stage') l at (λ x. All (λ m. IsMove s m.vertex m.from m.to) x.moves) b.moves.done
@@ -94,15 +94,15 @@ module _ (s : Setup) (ok : IsSetup s) (r r' : Readings) (accounts : List Account
     stages = all_changed accounts i (acc stage) (acc stage') l at (λ x. IsStageMove s x.stage) b.moves.stages q;
   }
 
-  lengths_at : (stage : Stage) → get_or accounts i (blank false) ≡ acc stage → length numbers ≡ length moves
+  pub lengths_at : (stage : Stage) → get_or accounts i (blank false) ≡ acc stage → length numbers ≡ length moves
   lengths_at stage at = all_at accounts i (acc stage) (acc stage) l at (λ x. length x.numbers ≡ length x.moves) b.numbers.lengths
 
-  gains_to : (stage stage' : Stage) → get_or accounts i (blank false) ≡ acc stage → booked_at stage' ≡ booked_at stage → All IsGain (set accounts i (acc stage'))
+  pub gains_to : (stage stage' : Stage) → get_or accounts i (blank false) ≡ acc stage → booked_at stage' ≡ booked_at stage → All IsGain (set accounts i (acc stage'))
   gains_to stage stage' at e =
       all_changed accounts i (acc stage) (acc stage') l at IsGain b.gains
       (all_at accounts i (acc stage) (acc stage) l at IsGain b.gains ∙ ap (λ z. total_z (λ (m : Move). m.booked) moves +ℤ z) (sym e))
 
-  bounds_to : (stage stage' : Stage) → get_or accounts i (blank false) ≡ acc stage → IsBookedWithin s.graph stage' → Bounds s.graph (set accounts i (acc stage'))
+  pub bounds_to : (stage stage' : Stage) → get_or accounts i (blank false) ≡ acc stage → IsBookedWithin s.graph stage' → Bounds s.graph (set accounts i (acc stage'))
   bounds_to stage stage' at q = record {
     done = all_changed accounts i (acc stage) (acc stage') l at (λ x. All (λ m. IsBetween (weights_of s.graph (nets_of s.graph m.vertex)) (weights_of s.graph (nets_of s.graph m.vertex)) m.booked) x.moves) b.bounds.done
       (all_at accounts i (acc stage) (acc stage) l at (λ x. All (λ m. IsBetween (weights_of s.graph (nets_of s.graph m.vertex)) (weights_of s.graph (nets_of s.graph m.vertex)) m.booked) x.moves) b.bounds.done);
