@@ -249,6 +249,16 @@ pub record IsSetup (s : Setup) : Type 0 where
   pub opening : IsPartition s.graph s.blocks s.opening
   pub fits : Fits s.graph s.blocks s.limit s.opening
 
--- the books of a state
-abbrev pub Balanced : State → Type 0
-Balanced s = InBalance s.setup (readings s) s.accounts
+-- a state has a word for each vertex, block and net, and a count word for each net and block
+pub record IsShaped (s : State) : Type 0 where
+  pub claims : length s.claims ≡ vertex_count s.setup.graph
+  pub names : length s.names ≡ vertex_count s.setup.graph
+  pub loads : length s.loads ≡ s.setup.blocks
+  pub counts : length s.counts ≡ net_count s.setup.graph * s.setup.blocks
+  pub spreads : length s.spreads ≡ net_count s.setup.graph
+
+-- the state of a round whose books are in balance
+pub record IsBooks (s : State) : Type 0 where
+  pub setup : IsSetup s.setup
+  pub shape : IsShaped s
+  pub balance : InBalance s.setup (readings s) s.accounts
