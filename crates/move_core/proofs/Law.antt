@@ -232,3 +232,105 @@ module _ (s : State) (k : IsBooks s) where
 
     seed_law : (stage : Stage) → Here stage → may_step g (Seed i) (acc stage) ≡ true → Kept (Seed i) stage
     seed_law stage at h = seed_kept g k.setup r (readings (written s word.Cursor (r.cursor + 1))) s.accounts i l k.balance held moves numbers seeds gain stage at (ltb-true seeds (2 ^ 32) h) (writes_at s word.Cursor (r.cursor + 1) k.shape tt)
+
+-- the word of a Split or a Join is there, as that of a Peek is
+is_word-IsWord : (g : Setup) (w : Word) → is_word g w ≡ true → IsWord g w
+is_word-IsWord g (word.Claim v) h = ltb-true v (vertex_count g.graph) h
+is_word-IsWord g (word.Name v) h = ltb-true v (vertex_count g.graph) h
+is_word-IsWord g (word.Load b) h = ltb-true b g.blocks h
+is_word-IsWord g (word.Count e b) h =
+    let p = and_parts (nat_lt e (net_count g.graph)) (nat_lt b g.blocks) h in
+    (ltb-true e (net_count g.graph) p.0, ltb-true b g.blocks p.1)
+is_word-IsWord g (word.Spread e) h = ltb-true e (net_count g.graph) h
+is_word-IsWord g word.Next h = tt
+is_word-IsWord g word.Cursor h = tt
+
+first_word-IsWord : (g : Setup) → IsWord g (first_word g)
+first_word-IsWord g = by (nat_lt 0 (vertex_count g.graph)) refl
+  where
+    by : (z : Bool) → nat_lt 0 (vertex_count g.graph) ≡ z → IsWord g (if z then word.Claim 0 else word.Next)
+    by true q = ltb-true 0 (vertex_count g.graph) q
+    by false q = tt
+
+is_idle-Idle : (stage : Stage) → is_idle stage ≡ true → stage ≡ Idle
+is_idle-Idle Idle h = refl
+is_idle-Idle (Refused v to seen) h = no h
+is_idle-Idle (Granted v from to seen) h = no h
+is_idle-Idle (Moving v from to number named raised lowered owed booked) h = no h
+
+abbrev idle : Account → Account
+idle a = staged a.held a.moves a.numbers a.seeds a.gain Idle
+
+idle_at : (a : Account) → a.live ≡ true → is_idle a.stage ≡ true → a ≡ idle a
+idle_at a on h = staged_at a on ∙ ap (staged a.held a.moves a.numbers a.seeds a.gain) (is_idle-Idle a.stage h)
+
+-- a word written, and the accounts that an event leaves
+books_from : (s : State) (w : Word) (x : ℕ) (accounts : List Account) → IsBooks s → InBalance s.setup (readings (written s w x)) accounts → IsBooks (record (written s w x) { accounts = accounts })
+books_from s w x accounts k b =
+    let h = shaped_written s w x k.shape in
+    record {
+      setup = subst IsSetup (sym (setup_written s w x)) k.setup;
+      shape = record { claims = h.claims; names = h.names; loads = h.loads; counts = h.counts; spreads = h.spreads };
+      balance = subst (λ z. InBalance z (readings (written s w x)) accounts) (sym (setup_written s w x)) b;
+    }
+
+-- a word that is read
+read_kept : (s : State) (w : Word) (accounts : List Account) → IsBooks s → IsWord s.setup w → InBalance s.setup (readings s) accounts → InBalance s.setup (readings (written s w (read (readings s) w))) accounts
+read_kept s w accounts k l b =
+    balance_same s.setup (readings s) (readings (written s w (read (readings s) w))) accounts
+    (same_from_writes s.setup (readings s) (readings (written s w (read (readings s) w))) w (read (readings s) w) (writes_at s w (read (readings s) w) k.shape l) refl)
+    b
+
+-- an event of one pass, once the account is known to be that of a live pass
+one_pass : (s : State) (k : IsBooks s) (x : Event) (i : ℕ) → (account s i).live ≡ true → may_step s.setup x (account s i) ≡ true → ((held : List ℕ) (moves : List Move) (numbers : List ℕ) (seeds : ℕ) (gain : ℤ) (stage : Stage) → get_or s.accounts i (blank false) ≡ staged held moves numbers seeds gain stage → may_step s.setup x (staged held moves numbers seeds gain stage) ≡ true → InBalance s.setup (readings (written s (word_of s.setup x (staged held moves numbers seeds gain stage)) (write_of s.setup x (staged held moves numbers seeds gain stage) (read (readings s) (word_of s.setup x (staged held moves numbers seeds gain stage)))))) (slice_set s.accounts i (account_after s.setup x (read (readings s) (word_of s.setup x (staged held moves numbers seeds gain stage))) (staged held moves numbers seeds gain stage)))) → IsBooks (record (written s (word_of s.setup x (account s i)) (write_of s.setup x (account s i) (read (readings s) (word_of s.setup x (account s i))))) { accounts = slice_set s.accounts i (account_after s.setup x (read (readings s) (word_of s.setup x (account s i))) (account s i)) })
+one_pass s k x i on may law =
+    let a = account s i in
+    let e = staged_at a on in
+    books_from s (word_of s.setup x a) (write_of s.setup x a (read (readings s) (word_of s.setup x a))) (slice_set s.accounts i (account_after s.setup x (read (readings s) (word_of s.setup x a)) a)) k
+    (subst (λ (z : Account). InBalance s.setup (readings (written s (word_of s.setup x z) (write_of s.setup x z (read (readings s) (word_of s.setup x z))))) (slice_set s.accounts i (account_after s.setup x (read (readings s) (word_of s.setup x z)) z))) (sym e)
+    (law a.held a.moves a.numbers a.seeds a.gain a.stage e (subst (λ (z : Account). may_step s.setup x z ≡ true) e may)))
+
+module _ (s : State) (k : IsBooks s) where
+  on_at : (x : Event) → is_enabled s x ≡ true → (account s (pass_of x)).live ≡ true
+  on_at x h = (and_parts (account s (pass_of x)).live (may_step s.setup x (account s (pass_of x)) && others_agree s x) h).0
+
+  may_at : (x : Event) → is_enabled s x ≡ true → may_step s.setup x (account s (pass_of x)) ≡ true
+  may_at x h = (and_parts (may_step s.setup x (account s (pass_of x))) (others_agree s x) (and_parts (account s (pass_of x)).live (may_step s.setup x (account s (pass_of x)) && others_agree s x) h).1).0
+
+  others_at : (x : Event) → is_enabled s x ≡ true → others_agree s x ≡ true
+  others_at x h = (and_parts (may_step s.setup x (account s (pass_of x))) (others_agree s x) (and_parts (account s (pass_of x)).live (may_step s.setup x (account s (pass_of x)) && others_agree s x) h).1).1
+
+  -- from books in balance, every enabled event leads to books in balance
+  pub event_keeps : (x : Event) → is_enabled s x ≡ true → IsBooks (after s x)
+  event_keeps (Claim i v) h = one_pass s k (Claim i v) i (on_at (Claim i v) h) (may_at (Claim i v) h) (λ held moves numbers seeds gain stage at m. claim_law s k i (live_below s i (on_at (Claim i v) h)) held moves numbers seeds gain v stage at m)
+  event_keeps (Unclaim i v) h = one_pass s k (Unclaim i v) i (on_at (Unclaim i v) h) (may_at (Unclaim i v) h) (λ held moves numbers seeds gain stage at m. unclaim_law s k i (live_below s i (on_at (Unclaim i v) h)) held moves numbers seeds gain v stage at m)
+  event_keeps (Reserve i v to) h = one_pass s k (Reserve i v to) i (on_at (Reserve i v to) h) (may_at (Reserve i v to) h) (λ held moves numbers seeds gain stage at m. reserve_law s k i (live_below s i (on_at (Reserve i v to) h)) held moves numbers seeds gain v to stage at m)
+  event_keeps (TakeBack i) h = one_pass s k (TakeBack i) i (on_at (TakeBack i) h) (may_at (TakeBack i) h) (λ held moves numbers seeds gain stage at m. take_back_law s k i (live_below s i (on_at (TakeBack i) h)) held moves numbers seeds gain stage at m)
+  event_keeps (Draw i) h = one_pass s k (Draw i) i (on_at (Draw i) h) (may_at (Draw i) h) (λ held moves numbers seeds gain stage at m. draw_law s k i (live_below s i (on_at (Draw i) h)) held moves numbers seeds gain stage at m)
+  event_keeps (Name i) h = one_pass s k (Name i) i (on_at (Name i) h) (may_at (Name i) h) (λ held moves numbers seeds gain stage at m. name_law s k i (live_below s i (on_at (Name i) h)) held moves numbers seeds gain stage at m)
+  event_keeps (Raise i) h = one_pass s k (Raise i) i (on_at (Raise i) h) (may_at (Raise i) h) (λ held moves numbers seeds gain stage at m. raise_law s k i (live_below s i (on_at (Raise i) h)) held moves numbers seeds gain stage at m)
+  event_keeps (Widen i) h = one_pass s k (Widen i) i (on_at (Widen i) h) (may_at (Widen i) h) (λ held moves numbers seeds gain stage at m. widen_law s k i (live_below s i (on_at (Widen i) h)) held moves numbers seeds gain stage at m)
+  event_keeps (Lower i) h = one_pass s k (Lower i) i (on_at (Lower i) h) (may_at (Lower i) h) (λ held moves numbers seeds gain stage at m. lower_law s k i (live_below s i (on_at (Lower i) h)) held moves numbers seeds gain stage at m)
+  event_keeps (Narrow i) h = one_pass s k (Narrow i) i (on_at (Narrow i) h) (may_at (Narrow i) h) (λ held moves numbers seeds gain stage at m. narrow_law s k i (live_below s i (on_at (Narrow i) h)) held moves numbers seeds gain stage at m)
+  event_keeps (GiveBack i) h = one_pass s k (GiveBack i) i (on_at (GiveBack i) h) (may_at (GiveBack i) h) (λ held moves numbers seeds gain stage at m. give_back_law s k i (live_below s i (on_at (GiveBack i) h)) held moves numbers seeds gain stage at m)
+  event_keeps (Seed i) h = one_pass s k (Seed i) i (on_at (Seed i) h) (may_at (Seed i) h) (λ held moves numbers seeds gain stage at m. seed_law s k i (live_below s i (on_at (Seed i) h)) held moves numbers seeds gain stage at m)
+  event_keeps (Peek i w) h =
+      books_from s w (read (readings s) w) (slice_set s.accounts i (account s i)) k
+      (read_kept s w (slice_set s.accounts i (account s i)) k (is_word-IsWord s.setup w (may_at (Peek i w) h))
+      (subst (InBalance s.setup (readings s)) (sym (set-get_or s.accounts i (blank false))) k.balance))
+  event_keeps (Split i) h =
+      books_from s (first_word s.setup) (read (readings s) (first_word s.setup)) (s.accounts ++ blank true ∷ []) k
+      (read_kept s (first_word s.setup) (s.accounts ++ blank true ∷ []) k (first_word-IsWord s.setup)
+      (split_kept s.setup (readings s) s.accounts k.balance (ltb-true (length s.accounts) 64 (others_at (Split i) h))))
+  event_keeps (Join i j) h =
+      let may = and_parts (is_idle (account s i).stage) (not (nat_eq i j)) (may_at (Join i j) h) in
+      let other = and_parts (account s j).live (is_idle (account s j).stage) (others_at (Join i j) h) in
+      let apart : i ≢ j = eqb-false i j (not-true (nat_eq i j) may.1) in
+      let mine = idle_at (account s i) (on_at (Join i j) h) may.0 in
+      let theirs = idle_at (account s j) other.0 other.1 in
+      let joined = slice_set (slice_set s.accounts i (joined_with (account s i) (account s j))) j (blank false) in
+      books_from s (first_word s.setup) (read (readings s) (first_word s.setup)) joined k
+      (read_kept s (first_word s.setup) joined k (first_word-IsWord s.setup)
+      (subst (λ (z : Account). InBalance s.setup (readings s) (slice_set (slice_set s.accounts i (joined_with z (account s j))) j (blank false))) (sym mine)
+      (subst (λ (z : Account). InBalance s.setup (readings s) (slice_set (slice_set s.accounts i (joined_with (idle (account s i)) z)) j (blank false))) (sym theirs)
+      (join_kept s.setup (readings s) s.accounts i j (live_below s i (on_at (Join i j) h)) (live_below s j other.0) apart k.balance (account s i).held (account s j).held (account s i).moves (account s j).moves (account s i).numbers (account s j).numbers (account s i).seeds (account s j).seeds (account s i).gain (account s j).gain mine theirs))))
