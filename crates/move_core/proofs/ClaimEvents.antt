@@ -1,39 +1,26 @@
 -- The books stay in balance over Claim, Unclaim and Seed.
-use Rattle.std.proofs.Common.{◌≡◌, ℕ, zero, suc, ◌+◌, ◌-◌, ◌*◌, ◌^◌, ◌<◌, ◌≤◌, ◌≢◌, ◌⊎◌, inl, inr, Bool, true, false, ◌&&◌, List, [], ◌∷◌, ◌++◌, map, length, get_or, slice_index, take, set, nat_eq, nat_lt, if◌then◌else◌, All, ℤ, pos, ◌+ℤ◌, ◌-ℤ◌, ◌≤ℤ◌, refl, sym, ap, ◌∙◌, subst, arith}
-use Rattle.std.proofs.lemmas.Int.{ints}
+use Rattle.std.proofs.Common.{◌≡◌, ℕ, ◌+◌, ◌^◌, ◌<◌, ◌≤◌, inl, inr, true, false, List, [], ◌++◌, map, length, get_or, set, nat_eq, All, ℤ, refl, subst, arith}
 use Rattle.std.proofs.lemmas.Bool.{cases_eq}
 use Rattle.hg_defs.specs.declared.moves.Move.{Move}
-use Rattle.hg_defs.specs.Sums.{total, total_z}
-use Rattle.hg_defs.specs.Hypergraph.{Hyper, IsHypergraph, vertex_count, net_count, net_of, weight_of}
-use Rattle.hg_defs.specs.Partition.{block_of}
-use Rattle.hg_defs.proofs.SumLaws.{weight_if, weight_if-same, weight_if-other, total-append}
+use Rattle.hg_defs.specs.Hypergraph.{vertex_count, net_count}
+use Rattle.hg_defs.proofs.SumLaws.{weight_if, weight_if-other, total-append}
 use Rattle.move_core.specs.declared.account.Account.{Account}
-use Rattle.move_core.specs.declared.account.Owed.{Owed}
-use Rattle.move_core.specs.declared.account.Owed.TheVariants.{Nothing, Up, Down}
 use Rattle.move_core.specs.declared.account.Stage.{Stage}
-use Rattle.move_core.specs.declared.account.Stage.TheVariants.{Idle, Refused, Granted, Moving}
+use Rattle.move_core.specs.declared.account.Stage.TheVariants.{Idle}
 use Rattle.move_core.specs.declared.events.Word.TheVariants as word
 use Rattle.move_core.specs.State.{Setup, Readings, times, nets_of, blank}
-use Rattle.move_core.specs.Events.{moved, number_at}
-use Rattle.move_core.specs.Balance.{Claims, Loads, Names, Counts, Moves, Numbers, Sum, Rest, Spreads, Bounds, InBalance, IsSetup, IsGain, IsMove, IsStageMove, IsInStep, IsOwing, IsBetween, IsBookedWithin, carried, drawn, lowers, reserved_weight, refused_weight, booked_at, stage_vertices, weights_of}
+use Rattle.move_core.specs.Balance.{Claims, Rest, InBalance, IsSetup, IsGain, IsMove, IsStageMove, IsInStep, IsOwing, IsBetween, IsBookedWithin, carried, stage_vertices, weights_of}
 use Rattle.move_core.proofs.Words.{Writes}
 use Rattle.move_core.proofs.TimesLaws.{all_changed, all_at}
 use Rattle.move_core.proofs.ClaimLaws.{claims_kept}
-use Rattle.move_core.proofs.LoadLaws.{loads_kept, loads_given, load_leaving}
-use Rattle.move_core.proofs.NameLaws.{names_kept, names_written}
-use Rattle.move_core.proofs.CountLaws.{counts_kept, counts_raised, counts_lowered, count_positive, lowers-le}
-use Rattle.move_core.proofs.NumberLaws.{numbers_kept, numbers_drawn}
-use Rattle.move_core.proofs.CostLaws.{sum_kept, sum_booked}
+use Rattle.move_core.proofs.LoadLaws.{loads_kept}
+use Rattle.move_core.proofs.NameLaws.{names_kept}
+use Rattle.move_core.proofs.CountLaws.{counts_kept}
+use Rattle.move_core.proofs.NumberLaws.{numbers_kept}
+use Rattle.move_core.proofs.CostLaws.{sum_kept}
 use Rattle.move_core.proofs.RestLaws.{rest_kept}
-use Rattle.move_core.proofs.SpreadLaws.{spreads_kept, spreads_raised, spreads_lowered, spreads_widened, spreads_narrowed}
-use Rattle.move_core.proofs.KeptLaws.{stage_carried, IsCarried}
-use Rattle.move_core.proofs.StageEvents.{staged, moves_at, moves_to, lengths_at, gains_to, bounds_to, carries_none}
-
-use Rattle.move_core.proofs.NetLaws.{net_at-below, net_at_pin, times-take_more, times_net_at_before}
-use Rattle.move_core.proofs.HeldLaws.{held_alone}
-use Rattle.move_core.proofs.TimesLaws.{total_changed, all_changed_others}
-use Rattle.hg_defs.proofs.SumLaws.{total-zero, total-take_more}
-
+use Rattle.move_core.proofs.SpreadLaws.{spreads_kept}
+use Rattle.move_core.proofs.StageEvents.{staged, moves_at}
 use Rattle.std.proofs.Common.{nat_cmp}
 use Rattle.std.specs.BTreeSet.{insert_key}
 use Rattle.std.specs.Set.{remove_key}
@@ -80,11 +67,11 @@ module _ (s : Setup) (ok : IsSetup s) (r r' : Readings) (accounts : List Account
       with_held (insert_key nat_cmp held v) seeds Idle at
       (claims_claimed s.graph r r' accounts i a a' l at b.claims v k f z w.claim refl)
       (λ u.
-        let o = moves_at s ok r r' accounts i l b held moves numbers seeds gain Idle at u in
-        let c = b.claims.word v k in
-        let t = total_at accounts i a a' l at (λ x. times v x.held) in
-        let e = times-insert_key held v u (omega arith) in
-        omega arith)
+      let o = moves_at s ok r r' accounts i l b held moves numbers seeds gain Idle at u in
+      let c = b.claims.word v k in
+      let t = total_at accounts i a a' l at (λ x. times v x.held) in
+      let e = times-insert_key held v u (omega arith) in
+      omega arith)
       (rest_kept r r' accounts i a a' l at b.rest refl refl refl w.cursor)
       w.name w.load w.count w.spread w.next
 
@@ -106,13 +93,13 @@ module _ (s : Setup) (ok : IsSetup s) (r r' : Readings) (accounts : List Account
       with_held (remove_key (nat_eq v) held) seeds Idle at
       (claims_unclaimed s.graph r r' accounts i a a' l at b.claims v k p w.claim refl)
       (λ u.
-        let o = moves_at s ok r r' accounts i l b held moves numbers seeds gain Idle at u in
-        let e = times-remove_key held v u p in
-        let t = total-append (λ x. weight_if x u 1) (map (λ (m : Move). m.vertex) moves) [] in
-        elim (cases_eq v u) [
-          inl q ↦ let y = subst (λ x. times x (map (λ (m : Move). m.vertex) moves) ≡ 0) q z in omega arith
+      let o = moves_at s ok r r' accounts i l b held moves numbers seeds gain Idle at u in
+      let e = times-remove_key held v u p in
+      let t = total-append (λ x. weight_if x u 1) (map (λ (m : Move). m.vertex) moves) [] in
+      elim (cases_eq v u) [
+        | inl q ↦ let y = subst (λ x. times x (map (λ (m : Move). m.vertex) moves) ≡ 0) q z in omega arith
         | inr q ↦ let y = weight_if-other v u 1 q in omega arith
-        ])
+      ])
       (rest_kept r r' accounts i a a' l at b.rest refl refl refl w.cursor)
       w.name w.load w.count w.spread w.next
 

@@ -1,11 +1,10 @@
 -- The clause on claims, after each event that changes claims or held vertices, and after all others.
-use Rattle.std.proofs.Common.{◌≡◌, ℕ, zero, suc, ◌+◌, ◌<◌, ◌≤◌, ◌≢◌, ◌⊎◌, inl, inr, Bool, true, false, List, [], ◌∷◌, length, get_or, set, nat_eq, if◌then◌else◌, All, refl, sym, ap, ◌∙◌, subst, arith, nat_cmp}
+use Rattle.std.proofs.Common.{◌≡◌, ℕ, ◌+◌, ◌<◌, ◌≤◌, ◌≢◌, Bool, true, false, List, length, get_or, set, nat_eq, if◌then◌else◌, All, refl, sym, ap, ◌∙◌, subst, arith, nat_cmp}
 use Rattle.std.specs.BTreeSet.{insert_key}
 use Rattle.std.specs.Set.{remove_key}
 use Rattle.std.proofs.lemmas.Bool.{eqb-true, eqb-false, true≢false}
-use Rattle.hg_defs.specs.Sums.{total}
 use Rattle.hg_defs.specs.Hypergraph.{Hyper, vertex_count, is_free}
-use Rattle.hg_defs.proofs.SumLaws.{weight_if, weight_if-same, weight_if-other}
+use Rattle.hg_defs.proofs.SumLaws.{weight_if-same, weight_if-other}
 use Rattle.move_core.specs.declared.account.Account.{Account}
 use Rattle.move_core.specs.State.{Readings, times, blank}
 use Rattle.move_core.specs.Balance.{Claims}

@@ -1,34 +1,31 @@
 -- The books stay in balance over Raise and Lower.
-use Rattle.std.proofs.Common.{◌≡◌, ℕ, zero, suc, ◌+◌, ◌-◌, ◌*◌, ◌<◌, ◌≤◌, ◌≢◌, ◌⊎◌, inl, inr, Bool, true, false, ◌&&◌, List, [], ◌∷◌, ◌++◌, map, length, get_or, slice_index, take, set, nat_eq, nat_lt, if◌then◌else◌, All, ℤ, pos, ◌+ℤ◌, ◌-ℤ◌, ◌≤ℤ◌, refl, sym, ap, ◌∙◌, subst, arith}
+use Rattle.std.proofs.Common.{◌≡◌, ℕ, ◌+◌, ◌-◌, ◌<◌, ◌≤◌, Bool, true, false, List, length, get_or, slice_index, take, set, nat_eq, if◌then◌else◌, ℤ, refl, sym, ap, subst, arith}
 use Rattle.std.proofs.lemmas.Int.{ints}
 use Rattle.std.proofs.lemmas.Bool.{true≢false, eqb-true, eqb-false}
 use Rattle.hg_defs.specs.declared.moves.Move.{Move}
-use Rattle.hg_defs.specs.Sums.{total, total_z}
-use Rattle.hg_defs.specs.Hypergraph.{Hyper, IsHypergraph, vertex_count, net_count, net_of, weight_of}
+use Rattle.hg_defs.specs.Hypergraph.{vertex_count, net_of}
 use Rattle.hg_defs.specs.Partition.{block_of}
-use Rattle.hg_defs.proofs.SumLaws.{weight_if, weight_if-same, weight_if-other, total-append}
+use Rattle.hg_defs.proofs.SumLaws.{weight_if, weight_if-same, weight_if-other}
 use Rattle.move_core.specs.declared.account.Account.{Account}
 use Rattle.move_core.specs.declared.account.Owed.{Owed}
 use Rattle.move_core.specs.declared.account.Owed.TheVariants.{Nothing, Up, Down}
 use Rattle.move_core.specs.declared.account.Stage.{Stage}
-use Rattle.move_core.specs.declared.account.Stage.TheVariants.{Idle, Refused, Granted, Moving}
+use Rattle.move_core.specs.declared.account.Stage.TheVariants.{Idle, Moving}
 use Rattle.move_core.specs.declared.events.Word.TheVariants as word
 use Rattle.move_core.specs.State.{Setup, Readings, times, nets_of, blank}
-use Rattle.move_core.specs.Events.{moved, number_at}
-use Rattle.move_core.specs.Balance.{Claims, Loads, Names, Counts, Moves, Numbers, Sum, Rest, Spreads, Bounds, InBalance, IsSetup, IsGain, IsMove, IsStageMove, IsInStep, IsOwing, IsBetween, IsBookedWithin, carried, drawn, lowers, reserved_weight, refused_weight, booked_at, stage_vertices, weights_of}
+use Rattle.move_core.specs.Balance.{Counts, Spreads, Bounds, InBalance, IsSetup, IsMove, IsStageMove, IsInStep, IsBetween, IsBookedWithin, lowers, weights_of}
 use Rattle.move_core.proofs.Words.{Writes}
-use Rattle.move_core.proofs.TimesLaws.{all_changed, all_at}
+use Rattle.move_core.proofs.TimesLaws.{all_at}
 use Rattle.move_core.proofs.ClaimLaws.{claims_kept}
-use Rattle.move_core.proofs.LoadLaws.{loads_kept, loads_given, load_leaving}
-use Rattle.move_core.proofs.NameLaws.{names_kept, names_written}
-use Rattle.move_core.proofs.CountLaws.{counts_kept, counts_raised, counts_lowered, count_positive, lowers-le}
-use Rattle.move_core.proofs.NumberLaws.{numbers_kept, numbers_drawn}
-use Rattle.move_core.proofs.CostLaws.{sum_kept, sum_booked}
+use Rattle.move_core.proofs.LoadLaws.{loads_kept}
+use Rattle.move_core.proofs.NameLaws.{names_kept}
+use Rattle.move_core.proofs.CountLaws.{counts_raised, counts_lowered, count_positive, lowers-le}
+use Rattle.move_core.proofs.NumberLaws.{numbers_kept}
+use Rattle.move_core.proofs.CostLaws.{sum_kept}
 use Rattle.move_core.proofs.RestLaws.{rest_kept}
-use Rattle.move_core.proofs.SpreadLaws.{spreads_kept, spreads_raised, spreads_lowered, spreads_widened, spreads_narrowed}
+use Rattle.move_core.proofs.SpreadLaws.{spreads_raised, spreads_lowered}
 use Rattle.move_core.proofs.KeptLaws.{stage_carried, IsCarried}
-use Rattle.move_core.proofs.StageEvents.{staged, moves_at, moves_to, lengths_at, gains_to, bounds_to, carries_none}
-
+use Rattle.move_core.proofs.StageEvents.{staged, moves_at, moves_to, lengths_at, gains_to, bounds_to}
 use Rattle.move_core.proofs.NetLaws.{net_at-below, net_at_pin, times-take_more, times_net_at_before}
 use Rattle.move_core.proofs.HeldLaws.{held_alone}
 use Rattle.move_core.proofs.TimesLaws.{total_changed, all_changed_others}
@@ -94,11 +91,12 @@ module _ (s : Setup) (ok : IsSetup s) (r r' : Readings) (accounts : List Account
         counts owed =
             counts_raised s r r' accounts i (acc (Moving v from to number true raised lowered Nothing booked)) (acc (Moving v from to number true (raised + 1) lowered owed booked)) l at b.counts ok.graph v (net raised) to (net_at-below s.graph v raised place) (net_at_pin s.graph v raised place)
             (λ u e c.
-              let m = more_raised (nat_eq v u) (nat_eq to c) (nat_eq (net raised) e) (times e (take raised (nets_of s.graph v))) (times e (take (raised + 1) (nets_of s.graph v))) (times-take_more s.graph v e raised place) in
-              omega arith)
+            let m = more_raised (nat_eq v u) (nat_eq to c) (nat_eq (net raised) e) (times e (take raised (nets_of s.graph v))) (times e (take (raised + 1) (nets_of s.graph v))) (times-take_more s.graph v e raised place) in
+            omega arith)
             (λ u e. refl)
             w.count
             (omega arith, omega arith, omega arith, λ q. absurd (true≢false q))
+
         go : (z : Bool) → nat_eq (r.count (net raised) to) 0 ≡ z → InBalance s r' (set accounts i (acc (Moving v from to number true (raised + 1) lowered (if z then Up else Nothing) booked)))
         go true q =
             let none : r.count (net raised) to ≡ 0 = eqb-true (r.count (net raised) to) 0 q in
@@ -106,9 +104,9 @@ module _ (s : Setup) (ok : IsSetup s) (r r' : Readings) (accounts : List Account
             on_counts (raised + 1) lowered Up (net raised) to (r.count (net raised) to + 1) w (counts Up)
             (spreads_raised s r r' accounts i (acc (Moving v from to number true raised lowered Nothing booked)) (acc (Moving v from to number true (raised + 1) lowered Up booked)) l at b.spreads (net raised) to (net_at-below s.graph v raised place) stage_move.block
             (λ e.
-              let x = ap (λ j. weight_if (net j) e 1) back in
-              let y = ap (weight_if (net raised) e) (weight_if-same (r.count (net raised) to) 0 1 none) in
-              omega arith)
+            let x = ap (λ j. weight_if (net j) e 1) back in
+            let y = ap (weight_if (net raised) e) (weight_if-same (r.count (net raised) to) 0 1 none) in
+            omega arith)
             (λ e. refl) w.spread w.count (omega arith))
             (bounds_to s ok r r' accounts i l b held moves numbers seeds gain (Moving v from to number true raised lowered Nothing booked) (Moving v from to number true (raised + 1) lowered Up booked) at
             (let low = within.low in
@@ -120,9 +118,9 @@ module _ (s : Setup) (ok : IsSetup s) (r r' : Readings) (accounts : List Account
             on_counts (raised + 1) lowered Nothing (net raised) to (r.count (net raised) to + 1) w (counts Nothing)
             (spreads_raised s r r' accounts i (acc (Moving v from to number true raised lowered Nothing booked)) (acc (Moving v from to number true (raised + 1) lowered Nothing booked)) l at b.spreads (net raised) to (net_at-below s.graph v raised place) stage_move.block
             (λ e.
-              let y = ap (weight_if (net raised) e) (weight_if-other (r.count (net raised) to) 0 1 some) in
-              let z = weight_if-zero (net raised) e in
-              omega arith)
+            let y = ap (weight_if (net raised) e) (weight_if-other (r.count (net raised) to) 0 1 some) in
+            let z = weight_if-zero (net raised) e in
+            omega arith)
             (λ e. refl) w.spread w.count tt)
             (bounds_to s ok r r' accounts i l b held moves numbers seeds gain (Moving v from to number true raised lowered Nothing booked) (Moving v from to number true (raised + 1) lowered Nothing booked) at
             (let low = within.low in
@@ -140,12 +138,12 @@ module _ (s : Setup) (ok : IsSetup s) (r r' : Readings) (accounts : List Account
         (let stage = Moving v from to number true raised lowered Nothing booked in
         let t = total_changed accounts i (acc stage) (blank false) l at (lowers s.graph v (net lowered)) in
         let others = total-zero (lowers s.graph v (net lowered)) (set accounts i (blank false))
-          (all_changed_others accounts i (acc stage) (blank false) l at (λ x. lowers s.graph v (net lowered) x ≡ 0)
-          (λ k d o q.
-            let x = lowers-le s.graph v (net lowered) (get_or accounts k d) in
-            let y = held_alone s r accounts b.claims b.moves v i k d carried_here.vertex l o q (subst (λ (z : Account). 0 < times v z.held) (sym at) carried_here.held) in
-            omega arith)
-          refl) in
+        (all_changed_others accounts i (acc stage) (blank false) l at (λ x. lowers s.graph v (net lowered) x ≡ 0)
+        (λ k d o q.
+        let x = lowers-le s.graph v (net lowered) (get_or accounts k d) in
+        let y = held_alone s r accounts b.claims b.moves v i k d carried_here.vertex l o q (subst (λ (z : Account). 0 < times v z.held) (sym at) carried_here.held) in
+        omega arith)
+        refl) in
         let own = weight_if-same v v (times (net lowered) (take lowered (nets_of s.graph v))) refl in
         let before = times_net_at_before s.graph v lowered place in
         let unmoved = carried_here.unmoved in
@@ -153,6 +151,7 @@ module _ (s : Setup) (ok : IsSetup s) (r r' : Readings) (accounts : List Account
       where
         carried_here : IsCarried s (acc (Moving v from to number true raised lowered Nothing booked)) v
         carried_here = stage_carried s r accounts i (acc (Moving v from to number true raised lowered Nothing booked)) l at b v refl
+
         below_blocks : (u : ℕ) → u < vertex_count s.graph → block_of s.opening u < s.blocks
         below_blocks u k = ok.opening.blocks u 0 (let e = ok.opening.vertices in omega arith)
 
@@ -162,19 +161,23 @@ module _ (s : Setup) (ok : IsSetup s) (r r' : Readings) (accounts : List Account
       where
         vertex : v < vertex_count s.graph
         vertex = (stage_carried s r accounts i (acc (Moving v from to number true raised lowered Nothing booked)) l at b v refl).vertex
+
         old_block : from < s.blocks
         old_block = subst (λ x. x < s.blocks) (sym stage_move.origin) (ok.opening.blocks v 0 (let e = ok.opening.vertices in let x = vertex in omega arith))
+
         step : IsInStep s.graph (Moving v from to number true raised (lowered + 1) Nothing booked)
         step = (omega arith, omega arith, omega arith, λ q. absurd (true≢false q))
+
         counts : (owed : Owed) → Counts s r' (set accounts i (acc (Moving v from to number true raised (lowered + 1) owed booked)))
         counts owed =
             counts_lowered s r r' accounts i (acc (Moving v from to number true raised lowered Nothing booked)) (acc (Moving v from to number true raised (lowered + 1) owed booked)) l at b.counts ok.graph v (net lowered) from (net_at-below s.graph v lowered place) (net_at_pin s.graph v lowered place) (sym stage_move.origin) (lower_found place)
             (λ u e c. refl)
             (λ u e.
-              let m = more_lowered (nat_eq v u) (nat_eq (net lowered) e) (times e (take lowered (nets_of s.graph v))) (times e (take (lowered + 1) (nets_of s.graph v))) (times-take_more s.graph v e lowered place) in
-              omega arith)
+            let m = more_lowered (nat_eq v u) (nat_eq (net lowered) e) (times e (take lowered (nets_of s.graph v))) (times e (take (lowered + 1) (nets_of s.graph v))) (times-take_more s.graph v e lowered place) in
+            omega arith)
             w.count
             step
+
         go : (z : Bool) → nat_eq (r.count (net lowered) from) 1 ≡ z → InBalance s r' (set accounts i (acc (Moving v from to number true raised (lowered + 1) (if z then Down else Nothing) booked)))
         go true q =
             let one : r.count (net lowered) from ≡ 1 = eqb-true (r.count (net lowered) from) 1 q in
@@ -183,9 +186,9 @@ module _ (s : Setup) (ok : IsSetup s) (r r' : Readings) (accounts : List Account
             (spreads_lowered s r r' accounts i (acc (Moving v from to number true raised lowered Nothing booked)) (acc (Moving v from to number true raised (lowered + 1) Down booked)) l at b.spreads (net lowered) from (net_at-below s.graph v lowered place) old_block (lower_found place)
             (λ e. refl)
             (λ e.
-              let x = ap (λ j. weight_if (net j) e 1) back in
-              let y = ap (weight_if (net lowered) e) (weight_if-same (r.count (net lowered) from) 1 1 one) in
-              omega arith)
+            let x = ap (λ j. weight_if (net j) e 1) back in
+            let y = ap (weight_if (net lowered) e) (weight_if-same (r.count (net lowered) from) 1 1 one) in
+            omega arith)
             w.spread w.count (odd, omega arith))
             (bounds_to s ok r r' accounts i l b held moves numbers seeds gain (Moving v from to number true raised lowered Nothing booked) (Moving v from to number true raised (lowered + 1) Down booked) at
             (let low = within.low in
@@ -198,9 +201,9 @@ module _ (s : Setup) (ok : IsSetup s) (r r' : Readings) (accounts : List Account
             (spreads_lowered s r r' accounts i (acc (Moving v from to number true raised lowered Nothing booked)) (acc (Moving v from to number true raised (lowered + 1) Nothing booked)) l at b.spreads (net lowered) from (net_at-below s.graph v lowered place) old_block (lower_found place)
             (λ e. refl)
             (λ e.
-              let y = ap (weight_if (net lowered) e) (weight_if-other (r.count (net lowered) from) 1 1 more) in
-              let z = weight_if-zero (net lowered) e in
-              omega arith)
+            let y = ap (weight_if (net lowered) e) (weight_if-other (r.count (net lowered) from) 1 1 more) in
+            let z = weight_if-zero (net lowered) e in
+            omega arith)
             w.spread w.count tt)
             (bounds_to s ok r r' accounts i l b held moves numbers seeds gain (Moving v from to number true raised lowered Nothing booked) (Moving v from to number true raised (lowered + 1) Nothing booked) at
             (let low = within.low in

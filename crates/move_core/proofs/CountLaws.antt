@@ -1,21 +1,20 @@
 -- The clause on counts, after a Raise, after a Lower, and after all other events; no Lower finds 0, and no count
 -- passes the number of pins.
-use Rattle.std.proofs.Common.{◌≡◌, ℕ, zero, suc, ◌+◌, ◌-◌, ◌*◌, ◌<◌, ◌≤◌, ◌≢◌, ◌⊎◌, inl, inr, Bool, true, false, ◌&&◌, List, [], ◌∷◌, ◌++◌, map, length, get_or, take, set, nat_eq, if◌then◌else◌, All, refl, sym, ap, ◌∙◌, subst, arith}
+use Rattle.std.proofs.Common.{◌≡◌, ℕ, ◌+◌, ◌-◌, ◌*◌, ◌<◌, ◌≤◌, ◌≢◌, inl, inr, Bool, true, false, ◌&&◌, List, [], ◌∷◌, map, length, get_or, take, set, nat_eq, if◌then◌else◌, All, refl, sym, ap, ◌∙◌, subst, arith}
 use Rattle.std.proofs.lemmas.List.Elements.{All-head, All-tail}
 use Rattle.std.proofs.lemmas.Bool.{cases_eq}
 use Rattle.hg_defs.specs.declared.moves.Move.{Move}
 use Rattle.hg_defs.specs.Sums.{total}
 use Rattle.hg_defs.specs.Hypergraph.{Hyper, IsHypergraph, vertex_count, net_count, net_of}
 use Rattle.hg_defs.specs.Partition.{block_of}
-use Rattle.hg_defs.proofs.SumLaws.{weight_if, weight_if-same, weight_if-other, weight_if-le, total-same, total-same_each, total-add, total-append, total-le, total-zero, total-take-le, total-ones}
+use Rattle.hg_defs.proofs.SumLaws.{weight_if, weight_if-same, weight_if-other, total-same, total-same_each, total-add, total-append, total-le, total-zero, total-take-le, total-ones}
 use Rattle.move_core.specs.declared.account.Account.{Account}
-use Rattle.move_core.specs.declared.account.Owed.{Owed}
 use Rattle.move_core.specs.declared.account.Stage.{Stage}
 use Rattle.move_core.specs.declared.account.Stage.TheVariants.{Idle, Refused, Granted, Moving}
 use Rattle.move_core.specs.State.{Setup, Readings, times, nets_of, blank}
 use Rattle.move_core.specs.Events.{moved}
 use Rattle.move_core.specs.Balance.{Claims, Moves, Counts, IsMove, IsStageMove, IsInStep, carried, stage_vertices, raises, lowers, stage_raises, stage_lowers}
-use Rattle.move_core.proofs.TimesLaws.{total_changed, total_unchanged, all_changed, pick, pick_two, times_at, total-weight_if, total_strict}
+use Rattle.move_core.proofs.TimesLaws.{total_changed, total_unchanged, all_changed, pick_two, times_at, total-weight_if, total_strict}
 use Rattle.move_core.proofs.NetLaws.{times_pin, pin-below, times-nets_of-le}
 use Rattle.move_core.proofs.HeldLaws.{carried_once}
 
@@ -24,14 +23,14 @@ module _ (s : Setup) (r r' : Readings) (accounts : List Account) (i : ℕ) (a a'
   pub counts_kept : ((u e b : ℕ) → e < net_count s.graph → 0 < times u (net_of s.graph e).pins → raises s.graph u e b a' ≡ raises s.graph u e b a) → ((u e : ℕ) → e < net_count s.graph → 0 < times u (net_of s.graph e).pins → lowers s.graph u e a' ≡ lowers s.graph u e a) → ((e b : ℕ) → e < net_count s.graph → b < s.blocks → r'.count e b ≡ r.count e b) → IsInStep s.graph a'.stage → Counts s r' (set accounts i a')
   counts_kept up low same step = record {
     word = λ e b le lb.
-      let pins = (net_of s.graph e).pins in
-      let f = total-same (λ u. if nat_eq (block_of s.opening u) b then total (lowers s.graph u e) (set accounts i a') else 0) (λ u. if nat_eq (block_of s.opening u) b then total (lowers s.graph u e) accounts else 0) pins
+        let pins = (net_of s.graph e).pins in
+        let f = total-same (λ u. if nat_eq (block_of s.opening u) b then total (lowers s.graph u e) (set accounts i a') else 0) (λ u. if nat_eq (block_of s.opening u) b then total (lowers s.graph u e) accounts else 0) pins
         (λ k d q. ap (λ x. if nat_eq (block_of s.opening (get_or pins k d)) b then x else 0) (total_unchanged accounts i a a' l at (lowers s.graph (get_or pins k d) e) (low (get_or pins k d) e le (times_at pins k d q)))) in
-      let g = total-same (λ u. (if nat_eq (block_of s.opening u) b then 1 else 0) + total (raises s.graph u e b) (set accounts i a')) (λ u. (if nat_eq (block_of s.opening u) b then 1 else 0) + total (raises s.graph u e b) accounts) pins
+        let g = total-same (λ u. (if nat_eq (block_of s.opening u) b then 1 else 0) + total (raises s.graph u e b) (set accounts i a')) (λ u. (if nat_eq (block_of s.opening u) b then 1 else 0) + total (raises s.graph u e b) accounts) pins
         (λ k d q. ap (λ x. (if nat_eq (block_of s.opening (get_or pins k d)) b then 1 else 0) + x) (total_unchanged accounts i a a' l at (raises s.graph (get_or pins k d) e b) (up (get_or pins k d) e b le (times_at pins k d q)))) in
-      let w = c.word e b le lb in
-      let z = same e b le lb in
-      omega arith;
+        let w = c.word e b le lb in
+        let z = same e b le lb in
+        omega arith;
     steps = all_changed accounts i a a' l at (λ x. IsInStep s.graph x.stage) c.steps step;
   }
 
@@ -39,112 +38,117 @@ module _ (s : Setup) (r r' : Readings) (accounts : List Account) (i : ℕ) (a a'
   pub counts_raised : IsHypergraph s.graph → (v e0 to : ℕ) → e0 < net_count s.graph → 0 < times v (net_of s.graph e0).pins → ((u e b : ℕ) → raises s.graph u e b a' ≡ raises s.graph u e b a + weight_if v u (weight_if e0 e (weight_if to b 1))) → ((u e : ℕ) → lowers s.graph u e a' ≡ lowers s.graph u e a) → ((e b : ℕ) → e < net_count s.graph → b < s.blocks → r'.count e b ≡ (if nat_eq e0 e && nat_eq to b then r.count e0 to + 1 else r.count e b)) → IsInStep s.graph a'.stage → Counts s r' (set accounts i a')
   counts_raised ok v e0 to l0 pin up low word step = record {
     word = λ e b le lb.
-      let pins = (net_of s.graph e).pins in
-      let d : ℕ = weight_if e0 e (weight_if to b 1) in
-      let f = total-same_each (λ u. if nat_eq (block_of s.opening u) b then total (lowers s.graph u e) (set accounts i a') else 0) (λ u. if nat_eq (block_of s.opening u) b then total (lowers s.graph u e) accounts else 0)
+        let pins = (net_of s.graph e).pins in
+        let d : ℕ = weight_if e0 e (weight_if to b 1) in
+        let f = total-same_each (λ u. if nat_eq (block_of s.opening u) b then total (lowers s.graph u e) (set accounts i a') else 0) (λ u. if nat_eq (block_of s.opening u) b then total (lowers s.graph u e) accounts else 0)
         (λ u. ap (λ x. if nat_eq (block_of s.opening u) b then x else 0) (total_unchanged accounts i a a' l at (lowers s.graph u e) (low u e))) pins in
-      let g = total-same_each (λ u. (if nat_eq (block_of s.opening u) b then 1 else 0) + total (raises s.graph u e b) (set accounts i a')) (λ u. ((if nat_eq (block_of s.opening u) b then 1 else 0) + total (raises s.graph u e b) accounts) + weight_if v u d)
+        let g = total-same_each (λ u. (if nat_eq (block_of s.opening u) b then 1 else 0) + total (raises s.graph u e b) (set accounts i a')) (λ u. ((if nat_eq (block_of s.opening u) b then 1 else 0) + total (raises s.graph u e b) accounts) + weight_if v u d)
         (λ u. let t = total_changed accounts i a a' l at (raises s.graph u e b) in let q = up u e b in omega arith) pins in
-      let h = total-add (λ u. (if nat_eq (block_of s.opening u) b then 1 else 0) + total (raises s.graph u e b) accounts) (λ u. weight_if v u d) pins in
-      let j = total-weight_if v d pins in
-      let w = c.word e b le lb in
-      let z = word e b le lb in
-      elim (pick_two e0 e to b (r.count e0 to + 1) (r.count e b)) [
-        inl x ↦
-          let one = times_pin s.graph ok v e0 l0 pin in
-          let one' : times v pins ≡ 1 = subst (λ y. times v (net_of s.graph y).pins ≡ 1) x.0 one in
-          let dd : d ≡ 1 = weight_if-same e0 e (weight_if to b 1) x.0 ∙ weight_if-same to b 1 x.1 in
-          let m : times v pins * d ≡ 1 = ap (λ y. y * d) one' ∙ once d ∙ dd in
-          let rr : r.count e0 to ≡ r.count e b = ap (λ y. r.count y to) x.0 ∙ ap (r.count e) x.1 in
-          let x2 = x.2 in
-          omega arith
-      | inr x ↦
-          let dd : d ≡ 0 = nothing e0 e to b x.0 in
-          let m : times v pins * d ≡ 0 = ap (λ y. times v pins * y) dd ∙ none (times v pins) in
-          let x1 = x.1 in
-          omega arith
-      ];
+        let h = total-add (λ u. (if nat_eq (block_of s.opening u) b then 1 else 0) + total (raises s.graph u e b) accounts) (λ u. weight_if v u d) pins in
+        let j = total-weight_if v d pins in
+        let w = c.word e b le lb in
+        let z = word e b le lb in
+        elim (pick_two e0 e to b (r.count e0 to + 1) (r.count e b)) [
+          | inl x ↦
+              let one = times_pin s.graph ok v e0 l0 pin in
+              let one' : times v pins ≡ 1 = subst (λ y. times v (net_of s.graph y).pins ≡ 1) x.0 one in
+              let dd : d ≡ 1 = weight_if-same e0 e (weight_if to b 1) x.0 ∙ weight_if-same to b 1 x.1 in
+              let m : times v pins * d ≡ 1 = ap (λ y. y * d) one' ∙ once d ∙ dd in
+              let rr : r.count e0 to ≡ r.count e b = ap (λ y. r.count y to) x.0 ∙ ap (r.count e) x.1 in
+              let x2 = x.2 in
+              omega arith
+          | inr x ↦
+              let dd : d ≡ 0 = nothing e0 e to b x.0 in
+              let m : times v pins * d ≡ 0 = ap (λ y. times v pins * y) dd ∙ none (times v pins) in
+              let x1 = x.1 in
+              omega arith
+        ];
     steps = all_changed accounts i a a' l at (λ x. IsInStep s.graph x.stage) c.steps step;
   }
     where
       once : (y : ℕ) → 1 * y ≡ y
       once y = omega arith
+
       none : (y : ℕ) → y * 0 ≡ 0
       none y = omega arith
+
       nothing : (p q o t : ℕ) → ((p ≡ q) × (o ≡ t) → ⊥) → weight_if p q (weight_if o t 1) ≡ 0
       nothing p q o t h =
           elim (cases_eq p q) [
-            inl e ↦ weight_if-same p q (weight_if o t 1) e ∙ weight_if-other o t 1 (λ f. h (e, f))
-          | inr n ↦ weight_if-other p q (weight_if o t 1) n
+            | inl e ↦ weight_if-same p q (weight_if o t 1) e ∙ weight_if-other o t 1 (λ f. h (e, f))
+            | inr n ↦ weight_if-other p q (weight_if o t 1) n
           ]
 
   -- Lower
   pub counts_lowered : IsHypergraph s.graph → (v e0 from : ℕ) → e0 < net_count s.graph → 0 < times v (net_of s.graph e0).pins → block_of s.opening v ≡ from → 1 ≤ r.count e0 from → ((u e b : ℕ) → raises s.graph u e b a' ≡ raises s.graph u e b a) → ((u e : ℕ) → lowers s.graph u e a' ≡ lowers s.graph u e a + weight_if v u (weight_if e0 e 1)) → ((e b : ℕ) → e < net_count s.graph → b < s.blocks → r'.count e b ≡ (if nat_eq e0 e && nat_eq from b then r.count e0 from - 1 else r.count e b)) → IsInStep s.graph a'.stage → Counts s r' (set accounts i a')
   counts_lowered ok v e0 from l0 pin origin some up low word step = record {
     word = λ e b le lb.
-      let pins = (net_of s.graph e).pins in
-      let d : ℕ = weight_if e0 e 1 in
-      let g = total-same_each (λ u. (if nat_eq (block_of s.opening u) b then 1 else 0) + total (raises s.graph u e b) (set accounts i a')) (λ u. (if nat_eq (block_of s.opening u) b then 1 else 0) + total (raises s.graph u e b) accounts)
+        let pins = (net_of s.graph e).pins in
+        let d : ℕ = weight_if e0 e 1 in
+        let g = total-same_each (λ u. (if nat_eq (block_of s.opening u) b then 1 else 0) + total (raises s.graph u e b) (set accounts i a')) (λ u. (if nat_eq (block_of s.opening u) b then 1 else 0) + total (raises s.graph u e b) accounts)
         (λ u. ap (λ x. (if nat_eq (block_of s.opening u) b then 1 else 0) + x) (total_unchanged accounts i a a' l at (raises s.graph u e b) (up u e b))) pins in
-      let f = total-same_each (λ u. if nat_eq (block_of s.opening u) b then total (lowers s.graph u e) (set accounts i a') else 0) (λ u. (if nat_eq (block_of s.opening u) b then total (lowers s.graph u e) accounts else 0) + weight_if v u (weight_if from b d))
+        let f = total-same_each (λ u. if nat_eq (block_of s.opening u) b then total (lowers s.graph u e) (set accounts i a') else 0) (λ u. (if nat_eq (block_of s.opening u) b then total (lowers s.graph u e) accounts else 0) + weight_if v u (weight_if from b d))
         (λ u. at_pin u b d (total (lowers s.graph u e) (set accounts i a')) (total (lowers s.graph u e) accounts) (let t = total_changed accounts i a a' l at (lowers s.graph u e) in let q = low u e in omega arith)) pins in
-      let h = total-add (λ u. if nat_eq (block_of s.opening u) b then total (lowers s.graph u e) accounts else 0) (λ u. weight_if v u (weight_if from b d)) pins in
-      let j = total-weight_if v (weight_if from b d) pins in
-      let w = c.word e b le lb in
-      let z = word e b le lb in
-      elim (pick_two e0 e from b (r.count e0 from - 1) (r.count e b)) [
-        inl x ↦
-          let one = times_pin s.graph ok v e0 l0 pin in
-          let one' : times v pins ≡ 1 = subst (λ y. times v (net_of s.graph y).pins ≡ 1) x.0 one in
-          let dd : weight_if from b d ≡ 1 = weight_if-same from b d x.1 ∙ weight_if-same e0 e 1 x.0 in
-          let m : times v pins * weight_if from b d ≡ 1 = ap (λ y. y * weight_if from b d) one' ∙ once (weight_if from b d) ∙ dd in
-          let rr : r.count e0 from ≡ r.count e b = ap (λ y. r.count y from) x.0 ∙ ap (r.count e) x.1 in
-          let x2 = x.2 in
-          omega arith
-      | inr x ↦
-          let dd : weight_if from b d ≡ 0 = nothing e0 e from b x.0 in
-          let m : times v pins * weight_if from b d ≡ 0 = ap (λ y. times v pins * y) dd ∙ none (times v pins) in
-          let x1 = x.1 in
-          omega arith
-      ];
+        let h = total-add (λ u. if nat_eq (block_of s.opening u) b then total (lowers s.graph u e) accounts else 0) (λ u. weight_if v u (weight_if from b d)) pins in
+        let j = total-weight_if v (weight_if from b d) pins in
+        let w = c.word e b le lb in
+        let z = word e b le lb in
+        elim (pick_two e0 e from b (r.count e0 from - 1) (r.count e b)) [
+          | inl x ↦
+              let one = times_pin s.graph ok v e0 l0 pin in
+              let one' : times v pins ≡ 1 = subst (λ y. times v (net_of s.graph y).pins ≡ 1) x.0 one in
+              let dd : weight_if from b d ≡ 1 = weight_if-same from b d x.1 ∙ weight_if-same e0 e 1 x.0 in
+              let m : times v pins * weight_if from b d ≡ 1 = ap (λ y. y * weight_if from b d) one' ∙ once (weight_if from b d) ∙ dd in
+              let rr : r.count e0 from ≡ r.count e b = ap (λ y. r.count y from) x.0 ∙ ap (r.count e) x.1 in
+              let x2 = x.2 in
+              omega arith
+          | inr x ↦
+              let dd : weight_if from b d ≡ 0 = nothing e0 e from b x.0 in
+              let m : times v pins * weight_if from b d ≡ 0 = ap (λ y. times v pins * y) dd ∙ none (times v pins) in
+              let x1 = x.1 in
+              omega arith
+        ];
     steps = all_changed accounts i a a' l at (λ x. IsInStep s.graph x.stage) c.steps step;
   }
     where
       once : (y : ℕ) → 1 * y ≡ y
       once y = omega arith
+
       none : (y : ℕ) → y * 0 ≡ 0
       none y = omega arith
+
       nothing : (p q o t : ℕ) → ((p ≡ q) × (o ≡ t) → ⊥) → weight_if o t (weight_if p q 1) ≡ 0
       nothing p q o t h =
           elim (cases_eq o t) [
-            inl e ↦ weight_if-same o t (weight_if p q 1) e ∙ weight_if-other p q 1 (λ f. h (f, e))
-          | inr n ↦ weight_if-other o t (weight_if p q 1) n
+            | inl e ↦ weight_if-same o t (weight_if p q 1) e ∙ weight_if-other p q 1 (λ f. h (f, e))
+            | inr n ↦ weight_if-other o t (weight_if p q 1) n
           ]
+
       at_pin : (u b d x y : ℕ) → x ≡ y + weight_if v u d → (if nat_eq (block_of s.opening u) b then x else 0) ≡ (if nat_eq (block_of s.opening u) b then y else 0) + weight_if v u (weight_if from b d)
       at_pin u b d x y e =
           elim (cases_eq v u) [
-            inl q ↦
-              let p : block_of s.opening u ≡ from = subst (λ z. block_of s.opening z ≡ from) q origin in
-              let a1 = weight_if-same v u d q in
-              let a2 = weight_if-same v u (weight_if from b d) q in
-              elim (cases_eq from b) [
-                inl n ↦
-                  let b1 = weight_if-same from b d n in
-                  let b2 = weight_if-same (block_of s.opening u) b x (p ∙ n) in
-                  let b3 = weight_if-same (block_of s.opening u) b y (p ∙ n) in
-                  omega arith
-              | inr n ↦
-                  let b1 = weight_if-other from b d n in
-                  let b2 = weight_if-other (block_of s.opening u) b x (λ z. n (sym p ∙ z)) in
-                  let b3 = weight_if-other (block_of s.opening u) b y (λ z. n (sym p ∙ z)) in
-                  omega arith
-              ]
-          | inr q ↦
-              let a1 = weight_if-other v u d q in
-              let a2 = weight_if-other v u (weight_if from b d) q in
-              let same : x ≡ y = omega arith in
-              let b1 = ap (λ z. if nat_eq (block_of s.opening u) b then z else 0) same in
-              omega arith
+            | inl q ↦
+                let p : block_of s.opening u ≡ from = subst (λ z. block_of s.opening z ≡ from) q origin in
+                let a1 = weight_if-same v u d q in
+                let a2 = weight_if-same v u (weight_if from b d) q in
+                elim (cases_eq from b) [
+                  | inl n ↦
+                      let b1 = weight_if-same from b d n in
+                      let b2 = weight_if-same (block_of s.opening u) b x (p ∙ n) in
+                      let b3 = weight_if-same (block_of s.opening u) b y (p ∙ n) in
+                      omega arith
+                  | inr n ↦
+                      let b1 = weight_if-other from b d n in
+                      let b2 = weight_if-other (block_of s.opening u) b x (λ z. n (sym p ∙ z)) in
+                      let b3 = weight_if-other (block_of s.opening u) b y (λ z. n (sym p ∙ z)) in
+                      omega arith
+                ]
+            | inr q ↦
+                let a1 = weight_if-other v u d q in
+                let a2 = weight_if-other v u (weight_if from b d) q in
+                let same : x ≡ y = omega arith in
+                let b1 = ap (λ z. if nat_eq (block_of s.opening u) b then z else 0) same in
+                omega arith
           ]
 
 -- what a pass raised and lowered for a vertex it carries
@@ -214,8 +218,8 @@ module _ (s : Setup) (u e : ℕ) where
       at : (z : Move) → z.to ≢ block_of s.opening z.vertex → weight_if z.vertex u (weight_if z.to (block_of s.opening u) 1) ≡ 0
       at z o =
           elim (cases_eq z.vertex u) [
-            inl q ↦ weight_if-same z.vertex u (weight_if z.to (block_of s.opening u) 1) q ∙ weight_if-other z.to (block_of s.opening u) 1 (λ p. o (p ∙ ap (block_of s.opening) (sym q)))
-          | inr q ↦ weight_if-other z.vertex u (weight_if z.to (block_of s.opening u) 1) q
+            | inl q ↦ weight_if-same z.vertex u (weight_if z.to (block_of s.opening u) 1) q ∙ weight_if-other z.to (block_of s.opening u) 1 (λ p. o (p ∙ ap (block_of s.opening) (sym q)))
+            | inr q ↦ weight_if-other z.vertex u (weight_if z.to (block_of s.opening u) 1) q
           ]
 
   stage_raises-none : (stage : Stage) → IsStageMove s stage → stage_raises s.graph u e (block_of s.opening u) stage ≡ 0
@@ -225,8 +229,8 @@ module _ (s : Setup) (u e : ℕ) where
   stage_raises-none (Moving v from to number named raised lowered owed booked) h =
       let t : ℕ = times e (take raised (nets_of s.graph v)) in
       elim (cases_eq v u) [
-        inl q ↦ weight_if-same v u (weight_if to (block_of s.opening u) t) q ∙ weight_if-other to (block_of s.opening u) t (λ p. h.other (p ∙ ap (block_of s.opening) (sym q)))
-      | inr q ↦ weight_if-other v u (weight_if to (block_of s.opening u) t) q
+        | inl q ↦ weight_if-same v u (weight_if to (block_of s.opening u) t) q ∙ weight_if-other to (block_of s.opening u) t (λ p. h.other (p ∙ ap (block_of s.opening) (sym q)))
+        | inr q ↦ weight_if-other v u (weight_if to (block_of s.opening u) t) q
       ]
 
 module _ (s : Setup) (r : Readings) (accounts : List Account) (ok : IsHypergraph s.graph) (c : Claims s.graph r accounts) (m : Moves s accounts) (w : Counts s r accounts) where
@@ -246,9 +250,9 @@ module _ (s : Setup) (r : Readings) (accounts : List Account) (ok : IsHypergraph
   raises_none u e =
       total-zero (raises s.graph u e (block_of s.opening u)) accounts
       (λ k d q.
-        let x = done_raises-none s u e (get_or accounts k d).moves (m.done k d q) in
-        let y = stage_raises-none s u e (get_or accounts k d).stage (m.stages k d q) in
-        omega arith)
+      let x = done_raises-none s u e (get_or accounts k d).moves (m.done k d q) in
+      let y = stage_raises-none s u e (get_or accounts k d).stage (m.stages k d q) in
+      omega arith)
 
   -- a pin that no pass has lowered yet keeps the count of its block positive: no Lower finds 0
   pub count_positive : (v e b : ℕ) → e < net_count s.graph → b < s.blocks → 0 < times v (net_of s.graph e).pins → block_of s.opening v ≡ b → total (lowers s.graph v e) accounts ≡ 0 → 1 ≤ r.count e b
@@ -258,8 +262,8 @@ module _ (s : Setup) (r : Readings) (accounts : List Account) (ok : IsHypergraph
       let a1 = weight_if-same (block_of s.opening v) b (total (lowers s.graph v e) accounts) origin in
       let a2 = weight_if-same (block_of s.opening v) b 1 origin in
       let t = total_strict f g (net_of s.graph e).pins v
-        (λ u p. let o = lowers_once u e (pin-below s.graph ok u e le p) in by (nat_eq (block_of s.opening u) b) (total (lowers s.graph u e) accounts) (total (raises s.graph u e b) accounts) o)
-        pin (omega arith) in
+      (λ u p. let o = lowers_once u e (pin-below s.graph ok u e le p) in by (nat_eq (block_of s.opening u) b) (total (lowers s.graph u e) accounts) (total (raises s.graph u e b) accounts) o)
+      pin (omega arith) in
       let z = w.word e b le lb in
       omega arith
     where
@@ -282,14 +286,14 @@ module _ (s : Setup) (r : Readings) (accounts : List Account) (ok : IsHypergraph
       at : (u : ℕ) → u < vertex_count s.graph → (if nat_eq (block_of s.opening u) b then 1 else 0) + total (raises s.graph u e b) accounts ≤ (if nat_eq (block_of s.opening u) b then total (lowers s.graph u e) accounts else 0) + 1
       at u l =
           elim (cases_eq (block_of s.opening u) b) [
-            inl q ↦
-              let x = subst (λ y. total (raises s.graph u e y) accounts ≡ 0) q (raises_none u e) in
-              let a1 = weight_if-same (block_of s.opening u) b (total (lowers s.graph u e) accounts) q in
-              let a2 = weight_if-same (block_of s.opening u) b 1 q in
-              omega arith
-          | inr q ↦
-              let x = raises_once u e b l in
-              let a1 = weight_if-other (block_of s.opening u) b (total (lowers s.graph u e) accounts) q in
-              let a2 = weight_if-other (block_of s.opening u) b 1 q in
-              omega arith
+            | inl q ↦
+                let x = subst (λ y. total (raises s.graph u e y) accounts ≡ 0) q (raises_none u e) in
+                let a1 = weight_if-same (block_of s.opening u) b (total (lowers s.graph u e) accounts) q in
+                let a2 = weight_if-same (block_of s.opening u) b 1 q in
+                omega arith
+            | inr q ↦
+                let x = raises_once u e b l in
+                let a1 = weight_if-other (block_of s.opening u) b (total (lowers s.graph u e) accounts) q in
+                let a2 = weight_if-other (block_of s.opening u) b 1 q in
+                omega arith
           ]

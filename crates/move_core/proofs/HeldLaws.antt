@@ -1,12 +1,11 @@
 -- What follows from the claims and the moves: no vertex is held twice, and none is carried twice.
-use Rattle.std.proofs.Common.{◌≡◌, ℕ, zero, suc, ◌+◌, ◌*◌, ◌<◌, ◌≤◌, ◌≢◌, ◌⊎◌, inl, inr, Bool, true, false, List, [], ◌∷◌, ◌++◌, map, length, length-set, get_or, get_or-set_other, set, slice_index, nat_eq, if◌then◌else◌, All, refl, sym, ap, ◌∙◌, subst, arith}
-use Rattle.std.proofs.lemmas.List.Elements.{All-nil, All-head, All-tail, All-cons, All-append}
-use Rattle.std.proofs.lemmas.Bool.{cases_lt, cases_eq}
+use Rattle.std.proofs.Common.{◌≡◌, ℕ, zero, suc, ◌+◌, ◌*◌, ◌<◌, ◌≤◌, ◌≢◌, false, List, [], ◌∷◌, map, length, length-set, get_or, get_or-set_other, set, All, refl, sym, ap, ◌∙◌, subst, arith}
+use Rattle.std.proofs.lemmas.List.Elements.{All-nil, All-head, All-tail, All-cons}
 use Rattle.hg_defs.specs.declared.moves.Move.{Move}
 use Rattle.hg_defs.specs.Sums.{total, sum_below}
-use Rattle.hg_defs.specs.Hypergraph.{Hyper, vertex_count, weight_of}
+use Rattle.hg_defs.specs.Hypergraph.{vertex_count, weight_of}
 use Rattle.hg_defs.specs.Partition.{block_of, load}
-use Rattle.hg_defs.proofs.SumLaws.{total-le, total-set, total_at-le, total-append, total-map, total-same, total-scale_right, sum_below-total, sum_below-le, sum_below-same, sum_below-only, sum_below-add, sum_below-zero, weight_in-by_index, weight_if, weight_if-same, weight_if-other}
+use Rattle.hg_defs.proofs.SumLaws.{total-le, total-set, total_at-le, total-append, total-same, total-scale_right, sum_below-total, sum_below-le, sum_below-same, sum_below-only, sum_below-add, sum_below-zero, weight_in-by_index, weight_if, weight_if-same, weight_if-other}
 use Rattle.move_core.specs.declared.account.Account.{Account}
 use Rattle.move_core.specs.State.{Setup, Readings, times, blank}
 use Rattle.move_core.specs.Events.{moved}

@@ -1,24 +1,19 @@
 -- What stays in balance where an event leaves a clause alone.
-use Rattle.std.proofs.Common.{◌≡◌, ℕ, zero, suc, ◌+◌, ◌<◌, ◌≤◌, ◌⊎◌, inl, inr, Bool, true, false, ◌&&◌, List, [], ◌∷◌, ◌++◌, map, length, get_or, set, nat_eq, nat_lt, if◌then◌else◌, All, refl, sym, ap, ◌∙◌, subst, arith}
+use Rattle.std.proofs.Common.{◌≡◌, ℕ, ◌<◌, ◌≤◌, inl, inr, false, List, [], ◌∷◌, length, get_or, nat_lt, if◌then◌else◌, All, refl, sym, ap, ◌∙◌, subst, arith}
 use Rattle.std.proofs.lemmas.Int.{ints}
-use Rattle.hg_defs.specs.declared.moves.Move.{Move}
-use Rattle.hg_defs.specs.Sums.{total, total_z, sum_below}
-use Rattle.hg_defs.specs.Hypergraph.{Hyper, vertex_count, net_count, net_of}
+use Rattle.hg_defs.specs.Hypergraph.{vertex_count, net_count}
 use Rattle.hg_defs.specs.Pins.{present}
-use Rattle.hg_defs.proofs.SumLaws.{weight_if, weight_if-same, weight_if-other, total-append, sum_below-same}
+use Rattle.hg_defs.proofs.SumLaws.{weight_if, weight_if-same, total-append, sum_below-same}
 use Rattle.move_core.specs.declared.account.Account.{Account}
-use Rattle.move_core.specs.declared.account.Stage.{Stage}
-use Rattle.move_core.specs.declared.account.Stage.TheVariants.{Idle, Refused, Granted, Moving}
 use Rattle.move_core.specs.declared.events.Word.{Word}
 use Rattle.move_core.specs.declared.events.Word.TheVariants as word
 use Rattle.move_core.specs.State.{Setup, Readings, times, blank, read}
 use Rattle.move_core.specs.Events.{moved, price_at}
-use Rattle.move_core.specs.Balance.{Claims, Loads, Names, Counts, Moves, Numbers, Sum, Rest, Spreads, Bounds, InBalance, IsMove, IsStageMove, IsBetween, IsBookedWithin, IsNamed, carried, renamed, named_at, stage_vertices, weights_of}
+use Rattle.move_core.specs.Balance.{InBalance, carried, named_at, stage_vertices}
 use Rattle.move_core.proofs.Words.{Writes}
-use Rattle.move_core.proofs.TimesLaws.{All_at_times, all_changed, all_at, total_at, pick, pick_two}
-use Rattle.move_core.proofs.HeldLaws.{carried_below, moved_below, held_once, carried_once}
-use Rattle.move_core.proofs.NameLaws.{from-map, names-same, stage-same, named_below}
-
+use Rattle.move_core.proofs.TimesLaws.{All_at_times, all_at, total_at, pick, pick_two}
+use Rattle.move_core.proofs.HeldLaws.{carried_below, moved_below, held_once}
+use Rattle.move_core.proofs.NameLaws.{names-same, stage-same, named_below}
 
 -- every word reads as before
 pub record Same (s : Setup) (r r' : Readings) : Type 0 where
@@ -126,17 +121,17 @@ balance_same s r r' accounts e b = record {
   gains = b.gains;
   sum = record {
     gains =
-      let x = b.sum.gains in
-      let y = sum_below-same (λ f. price_at s.graph f (r'.spread f)) (λ f. price_at s.graph f (r.spread f)) (net_count s.graph) (λ f l. ap (price_at s.graph f) (e.spread f l)) in
-      omega (arith, ints);
+        let x = b.sum.gains in
+        let y = sum_below-same (λ f. price_at s.graph f (r'.spread f)) (λ f. price_at s.graph f (r.spread f)) (net_count s.graph) (λ f l. ap (price_at s.graph f) (e.spread f l)) in
+        omega (arith, ints);
   };
   rest = record { made = b.rest.made; cursor = e.cursor ∙ b.rest.cursor; seeds = b.rest.seeds; ended = b.rest.ended };
   spreads = record {
     word = λ f l.
-      let x = e.spread f l in
-      let y = b.spreads.word f l in
-      let z = sum_below-same (λ c. present (r'.count f c)) (λ c. present (r.count f c)) s.blocks (λ c m. ap present (e.count f c l m)) in
-      omega arith;
+        let x = e.spread f l in
+        let y = b.spreads.word f l in
+        let z = sum_below-same (λ c. present (r'.count f c)) (λ c. present (r.count f c)) s.blocks (λ c m. ap present (e.count f c l m)) in
+        omega arith;
     owed = b.spreads.owed;
   };
   bounds = b.bounds;
@@ -156,9 +151,9 @@ module _ (s : Setup) (r : Readings) (accounts : List Account) (i : ℕ) (a : Acc
       let parts = total-append (λ x. weight_if x v 1) (moved a) (stage_vertices a.stage) in
       let inside = all_at accounts i a a l at (λ x. (u : ℕ) → times u (carried x) ≤ times u x.held) b.moves.held v in
       let below : v < vertex_count s.graph =
-        All_at_times (λ x. x < vertex_count s.graph) (carried a) v
-        (all_at accounts i a a l at (λ (x : Account). All (λ y. y < vertex_count s.graph) (carried x)) (carried_below s r accounts b.claims b.moves))
-        (omega arith) in
+      All_at_times (λ x. x < vertex_count s.graph) (carried a) v
+      (all_at accounts i a a l at (λ (x : Account). All (λ y. y < vertex_count s.graph) (carried x)) (carried_below s r accounts b.claims b.moves))
+      (omega arith) in
       let t = total_at accounts i a a l at (λ x. times v x.held) in
       let o = held_once s r accounts b.claims b.moves v below in
       record { vertex = below; held = omega arith; unmoved = omega arith }

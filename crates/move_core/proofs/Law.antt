@@ -1,13 +1,12 @@
 -- Every enabled event keeps the books in balance.
-use Rattle.std.proofs.Common.{◌≡◌, ℕ, zero, suc, ◌+◌, ◌-◌, ◌*◌, ◌^◌, ◌<◌, ◌≤◌, ◌≢◌, ◌⊎◌, inl, inr, Bool, true, false, not, ◌&&◌, List, [], ◌∷◌, ◌++◌, map, length, get_or, set, slice_index, slice_set, nat_eq, nat_lt, nat_le, if◌then◌else◌, All, ℤ, pos, ◌+ℤ◌, refl, sym, ap, ◌∙◌, subst, arith, nat_cmp}
-use Rattle.std.proofs.lemmas.Bool.{true≢false, eqb-true, eqb-false, ltb-true, leb-true, not-true, and_parts, cases_lt, lt-ltb}
+use Rattle.std.proofs.Common.{◌≡◌, ℕ, ◌+◌, ◌-◌, ◌^◌, ◌<◌, ◌≢◌, inl, inr, Bool, true, false, not, ◌&&◌, List, [], ◌∷◌, ◌++◌, map, length, get_or, slice_index, slice_set, nat_eq, nat_lt, nat_le, if◌then◌else◌, ℤ, refl, sym, ap, ◌∙◌, subst, arith, nat_cmp}
+use Rattle.std.proofs.lemmas.Bool.{true≢false, eqb-true, eqb-false, ltb-true, leb-true, not-true, and_parts, cases_lt}
 use Rattle.std.proofs.lemmas.List.{get_or_past, set-get_or}
 use Rattle.std.specs.BTreeSet.{insert_key}
 use Rattle.hg_defs.specs.declared.moves.Move.{Move}
-use Rattle.hg_defs.specs.Hypergraph.{Hyper, vertex_count, net_count, net_of, weight_of, is_free}
+use Rattle.hg_defs.specs.Hypergraph.{vertex_count, net_count, weight_of, is_free}
 use Rattle.hg_defs.specs.Partition.{block_of}
 use Rattle.move_core.specs.declared.account.Account.{Account}
-use Rattle.move_core.specs.declared.account.Owed.{Owed}
 use Rattle.move_core.specs.declared.account.Owed.TheVariants.{Nothing, Up, Down}
 use Rattle.move_core.specs.declared.account.Stage.{Stage}
 use Rattle.move_core.specs.declared.account.Stage.TheVariants.{Idle, Refused, Granted, Moving}
@@ -16,9 +15,8 @@ use Rattle.move_core.specs.declared.events.Event.TheVariants.{Claim, Unclaim, Re
 use Rattle.move_core.specs.declared.events.Word.{Word}
 use Rattle.move_core.specs.declared.events.Word.TheVariants as word
 use Rattle.move_core.specs.State.{Setup, State, Readings, read, readings, written, account, blank, times, nets_of}
-use Rattle.move_core.specs.Events.{pass_of, word_of, write_of, account_after, accounts_after, may_step, others_agree, is_enabled, found_of, after, moved, is_idle, is_word, first_word, joined_with, widen_gain, narrow_gain}
-use Rattle.move_core.specs.Balance.{InBalance, IsSetup, IsShaped, IsBooks, IsMove, IsStageMove, IsInStep, IsOwing, carried}
-use Rattle.move_core.proofs.Words.{Writes}
+use Rattle.move_core.specs.Events.{pass_of, word_of, write_of, account_after, may_step, others_agree, is_enabled, after, is_idle, is_word, first_word, joined_with, widen_gain, narrow_gain}
+use Rattle.move_core.specs.Balance.{InBalance, IsSetup, IsBooks, IsStageMove, IsInStep, IsOwing}
 use Rattle.move_core.proofs.WriteLaws.{IsWord, writes_at, shaped_written, setup_written}
 use Rattle.move_core.proofs.TimesLaws.{all_at}
 use Rattle.move_core.proofs.NetLaws.{net_at-below}
@@ -41,8 +39,8 @@ no h = absurd (true≢false (sym h))
 pub live_below : (s : State) (i : ℕ) → (account s i).live ≡ true → i < length s.accounts
 live_below s i on =
     elim (cases_lt i (length s.accounts)) [
-      inl l ↦ l
-    | inr m ↦ absurd (true≢false (sym on ∙ ap (λ (a : Account). a.live) (get_or_past s.accounts i (blank false) m)))
+      | inl l ↦ l
+      | inr m ↦ absurd (true≢false (sym on ∙ ap (λ (a : Account). a.live) (get_or_past s.accounts i (blank false) m)))
     ]
 
 module _ (s : State) (k : IsBooks s) where
@@ -81,8 +79,10 @@ module _ (s : State) (k : IsBooks s) where
       where
         vertex : v < vertex_count g.graph
         vertex = ltb-true v (vertex_count g.graph) (and_parts (nat_lt v (vertex_count g.graph)) (is_free g.graph v) h).0
+
         free : is_free g.graph v ≡ true
         free = (and_parts (nat_lt v (vertex_count g.graph)) (is_free g.graph v) h).1
+
         go : (z : Bool) → nat_eq (r.claim v) 0 ≡ z → InBalance g (readings (written s (word.Claim v) 1)) (slice_set s.accounts i (if z then record (acc Idle) { held = insert_key nat_cmp held v } else acc Idle))
         go true q = claim_taken g k.setup r (readings (written s (word.Claim v) 1)) s.accounts i l k.balance held moves numbers seeds gain at v vertex free (eqb-true (r.claim v) 0 q) (writes_at s (word.Claim v) 1 k.shape vertex)
         go false q = claim_left g k.setup r (readings (written s (word.Claim v) 1)) s.accounts i l k.balance held moves numbers seeds gain at v vertex (eqb-false (r.claim v) 0 q) (writes_at s (word.Claim v) 1 k.shape vertex)
@@ -105,16 +105,22 @@ module _ (s : State) (k : IsBooks s) where
       where
         parts : ((nat_lt v (vertex_count g.graph) ≡ true) × ((nat_lt 0 (times v held) && nat_eq (times v done) 0) && (nat_lt to g.blocks && not (nat_eq to (block_of g.opening v))) ≡ true))
         parts = and_parts (nat_lt v (vertex_count g.graph)) ((nat_lt 0 (times v held) && nat_eq (times v done) 0) && (nat_lt to g.blocks && not (nat_eq to (block_of g.opening v)))) h
+
         halves : ((nat_lt 0 (times v held) && nat_eq (times v done) 0) ≡ true) × ((nat_lt to g.blocks && not (nat_eq to (block_of g.opening v))) ≡ true)
         halves = and_parts (nat_lt 0 (times v held) && nat_eq (times v done) 0) (nat_lt to g.blocks && not (nat_eq to (block_of g.opening v))) parts.1
+
         has : 0 < times v held
         has = ltb-true 0 (times v held) (and_parts (nat_lt 0 (times v held)) (nat_eq (times v done) 0) halves.0).0
+
         unmoved : times v done ≡ 0
         unmoved = eqb-true (times v done) 0 (and_parts (nat_lt 0 (times v held)) (nat_eq (times v done) 0) halves.0).1
+
         block : to < g.blocks
         block = ltb-true to g.blocks (and_parts (nat_lt to g.blocks) (not (nat_eq to (block_of g.opening v))) halves.1).0
+
         other : to ≢ block_of g.opening v
         other = eqb-false to (block_of g.opening v) (not-true (nat_eq to (block_of g.opening v)) (and_parts (nat_lt to g.blocks) (not (nat_eq to (block_of g.opening v))) halves.1).1)
+
         go : (z : Bool) → nat_le (r.load to + weight_of g.graph v) g.limit ≡ z → InBalance g (readings (written s (word.Load to) (r.load to + weight_of g.graph v))) (slice_set s.accounts i (record (acc Idle) { stage = if z then Granted v (block_of g.opening v) to (r.load to) else Refused v to (r.load to) }))
         go true q = reserve_granted g k.setup r (readings (written s (word.Load to) (r.load to + weight_of g.graph v))) s.accounts i l k.balance held moves numbers seeds gain at v to has unmoved block other (leb-true (r.load to + weight_of g.graph v) g.limit q) (writes_at s (word.Load to) (r.load to + weight_of g.graph v) k.shape block)
         go false q = reserve_refused g k.setup r (readings (written s (word.Load to) (r.load to + weight_of g.graph v))) s.accounts i l k.balance held moves numbers seeds gain at v to has unmoved block other (writes_at s (word.Load to) (r.load to + weight_of g.graph v) k.shape block)

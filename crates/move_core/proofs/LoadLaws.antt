@@ -1,16 +1,14 @@
 -- The clause on loads, after each event that changes loads, and after all others.
-use Rattle.std.proofs.Common.{◌≡◌, ℕ, zero, suc, ◌+◌, ◌-◌, ◌<◌, ◌≤◌, ◌≢◌, ◌⊎◌, inl, inr, Bool, true, false, List, [], ◌∷◌, ◌++◌, map, length, get_or, set, nat_eq, if◌then◌else◌, All, refl, sym, ap, ◌∙◌, subst, arith}
-use Rattle.std.proofs.lemmas.Bool.{eqb-true, eqb-false}
+use Rattle.std.proofs.Common.{◌≡◌, ℕ, zero, suc, ◌+◌, ◌-◌, ◌<◌, ◌≤◌, ◌⊎◌, inl, inr, false, List, [], ◌∷◌, ◌++◌, length, get_or, set, nat_eq, if◌then◌else◌, All, ap, ◌∙◌, arith}
 use Rattle.hg_defs.specs.declared.moves.Move.{Move}
 use Rattle.hg_defs.specs.Sums.{total}
-use Rattle.hg_defs.specs.Hypergraph.{Hyper, vertex_count, weight_of}
-use Rattle.hg_defs.specs.Partition.{block_of, load}
+use Rattle.hg_defs.specs.Hypergraph.{vertex_count, weight_of}
+use Rattle.hg_defs.specs.Partition.{block_of}
 use Rattle.hg_defs.proofs.SumLaws.{weight_if, weight_if-same, weight_if-other, total-map, total-same, total-append, total-le, total_push}
 use Rattle.move_core.specs.declared.account.Account.{Account}
-use Rattle.move_core.specs.declared.account.Stage.{Stage}
-use Rattle.move_core.specs.State.{Setup, Readings, times, blank}
+use Rattle.move_core.specs.State.{Setup, Readings, blank}
 use Rattle.move_core.specs.Events.{moved}
-use Rattle.move_core.specs.Balance.{Claims, Moves, Loads, IsMove, carried, stage_vertices, reserved_weight, refused_weight, arrived, departed}
+use Rattle.move_core.specs.Balance.{Claims, Moves, Loads, carried, stage_vertices, reserved_weight, refused_weight, arrived, departed}
 use Rattle.move_core.proofs.TimesLaws.{total_changed, total_at, pick}
 use Rattle.move_core.proofs.HeldLaws.{carried_weight}
 
@@ -94,18 +92,18 @@ module _ (s : Setup) (r r' : Readings) (accounts : List Account) (i : ℕ) (a a'
   loads_added to x e p f q =
       loads_changed
       (λ b k.
-        let y = p b k in
-        let d = ap (departed s.graph b) e in
-        let g = ap (arrived s.graph b) e in
-        let z = f b k in
-        elim (pick to b (r.load to + x) (r.load b)) [
-          inl n ↦ let j = weight_if-same to b x n.0 in let o = ap r.load n.0 in let y1 = n.1 in omega arith
+      let y = p b k in
+      let d = ap (departed s.graph b) e in
+      let g = ap (arrived s.graph b) e in
+      let z = f b k in
+      elim (pick to b (r.load to + x) (r.load b)) [
+        | inl n ↦ let j = weight_if-same to b x n.0 in let o = ap r.load n.0 in let y1 = n.1 in omega arith
         | inr n ↦ let j = weight_if-other to b x n.0 in let y1 = n.1 in omega arith
-        ])
+      ])
       (λ b k.
-        let z = f b k in
-        elim (pick to b (r.load to + x) (r.load b)) [
-          inl n ↦
+      let z = f b k in
+      elim (pick to b (r.load to + x) (r.load b)) [
+        | inl n ↦
             let j = weight_if-same to b x n.0 in
             let o = ap r.load n.0 in
             let y1 = n.1 in
@@ -114,28 +112,28 @@ module _ (s : Setup) (r r' : Readings) (accounts : List Account) (i : ℕ) (a a'
             let j = weight_if-other to b x n.0 in
             let y1 = n.1 in
             elim q [ inl u ↦ let u1 = u.1 b k in inl (omega arith) | inr u ↦ let u1 = u b k in inl (omega arith) ]
-        ])
+      ])
 
   -- TakeBack: a weight that stood at a stage leaves its block
   pub loads_taken : (to x : ℕ) → x ≤ r.load to → a'.moves ≡ a.moves → ((b : ℕ) → b < s.blocks → reserved_weight s.graph b a.stage ≡ reserved_weight s.graph b a'.stage + weight_if to b x) → ((b : ℕ) → b < s.blocks → r'.load b ≡ (if nat_eq to b then r.load to - x else r.load b)) → ((b : ℕ) → b < s.blocks → refused_weight s.graph b a.stage ≤ refused_weight s.graph b a'.stage + weight_if to b x) → Loads s r' (set accounts i a')
   loads_taken to x w0 e p f q =
       loads_changed
       (λ b k.
-        let y = p b k in
-        let d = ap (departed s.graph b) e in
-        let g = ap (arrived s.graph b) e in
-        let z = f b k in
-        elim (pick to b (r.load to - x) (r.load b)) [
-          inl n ↦ let j = weight_if-same to b x n.0 in let o = ap r.load n.0 in let y1 = n.1 in omega arith
+      let y = p b k in
+      let d = ap (departed s.graph b) e in
+      let g = ap (arrived s.graph b) e in
+      let z = f b k in
+      elim (pick to b (r.load to - x) (r.load b)) [
+        | inl n ↦ let j = weight_if-same to b x n.0 in let o = ap r.load n.0 in let y1 = n.1 in omega arith
         | inr n ↦ let j = weight_if-other to b x n.0 in let y1 = n.1 in omega arith
-        ])
+      ])
       (λ b k.
-        let z = f b k in
-        let u = q b k in
-        elim (pick to b (r.load to - x) (r.load b)) [
-          inl n ↦ let j = weight_if-same to b x n.0 in let o = ap r.load n.0 in let y1 = n.1 in inl (omega arith)
+      let z = f b k in
+      let u = q b k in
+      elim (pick to b (r.load to - x) (r.load b)) [
+        | inl n ↦ let j = weight_if-same to b x n.0 in let o = ap r.load n.0 in let y1 = n.1 in inl (omega arith)
         | inr n ↦ let j = weight_if-other to b x n.0 in let y1 = n.1 in inl (omega arith)
-        ])
+      ])
 
   -- GiveBack: the move is done, and its weight leaves the old block
   pub loads_given : (z : Move) → weight_of s.graph z.vertex ≤ r.load z.from → a'.moves ≡ a.moves ++ z ∷ [] → ((b : ℕ) → b < s.blocks → reserved_weight s.graph b a.stage ≡ weight_if z.to b (weight_of s.graph z.vertex)) → ((b : ℕ) → b < s.blocks → reserved_weight s.graph b a'.stage ≡ 0) → ((b : ℕ) → b < s.blocks → refused_weight s.graph b a'.stage ≡ refused_weight s.graph b a.stage) → ((b : ℕ) → b < s.blocks → r'.load b ≡ (if nat_eq z.from b then r.load z.from - weight_of s.graph z.vertex else r.load b)) → Loads s r' (set accounts i a')
@@ -143,19 +141,19 @@ module _ (s : Setup) (r r' : Readings) (accounts : List Account) (i : ℕ) (a a'
       let x = weight_of s.graph z.vertex in
       loads_changed
       (λ b k.
-        let y = p b k in
-        let y' = p' b k in
-        let d = ap (departed s.graph b) e ∙ total_push (λ (m : Move). if nat_eq m.from b then weight_of s.graph m.vertex else 0) a.moves z in
-        let g = ap (arrived s.graph b) e ∙ total_push (λ (m : Move). if nat_eq m.to b then weight_of s.graph m.vertex else 0) a.moves z in
-        let v = f b k in
-        elim (pick z.from b (r.load z.from - x) (r.load b)) [
-          inl n ↦ let j = weight_if-same z.from b x n.0 in let o = ap r.load n.0 in let y1 = n.1 in omega arith
+      let y = p b k in
+      let y' = p' b k in
+      let d = ap (departed s.graph b) e ∙ total_push (λ (m : Move). if nat_eq m.from b then weight_of s.graph m.vertex else 0) a.moves z in
+      let g = ap (arrived s.graph b) e ∙ total_push (λ (m : Move). if nat_eq m.to b then weight_of s.graph m.vertex else 0) a.moves z in
+      let v = f b k in
+      elim (pick z.from b (r.load z.from - x) (r.load b)) [
+        | inl n ↦ let j = weight_if-same z.from b x n.0 in let o = ap r.load n.0 in let y1 = n.1 in omega arith
         | inr n ↦ let j = weight_if-other z.from b x n.0 in let y1 = n.1 in omega arith
-        ])
+      ])
       (λ b k.
-        let v = f b k in
-        let u = q b k in
-        elim (pick z.from b (r.load z.from - x) (r.load b)) [
-          inl n ↦ let o = ap r.load n.0 in let y1 = n.1 in inl (omega arith)
+      let v = f b k in
+      let u = q b k in
+      elim (pick z.from b (r.load z.from - x) (r.load b)) [
+        | inl n ↦ let o = ap r.load n.0 in let y1 = n.1 in inl (omega arith)
         | inr n ↦ let y1 = n.1 in inl (omega arith)
-        ])
+      ])

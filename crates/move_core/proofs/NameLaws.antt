@@ -1,14 +1,10 @@
 -- The clause on names, after a Name, and after all other events.
-use Rattle.std.proofs.Common.{◌≡◌, ℕ, zero, suc, ◌+◌, ◌<◌, ◌≤◌, ◌≢◌, ◌⊎◌, inl, inr, Bool, true, false, List, [], ◌∷◌, ◌++◌, map, length, length-set, get_or, get_or-set_same, get_or-set_other, set, nat_eq, if◌then◌else◌, All, refl, sym, ap, ◌∙◌, subst, arith}
+use Rattle.std.proofs.Common.{◌≡◌, ℕ, ◌+◌, ◌<◌, ◌≤◌, ◌≢◌, inl, inr, Bool, true, false, List, [], ◌∷◌, map, length, length-set, get_or, get_or-set_same, set, nat_eq, if◌then◌else◌, All, refl, sym, ap, ◌∙◌, subst, arith}
 use Rattle.std.proofs.lemmas.List.Elements.{All-nil, All-head, All-tail, All-cons}
-use Rattle.std.proofs.lemmas.Bool.{cases_eq}
 use Rattle.hg_defs.specs.declared.moves.Move.{Move}
-use Rattle.hg_defs.specs.Sums.{total}
-use Rattle.hg_defs.specs.Hypergraph.{Hyper, vertex_count}
-use Rattle.hg_defs.specs.Partition.{block_of}
+use Rattle.hg_defs.specs.Hypergraph.{vertex_count}
 use Rattle.hg_defs.proofs.SumLaws.{weight_if, weight_if-same, weight_if-other, total-append}
 use Rattle.move_core.specs.declared.account.Account.{Account}
-use Rattle.move_core.specs.declared.account.Owed.{Owed}
 use Rattle.move_core.specs.declared.account.Stage.{Stage}
 use Rattle.move_core.specs.declared.account.Stage.TheVariants.{Idle, Refused, Granted, Moving}
 use Rattle.move_core.specs.State.{Setup, Readings, times, blank}
@@ -64,20 +60,22 @@ module _ (s : Setup) (r r' : Readings) (accounts : List Account) (c : Claims s.g
     pub names_kept : ((v : ℕ) → v < vertex_count s.graph → r'.name v ≡ r.name v) → ((v : ℕ) → times v (renamed a') ≡ times v (renamed a)) → (All (λ z. r.name z.vertex ≡ z.to) a.moves → IsNamed r.name a.stage → All (λ z. r.name z.vertex ≡ z.to) a'.moves × IsNamed r.name a'.stage) → Names s r' (set accounts i a')
     names_kept same e own = record {
       done =
-        all_changed accounts i a a' l at (λ (x : Account). All (λ z. r'.name z.vertex ≡ z.to) x.moves)
-        (λ k d q. names-same r.name r'.name (get_or accounts k d).moves (λ j y p. same (get_or (get_or accounts k d).moves j y).vertex (moved_below s r accounts c m k d q j y p)) (n.done k d q))
-        (names-same r.name r'.name a'.moves (from-map (λ u. r'.name u ≡ r.name u) a'.moves (All_from_times (λ u. r'.name u ≡ r.name u) (moved a') (λ u p. same u (below u (let f = parts u in omega arith))))) ours.0);
+          all_changed accounts i a a' l at (λ (x : Account). All (λ z. r'.name z.vertex ≡ z.to) x.moves)
+          (λ k d q. names-same r.name r'.name (get_or accounts k d).moves (λ j y p. same (get_or (get_or accounts k d).moves j y).vertex (moved_below s r accounts c m k d q j y p)) (n.done k d q))
+          (names-same r.name r'.name a'.moves (from-map (λ u. r'.name u ≡ r.name u) a'.moves (All_from_times (λ u. r'.name u ≡ r.name u) (moved a') (λ u p. same u (below u (let f = parts u in omega arith))))) ours.0);
       stages =
-        all_changed accounts i a a' l at (λ (x : Account). IsNamed r'.name x.stage)
-        (λ k d q. stage-same r.name r'.name (get_or accounts k d).stage (λ j y p. same (get_or (named_at (get_or accounts k d).stage) j y) (named_below k d q j y p)) (n.stages k d q))
-        (stage-same r.name r'.name a'.stage (All_from_times (λ u. r'.name u ≡ r.name u) (named_at a'.stage) (λ u p. same u (below u (let f = parts u in omega arith)))) ours.1);
+          all_changed accounts i a a' l at (λ (x : Account). IsNamed r'.name x.stage)
+          (λ k d q. stage-same r.name r'.name (get_or accounts k d).stage (λ j y p. same (get_or (named_at (get_or accounts k d).stage) j y) (named_below k d q j y p)) (n.stages k d q))
+          (stage-same r.name r'.name a'.stage (All_from_times (λ u. r'.name u ≡ r.name u) (named_at a'.stage) (λ u p. same u (below u (let f = parts u in omega arith)))) ours.1);
       others = λ v q z. same v q ∙ n.others v q (sym (total_unchanged accounts i a a' l at (λ x. times v (renamed x)) (e v)) ∙ z);
     }
       where
         ours : All (λ z. r.name z.vertex ≡ z.to) a'.moves × IsNamed r.name a'.stage
         ours = own (all_at accounts i a a' l at (λ (x : Account). All (λ z. r.name z.vertex ≡ z.to) x.moves) n.done) (all_at accounts i a a' l at (λ (x : Account). IsNamed r.name x.stage) n.stages)
+
         parts : (u : ℕ) → times u (renamed a') ≡ times u (moved a') + times u (named_at a'.stage)
         parts u = total-append (λ x. weight_if x u 1) (moved a') (named_at a'.stage)
+
         below : (u : ℕ) → 0 < times u (renamed a') → u < vertex_count s.graph
         below u p =
             All_at_times (λ x. x < vertex_count s.graph) (carried a) u (all_at accounts i a a' l at (λ (x : Account). All (λ y. y < vertex_count s.graph) (carried x)) (carried_below s r accounts c m))
@@ -91,30 +89,32 @@ module _ (s : Setup) (r r' : Readings) (accounts : List Account) (c : Claims s.g
     pub names_written : (v to : ℕ) → v < vertex_count s.graph → ((u : ℕ) → u < vertex_count s.graph → r'.name u ≡ (if nat_eq v u then to else r.name u)) → 0 < times v a.held → times v (moved a) ≡ 0 → a'.moves ≡ a.moves → ((u : ℕ) → times u (named_at a'.stage) ≡ times u (named_at a.stage) + weight_if v u 1) → (r'.name v ≡ to → IsNamed r'.name a'.stage) → Names s r' (set accounts i a')
     names_written v to lv w p z e q t = record {
       done =
-        all_changed_others accounts i a a' l at (λ (x : Account). All (λ y. r'.name y.vertex ≡ y.to) x.moves)
-        (λ k d o j. names-same r.name r'.name (get_or accounts k d).moves (still (get_or accounts k d).moves (moved_below s r accounts c m k d o) (others_none k d o j).0) (n.done k d o))
-        (subst (All (λ y. r'.name y.vertex ≡ y.to)) (sym e) (names-same r.name r'.name a.moves (still a.moves (all_at accounts i a a' l at (λ (x : Account). All (λ y. y.vertex < vertex_count s.graph) x.moves) (moved_below s r accounts c m)) z) (all_at accounts i a a' l at (λ (x : Account). All (λ y. r.name y.vertex ≡ y.to) x.moves) n.done)));
+          all_changed_others accounts i a a' l at (λ (x : Account). All (λ y. r'.name y.vertex ≡ y.to) x.moves)
+          (λ k d o j. names-same r.name r'.name (get_or accounts k d).moves (still (get_or accounts k d).moves (moved_below s r accounts c m k d o) (others_none k d o j).0) (n.done k d o))
+          (subst (All (λ y. r'.name y.vertex ≡ y.to)) (sym e) (names-same r.name r'.name a.moves (still a.moves (all_at accounts i a a' l at (λ (x : Account). All (λ y. y.vertex < vertex_count s.graph) x.moves) (moved_below s r accounts c m)) z) (all_at accounts i a a' l at (λ (x : Account). All (λ y. r.name y.vertex ≡ y.to) x.moves) n.done)));
       stages =
-        all_changed_others accounts i a a' l at (λ (x : Account). IsNamed r'.name x.stage)
-        (λ k d o j. stage-same r.name r'.name (get_or accounts k d).stage (λ g y f. other_name (get_or (named_at (get_or accounts k d).stage) g y) (named_below k d o g y f) (apart v (named_at (get_or accounts k d).stage) (others_none k d o j).1 g y f)) (n.stages k d o))
-        (t (elim (pick v v to (r.name v)) [ inl x ↦ w v lv ∙ x.1 | inr x ↦ absurd (x.0 refl) ]));
+          all_changed_others accounts i a a' l at (λ (x : Account). IsNamed r'.name x.stage)
+          (λ k d o j. stage-same r.name r'.name (get_or accounts k d).stage (λ g y f. other_name (get_or (named_at (get_or accounts k d).stage) g y) (named_below k d o g y f) (apart v (named_at (get_or accounts k d).stage) (others_none k d o j).1 g y f)) (n.stages k d o))
+          (t (elim (pick v v to (r.name v)) [ inl x ↦ w v lv ∙ x.1 | inr x ↦ absurd (x.0 refl) ]));
       others = λ u o y. elim (pick v u to (r.name u)) [
-        inl x ↦
-          let f = total_at (set accounts i a') i a' a' (omega (arith, length-set accounts i a')) (get_or-set_same accounts i a' (blank false) l) (λ b. times u (renamed b)) in
-          let g = total-append (λ b. weight_if b u 1) (moved a') (named_at a'.stage) in
-          let h = q u in
-          let j = weight_if-same v u 1 x.0 in
-          absurd (omega arith)
-      | inr x ↦
-          let f = total_unchanged accounts i a a' l at (λ b. times u (renamed b)) (same_times u x.0) in
-          w u o ∙ x.1 ∙ n.others u o (sym f ∙ y)
+        | inl x ↦
+            let f = total_at (set accounts i a') i a' a' (omega (arith, length-set accounts i a')) (get_or-set_same accounts i a' (blank false) l) (λ b. times u (renamed b)) in
+            let g = total-append (λ b. weight_if b u 1) (moved a') (named_at a'.stage) in
+            let h = q u in
+            let j = weight_if-same v u 1 x.0 in
+            absurd (omega arith)
+        | inr x ↦
+            let f = total_unchanged accounts i a a' l at (λ b. times u (renamed b)) (same_times u x.0) in
+            w u o ∙ x.1 ∙ n.others u o (sym f ∙ y)
       ];
     }
       where
         other_name : (u : ℕ) → u < vertex_count s.graph → v ≢ u → r'.name u ≡ r.name u
         other_name u o x = elim (pick v u to (r.name u)) [ inl y ↦ absurd (x y.0) | inr y ↦ w u o ∙ y.1 ]
+
         still : (ms : List Move) → All (λ y. y.vertex < vertex_count s.graph) ms → times v (map (λ y. y.vertex) ms) ≡ 0 → All (λ y. r'.name y.vertex ≡ r.name y.vertex) ms
         still ms b x k d o = other_name (get_or ms k d).vertex (b k d o) (from-map (λ u. v ≢ u) ms (apart v (map (λ y. y.vertex) ms) x) k d o)
+
         others_none : (k : ℕ) (d : Account) → k < length accounts → (k ≡ i → ⊥) → (times v (moved (get_or accounts k d)) ≡ 0) × (times v (named_at (get_or accounts k d).stage) ≡ 0)
         others_none k d o j =
             let b = get_or accounts k d in
@@ -122,6 +122,7 @@ module _ (s : Setup) (r r' : Readings) (accounts : List Account) (c : Claims s.g
             let f = total-append (λ y. weight_if y v 1) (moved b) (stage_vertices b.stage) in
             let g = times-named_at v b.stage in
             (omega arith, omega arith)
+
         same_times : (u : ℕ) → (v ≡ u → ⊥) → times u (renamed a') ≡ times u (renamed a)
         same_times u x =
             let g = total-append (λ b. weight_if b u 1) (moved a') (named_at a'.stage) in

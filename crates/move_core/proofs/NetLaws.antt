@@ -1,12 +1,10 @@
 -- The nets of a vertex: each of its nets once, in rising number.
-use Rattle.std.proofs.Common.{◌≡◌, ℕ, zero, suc, ◌+◌, ◌<◌, ◌≤◌, ◌≢◌, ◌⊎◌, inl, inr, Bool, true, false, cond, if◌then◌else◌, nat_eq, nat_lt, List, [], ◌∷◌, ◌++◌, map, filter, length, get_or, slice_index, take, All, refl, sym, ap, ◌∙◌, subst, arith}
+use Rattle.std.proofs.Common.{◌≡◌, ℕ, ◌+◌, ◌<◌, ◌≤◌, inl, inr, Bool, true, false, if◌then◌else◌, nat_lt, [], length, slice_index, take, refl, sym, ap, ◌∙◌, subst, arith}
 use Rattle.std.specs.List.{range_with_len}
-use Rattle.std.proofs.lemmas.List.Elements.{All-nil, All-head, All-tail, All-cons}
-use Rattle.std.proofs.lemmas.Bool.{eqb-true, eqb-false, eq-eqb, ne_eqb, ltb-true, lt-ltb, le-ltb, cases_lt, cases_eq}
-use Rattle.hg_defs.specs.Sums.{total, sum_below}
-use Rattle.hg_defs.specs.Hypergraph.{Net, Hyper, IsNet, IsHypergraph, vertex_count, net_count, net_of}
-use Rattle.hg_defs.proofs.SumLaws.{total-filter, total-range, sum_below-only, sum_below-zero, weight_if, weight_if-same, weight_if-other, total-take_more, total-take-le, total_more-le, total-zero}
-use Rattle.hg_defs.proofs.DistinctLaws.{times_of, times_of-once, Contains-from_times}
+use Rattle.std.proofs.lemmas.Bool.{ltb-true, lt-ltb, cases_lt}
+use Rattle.hg_defs.specs.Hypergraph.{Hyper, IsHypergraph, vertex_count, net_count, net_of}
+use Rattle.hg_defs.proofs.SumLaws.{total-filter, total-range, sum_below-only, sum_below-zero, weight_if, weight_if-same, weight_if-other, total-take_more, total_more-le}
+use Rattle.hg_defs.proofs.DistinctLaws.{times_of-once, Contains-from_times}
 use Rattle.move_core.specs.State.{times, nets_of}
 use Rattle.move_core.proofs.TimesLaws.{All_at_times}
 

@@ -1,7 +1,6 @@
 -- The clause on numbers, after a Draw and after all other events.
-use Rattle.std.proofs.Common.{◌≡◌, ℕ, zero, suc, ◌+◌, ◌<◌, ◌≤◌, ◌⊎◌, inl, inr, Bool, true, false, List, [], ◌∷◌, length, get_or, set, nat_eq, nat_lt, if◌then◌else◌, All, refl, sym, ap, ◌∙◌, subst, arith}
+use Rattle.std.proofs.Common.{◌≡◌, ℕ, ◌+◌, ◌<◌, ◌≤◌, inl, inr, false, List, length, get_or, set, nat_lt, if◌then◌else◌, sym, ap, ◌∙◌, arith}
 use Rattle.std.proofs.lemmas.Bool.{cases_eq, cases_lt, lt-ltb, le-ltb}
-use Rattle.hg_defs.specs.Sums.{total}
 use Rattle.hg_defs.proofs.SumLaws.{weight_if, weight_if-same, weight_if-other}
 use Rattle.move_core.specs.declared.account.Account.{Account}
 use Rattle.move_core.specs.State.{Readings, times, blank}
@@ -22,21 +21,21 @@ below-no i n l = ap (λ b. if b then 1 else 0) (le-ltb i n l)
 below-more : (i n : ℕ) → below i (n + 1) ≡ below i n + weight_if n i 1
 below-more i n =
     elim (cases_eq n i) [
-      inl e ↦
-        let a = below-no i n (omega arith) in
-        let b = below-yes i (n + 1) (omega arith) in
-        let c = weight_if-same n i 1 e in
-        omega arith
-    | inr q ↦
-        let c = weight_if-other n i 1 q in
-        elim (cases_lt i n) [
-          inl l ↦ let a = below-yes i n l in let b = below-yes i (n + 1) (omega arith) in omega arith
-        | inr m ↦
-            let k : n + 1 ≤ i = grind arith in
-            let a = below-no i n m in
-            let b = below-no i (n + 1) k in
-            omega arith
-        ]
+      | inl e ↦
+          let a = below-no i n (omega arith) in
+          let b = below-yes i (n + 1) (omega arith) in
+          let c = weight_if-same n i 1 e in
+          omega arith
+      | inr q ↦
+          let c = weight_if-other n i 1 q in
+          elim (cases_lt i n) [
+            | inl l ↦ let a = below-yes i n l in let b = below-yes i (n + 1) (omega arith) in omega arith
+            | inr m ↦
+                let k : n + 1 ≤ i = grind arith in
+                let a = below-no i n m in
+                let b = below-no i (n + 1) k in
+                omega arith
+          ]
     ]
 
 module _ (r r' : Readings) (accounts : List Account) (i : ℕ) (a a' : Account) (l : i < length accounts) (at : get_or accounts i (blank false) ≡ a) (c : Numbers r accounts) where
@@ -51,11 +50,11 @@ module _ (r r' : Readings) (accounts : List Account) (i : ℕ) (a a' : Account) 
   unfolding below
   numbers_drawn e more own = record {
     each = λ j.
-      let t = total_changed accounts i a a' l at (λ x. times j (drawn x)) in
-      let w = c.each j in
-      let q = e j in
-      let b = below-more j r.next in
-      let n = ap (λ n. below j n) more in
-      omega arith;
+        let t = total_changed accounts i a a' l at (λ x. times j (drawn x)) in
+        let w = c.each j in
+        let q = e j in
+        let b = below-more j r.next in
+        let n = ap (λ n. below j n) more in
+        omega arith;
     lengths = all_changed accounts i a a' l at (λ x. length x.numbers ≡ length x.moves) c.lengths own;
   }

@@ -1,7 +1,6 @@
 -- The clause on the rest, after a Seed and after all other events of one pass.
-use Rattle.std.proofs.Common.{◌≡◌, ℕ, zero, suc, ◌+◌, ◌*◌, ◌^◌, ◌<◌, ◌≤◌, Bool, true, false, max, List, [], ◌∷◌, length, length-set, get_or, set, if◌then◌else◌, All, refl, sym, ap, ◌∙◌, subst, arith}
+use Rattle.std.proofs.Common.{◌≡◌, ℕ, ◌+◌, ◌*◌, ◌^◌, ◌<◌, true, false, max, List, length, length-set, get_or, set, if◌then◌else◌, sym, ap, ◌∙◌, arith}
 use Rattle.std.proofs.lemmas.Bool.{true≢false}
-use Rattle.hg_defs.specs.Sums.{total}
 use Rattle.move_core.specs.declared.account.Account.{Account}
 use Rattle.move_core.specs.State.{Readings, blank}
 use Rattle.move_core.specs.Balance.{Rest}
@@ -19,14 +18,14 @@ module _ (r r' : Readings) (accounts : List Account) (i : ℕ) (a a' : Account) 
   rest_changed e q = record {
     made = let m = c.made in let n = length-set accounts i a' in omega arith;
     cursor =
-      let t = total_changed accounts i a a' l at (λ x. x.seeds) in
-      let w = c.cursor in
-      omega arith;
+        let t = total_changed accounts i a a' l at (λ x. x.seeds) in
+        let w = c.cursor in
+        omega arith;
     seeds =
-      let t = total_unchanged accounts i a a' l at seed_room q in
-      let w = c.seeds in
-      let n : 2 ^ 32 * length (set accounts i a') ≡ 2 ^ 32 * length accounts = ap (λ k. 2 ^ 32 * k) (length-set accounts i a') in
-      omega arith;
+        let t = total_unchanged accounts i a a' l at seed_room q in
+        let w = c.seeds in
+        let n : 2 ^ 32 * length (set accounts i a') ≡ 2 ^ 32 * length accounts = ap (λ k. 2 ^ 32 * k) (length-set accounts i a') in
+        omega arith;
     ended = all_changed accounts i a a' l at (λ x. x.live ≡ false → x ≡ blank false) c.ended (λ f. absurd (true≢false (sym live' ∙ f)));
   }
 

@@ -1,39 +1,31 @@
 -- The books stay in balance over Widen and Narrow.
-use Rattle.std.proofs.Common.{◌≡◌, ℕ, zero, suc, ◌+◌, ◌-◌, ◌*◌, ◌<◌, ◌≤◌, ◌≢◌, ◌⊎◌, inl, inr, Bool, true, false, ◌&&◌, List, [], ◌∷◌, ◌++◌, map, length, get_or, slice_index, take, set, nat_eq, nat_lt, if◌then◌else◌, All, ℤ, pos, ◌+ℤ◌, ◌-ℤ◌, ◌≤ℤ◌, refl, sym, ap, ◌∙◌, subst, arith}
+use Rattle.std.proofs.Common.{◌≡◌, ℕ, zero, suc, ◌+◌, ◌-◌, ◌*◌, ◌<◌, ◌≤◌, inl, inr, Bool, false, List, length, get_or, slice_index, take, set, All, ℤ, ◌+ℤ◌, refl, ap, arith}
 use Rattle.std.proofs.lemmas.Int.{ints}
 use Rattle.std.proofs.lemmas.Bool.{cases_lt}
 use Rattle.hg_defs.specs.declared.moves.Move.{Move}
-use Rattle.hg_defs.specs.Sums.{total, total_z}
-use Rattle.hg_defs.specs.Hypergraph.{Hyper, IsHypergraph, vertex_count, net_count, net_of, weight_of}
-use Rattle.hg_defs.specs.Partition.{block_of}
-use Rattle.hg_defs.proofs.SumLaws.{weight_if, weight_if-same, weight_if-other, total-append}
+use Rattle.hg_defs.specs.Hypergraph.{Hyper, net_of}
+use Rattle.hg_defs.proofs.SumLaws.{weight_if-same}
 use Rattle.move_core.specs.declared.account.Account.{Account}
 use Rattle.move_core.specs.declared.account.Owed.{Owed}
 use Rattle.move_core.specs.declared.account.Owed.TheVariants.{Nothing, Up, Down}
 use Rattle.move_core.specs.declared.account.Stage.{Stage}
-use Rattle.move_core.specs.declared.account.Stage.TheVariants.{Idle, Refused, Granted, Moving}
+use Rattle.move_core.specs.declared.account.Stage.TheVariants.{Idle, Moving}
 use Rattle.move_core.specs.declared.events.Word.TheVariants as word
 use Rattle.move_core.specs.State.{Setup, Readings, times, nets_of, blank}
-use Rattle.move_core.specs.Events.{moved, number_at}
-use Rattle.move_core.specs.Balance.{Claims, Loads, Names, Counts, Moves, Numbers, Sum, Rest, Spreads, Bounds, InBalance, IsSetup, IsGain, IsMove, IsStageMove, IsInStep, IsOwing, IsBetween, IsBookedWithin, carried, drawn, lowers, reserved_weight, refused_weight, booked_at, stage_vertices, weights_of}
+use Rattle.move_core.specs.Balance.{Sum, Spreads, InBalance, IsSetup, IsGain, IsMove, IsStageMove, IsInStep, IsOwing, IsBetween, IsBookedWithin, carried, weights_of}
 use Rattle.move_core.proofs.Words.{Writes}
 use Rattle.move_core.proofs.TimesLaws.{all_changed, all_at}
 use Rattle.move_core.proofs.ClaimLaws.{claims_kept}
-use Rattle.move_core.proofs.LoadLaws.{loads_kept, loads_given, load_leaving}
-use Rattle.move_core.proofs.NameLaws.{names_kept, names_written}
-use Rattle.move_core.proofs.CountLaws.{counts_kept, counts_raised, counts_lowered, count_positive, lowers-le}
-use Rattle.move_core.proofs.NumberLaws.{numbers_kept, numbers_drawn}
-use Rattle.move_core.proofs.CostLaws.{sum_kept, sum_booked}
+use Rattle.move_core.proofs.LoadLaws.{loads_kept}
+use Rattle.move_core.proofs.NameLaws.{names_kept}
+use Rattle.move_core.proofs.CountLaws.{counts_kept}
+use Rattle.move_core.proofs.NumberLaws.{numbers_kept}
+use Rattle.move_core.proofs.CostLaws.{sum_booked}
 use Rattle.move_core.proofs.RestLaws.{rest_kept}
-use Rattle.move_core.proofs.SpreadLaws.{spreads_kept, spreads_raised, spreads_widened, spreads_narrowed, spread_positive}
-use Rattle.move_core.proofs.KeptLaws.{stage_carried, IsCarried}
-use Rattle.move_core.proofs.StageEvents.{staged, moves_at, moves_to, lengths_at, gains_to, bounds_to, carries_none}
-
-use Rattle.move_core.proofs.NetLaws.{net_at-below, net_at_pin, times-take_more, times_net_at_before}
-use Rattle.move_core.proofs.HeldLaws.{held_alone}
-use Rattle.move_core.proofs.TimesLaws.{total_changed, all_changed_others}
-use Rattle.hg_defs.proofs.SumLaws.{total-zero, total-take_more}
-
+use Rattle.move_core.proofs.SpreadLaws.{spreads_widened, spreads_narrowed, spread_positive}
+use Rattle.move_core.proofs.StageEvents.{staged}
+use Rattle.move_core.proofs.NetLaws.{net_at-below}
+use Rattle.hg_defs.proofs.SumLaws.{total-take_more}
 use Rattle.std.proofs.Math.Nat.{mul-le-mul_left}
 use Rattle.hg_defs.specs.declared.objective.Objective.{Objective}
 use Rattle.hg_defs.specs.declared.objective.Objective.TheVariants.{Connectivity, CutNet, ExternalDegree}
@@ -54,24 +46,24 @@ price-more ExternalDegree (suc (suc x)) = (omega arith, omega arith)
 price_at-more : (h : Hyper) (e x : ℕ) → (price_at h e x ≤ price_at h e (x + 1)) × (price_at h e (x + 1) ≤ price_at h e x + 2 * (net_of h e).weight)
 price_at-more h e x =
     elim (cases_lt x 64) [
-      inl l ↦
-        let p0 : x - 64 ≡ 0 = omega arith in
-        let q0 : x + 1 - 64 ≡ 0 = omega arith in
-        let p = ap (price h.objective) p0 in
-        let q = ap (price h.objective) q0 in
-        let w : ℕ = (net_of h e).weight in
-        let m = ap (λ z. w * z) p in
-        let n = ap (λ z. w * z) q in
-        (omega arith, omega arith)
-    | inr g ↦
-        let w : ℕ = (net_of h e).weight in
-        let q0 : x + 1 - 64 ≡ suc (x - 64) = omega arith in
-        let q = ap (price h.objective) q0 in
-        let n = ap (λ z. w * z) q in
-        let k = price-more h.objective (x - 64) in
-        let a = mul-le-mul_left w k.0 in
-        let c = mul-le-mul_left w k.1 in
-        (omega arith, omega arith)
+      | inl l ↦
+          let p0 : x - 64 ≡ 0 = omega arith in
+          let q0 : x + 1 - 64 ≡ 0 = omega arith in
+          let p = ap (price h.objective) p0 in
+          let q = ap (price h.objective) q0 in
+          let w : ℕ = (net_of h e).weight in
+          let m = ap (λ z. w * z) p in
+          let n = ap (λ z. w * z) q in
+          (omega arith, omega arith)
+      | inr g ↦
+          let w : ℕ = (net_of h e).weight in
+          let q0 : x + 1 - 64 ≡ suc (x - 64) = omega arith in
+          let q = ap (price h.objective) q0 in
+          let n = ap (λ z. w * z) q in
+          let k = price-more h.objective (x - 64) in
+          let a = mul-le-mul_left w k.0 in
+          let c = mul-le-mul_left w k.1 in
+          (omega arith, omega arith)
     ]
 
 module _ (s : Setup) (ok : IsSetup s) (r r' : Readings) (accounts : List Account) (i : ℕ) (l : i < length accounts) (b : InBalance s r accounts) (held : List ℕ) (moves : List Move) (numbers : List ℕ) (seeds : ℕ) (gain : ℤ) where

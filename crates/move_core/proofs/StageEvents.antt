@@ -1,10 +1,10 @@
 -- The books stay in balance over Reserve, TakeBack, Draw and Name.
-use Rattle.std.proofs.Common.{◌≡◌, ℕ, zero, suc, ◌+◌, ◌-◌, ◌*◌, ◌<◌, ◌≤◌, ◌≢◌, ◌⊎◌, inl, inr, Bool, true, false, ◌&&◌, List, [], ◌∷◌, ◌++◌, map, length, get_or, take, set, nat_eq, nat_lt, if◌then◌else◌, All, ℤ, pos, ◌+ℤ◌, ◌-ℤ◌, ◌≤ℤ◌, refl, sym, ap, ◌∙◌, subst, arith}
+use Rattle.std.proofs.Common.{◌≡◌, ℕ, ◌+◌, ◌-◌, ◌<◌, ◌≤◌, ◌≢◌, inl, inr, Bool, true, false, List, [], ◌∷◌, ◌++◌, map, length, get_or, take, set, nat_eq, if◌then◌else◌, All, ℤ, pos, ◌+ℤ◌, refl, sym, ap, ◌∙◌, subst, arith}
 use Rattle.std.proofs.lemmas.Int.{ints}
 use Rattle.std.proofs.lemmas.Bool.{true≢false, cases_eq}
 use Rattle.hg_defs.specs.declared.moves.Move.{Move}
 use Rattle.hg_defs.specs.Sums.{total, total_z}
-use Rattle.hg_defs.specs.Hypergraph.{Hyper, IsHypergraph, vertex_count, net_count, net_of, weight_of}
+use Rattle.hg_defs.specs.Hypergraph.{Hyper, weight_of}
 use Rattle.hg_defs.specs.Partition.{block_of}
 use Rattle.hg_defs.proofs.SumLaws.{weight_if, weight_if-same, weight_if-other, total-append}
 use Rattle.move_core.specs.declared.account.Account.{Account}
@@ -14,8 +14,8 @@ use Rattle.move_core.specs.declared.account.Stage.{Stage}
 use Rattle.move_core.specs.declared.account.Stage.TheVariants.{Idle, Refused, Granted, Moving}
 use Rattle.move_core.specs.declared.events.Word.TheVariants as word
 use Rattle.move_core.specs.State.{Setup, Readings, times, nets_of, blank}
-use Rattle.move_core.specs.Events.{moved, number_at}
-use Rattle.move_core.specs.Balance.{Claims, Loads, Names, Counts, Moves, Numbers, Sum, Rest, Spreads, Bounds, InBalance, IsSetup, IsGain, IsMove, IsStageMove, IsInStep, IsOwing, IsBetween, IsBookedWithin, carried, drawn, reserved_weight, refused_weight, booked_at, stage_vertices, weights_of}
+use Rattle.move_core.specs.Events.{number_at}
+use Rattle.move_core.specs.Balance.{Loads, Names, Counts, Moves, Spreads, Bounds, InBalance, IsSetup, IsGain, IsMove, IsStageMove, IsInStep, IsOwing, IsBetween, IsBookedWithin, carried, booked_at, stage_vertices, weights_of}
 use Rattle.move_core.proofs.Words.{Writes}
 use Rattle.move_core.proofs.TimesLaws.{all_changed, all_at}
 use Rattle.move_core.proofs.ClaimLaws.{claims_kept}
@@ -63,12 +63,12 @@ carries_one held done v h p z u =
     let f = total-append (λ x. weight_if x u 1) done [] in
     let g = h u in
     elim (cases_eq v u) [
-      inl q ↦
-        let w = weight_if-same v u 1 q in
-        let x : 0 < times u held = subst (λ y. 0 < times y held) q p in
-        let y : times u done ≡ 0 = subst (λ y. times y done ≡ 0) q z in
-        omega arith
-    | inr q ↦ let w = weight_if-other v u 1 q in omega arith
+      | inl q ↦
+          let w = weight_if-same v u 1 q in
+          let x : 0 < times u held = subst (λ y. 0 < times y held) q p in
+          let y : times u done ≡ 0 = subst (λ y. times y done ≡ 0) q z in
+          omega arith
+      | inr q ↦ let w = weight_if-other v u 1 q in omega arith
     ]
 
 pub carries_none : (held done : List ℕ) (v : ℕ) → ((u : ℕ) → times u (done ++ v ∷ []) ≤ times u held) → (u : ℕ) → times u (done ++ []) ≤ times u held
@@ -90,7 +90,7 @@ module _ (s : Setup) (ok : IsSetup s) (r r' : Readings) (accounts : List Account
   moves_to stage stage' at h q = record {
     held = all_changed accounts i (acc stage) (acc stage') l at (λ x. (u : ℕ) → times u (carried x) ≤ times u x.held) b.moves.held h;
     done = all_changed accounts i (acc stage) (acc stage') l at (λ x. All (λ m. IsMove s m.vertex m.from m.to) x.moves) b.moves.done
-      (all_at accounts i (acc stage) (acc stage) l at (λ x. All (λ m. IsMove s m.vertex m.from m.to) x.moves) b.moves.done);
+        (all_at accounts i (acc stage) (acc stage) l at (λ x. All (λ m. IsMove s m.vertex m.from m.to) x.moves) b.moves.done);
     stages = all_changed accounts i (acc stage) (acc stage') l at (λ x. IsStageMove s x.stage) b.moves.stages q;
   }
 
@@ -105,7 +105,7 @@ module _ (s : Setup) (ok : IsSetup s) (r r' : Readings) (accounts : List Account
   pub bounds_to : (stage stage' : Stage) → get_or accounts i (blank false) ≡ acc stage → IsBookedWithin s.graph stage' → Bounds s.graph (set accounts i (acc stage'))
   bounds_to stage stage' at q = record {
     done = all_changed accounts i (acc stage) (acc stage') l at (λ x. All (λ m. IsBetween (weights_of s.graph (nets_of s.graph m.vertex)) (weights_of s.graph (nets_of s.graph m.vertex)) m.booked) x.moves) b.bounds.done
-      (all_at accounts i (acc stage) (acc stage) l at (λ x. All (λ m. IsBetween (weights_of s.graph (nets_of s.graph m.vertex)) (weights_of s.graph (nets_of s.graph m.vertex)) m.booked) x.moves) b.bounds.done);
+        (all_at accounts i (acc stage) (acc stage) l at (λ x. All (λ m. IsBetween (weights_of s.graph (nets_of s.graph m.vertex)) (weights_of s.graph (nets_of s.graph m.vertex)) m.booked) x.moves) b.bounds.done);
     stages = all_changed accounts i (acc stage) (acc stage') l at (λ x. IsBookedWithin s.graph x.stage) b.bounds.stages q;
   }
 
@@ -189,18 +189,18 @@ module _ (s : Setup) (ok : IsSetup s) (r r' : Readings) (accounts : List Account
         loads = loads_kept s r r' accounts i (acc stage) (acc stage') l at b.loads refl (λ c k. refl) (λ c k. refl) w.load;
         names = names_kept s r r' accounts b.claims b.moves b.names i (acc stage) (acc stage') l at w.name (λ u. refl) (λ d n. (d, λ q. absurd (true≢false (sym q))));
         counts = counts_kept s r r' accounts i (acc stage) (acc stage') l at b.counts
-          (λ u e c k o. ap (λ z. total (λ (m : Move). if nat_eq m.vertex u then (if nat_eq m.to c then 1 else 0) else 0) moves + z) (nothing_raised s.graph v u e to c))
-          (λ u e k o. ap (λ z. times u (map (λ (m : Move). m.vertex) moves) + z) (nothing_lowered s.graph v u e))
-          w.count
-          (omega arith, omega arith, omega arith, λ q. refl);
+            (λ u e c k o. ap (λ z. total (λ (m : Move). if nat_eq m.vertex u then (if nat_eq m.to c then 1 else 0) else 0) moves + z) (nothing_raised s.graph v u e to c))
+            (λ u e k o. ap (λ z. times u (map (λ (m : Move). m.vertex) moves) + z) (nothing_lowered s.graph v u e))
+            w.count
+            (omega arith, omega arith, omega arith, λ q. refl);
         moves = moves_to stage stage' at (moves_at stage at) (all_at accounts i (acc stage) (acc stage) l at (λ x. IsStageMove s x.stage) b.moves.stages);
         numbers = numbers_drawn r r' accounts i (acc stage) (acc stage') l at b.numbers
-          (λ j.
+            (λ j.
             let e = total-append (λ x. weight_if x j 1) numbers (r.next ∷ []) in
             let f = total-append (λ x. weight_if x j 1) numbers [] in
             omega arith)
-          w.next
-          (lengths_at stage at);
+            w.next
+            (lengths_at stage at);
         gains = gains_to stage stage' at refl;
         sum = sum_kept s r r' accounts i (acc stage) (acc stage') l at b.sum refl w.spread;
         rest = rest_kept r r' accounts i (acc stage) (acc stage') l at b.rest refl refl refl w.cursor;
@@ -233,6 +233,7 @@ module _ (s : Setup) (ok : IsSetup s) (r r' : Readings) (accounts : List Account
       spreads_named Nothing at w = spreads_kept s r r' accounts i (acc (Moving v from to number false raised lowered Nothing booked)) (acc (Moving v from to number true raised lowered Nothing booked)) l at b.spreads (λ e. refl) (λ e. refl) w.spread w.count tt
       spreads_named Up at w = spreads_kept s r r' accounts i (acc (Moving v from to number false raised lowered Up booked)) (acc (Moving v from to number true raised lowered Up booked)) l at b.spreads (λ e. refl) (λ e. refl) w.spread w.count (all_at accounts i (acc (Moving v from to number false raised lowered Up booked)) (acc Idle) l at (λ x. IsOwing x.stage) b.spreads.owed)
       spreads_named Down at w = spreads_kept s r r' accounts i (acc (Moving v from to number false raised lowered Down booked)) (acc (Moving v from to number true raised lowered Down booked)) l at b.spreads (λ e. refl) (λ e. refl) w.spread w.count (all_at accounts i (acc (Moving v from to number false raised lowered Down booked)) (acc Idle) l at (λ x. IsOwing x.stage) b.spreads.owed)
+
       bounds_named : (owed : Owed) → get_or accounts i (blank false) ≡ acc (Moving v from to number false raised lowered owed booked) → Bounds s.graph (set accounts i (acc (Moving v from to number true raised lowered owed booked)))
       bounds_named Nothing at = bounds_to (Moving v from to number false raised lowered Nothing booked) (Moving v from to number true raised lowered Nothing booked) at (all_at accounts i (acc (Moving v from to number false raised lowered Nothing booked)) (acc Idle) l at (λ x. IsBookedWithin s.graph x.stage) b.bounds.stages)
       bounds_named Up at = bounds_to (Moving v from to number false raised lowered Up booked) (Moving v from to number true raised lowered Up booked) at (all_at accounts i (acc (Moving v from to number false raised lowered Up booked)) (acc Idle) l at (λ x. IsBookedWithin s.graph x.stage) b.bounds.stages)

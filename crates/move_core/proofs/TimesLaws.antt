@@ -1,14 +1,14 @@
 -- How often a number stands in a list: after an insertion, after a removal, and in all accounts after a change of one.
-use Rattle.std.proofs.Common.{◌≡◌, ℕ, zero, suc, ◌+◌, ◌*◌, ◌<◌, ◌≤◌, ◌≢◌, ◌⊎◌, inl, inr, Bool, true, false, ◌&&◌, cond, if◌then◌else◌, nat_eq, nat_lt, List, [], ◌∷◌, ◌++◌, map, length, length-set, get_or, get_or-set_same, get_or-set_other, take, set, ℤ, pos, ◌+ℤ◌, ◌-ℤ◌, All, refl, sym, ap, ◌∙◌, subst, arith, nat_cmp}
+use Rattle.std.proofs.Common.{◌≡◌, ℕ, ◌+◌, ◌*◌, ◌<◌, ◌≤◌, ◌⊎◌, inl, inr, Bool, true, false, ◌&&◌, cond, if◌then◌else◌, nat_eq, List, [], ◌∷◌, length, length-set, get_or, get_or-set_same, get_or-set_other, set, ℤ, ◌+ℤ◌, All, refl, sym, ap, ◌∙◌, subst, arith, nat_cmp}
 use Rattle.std.specs.BTreeSet.{insert_key}
 use Rattle.std.specs.Set.{remove_key}
 use Rattle.std.specs.Ordering.{match_ordering}
 use Rattle.std.specs.declared.cmp.Ordering.{Ordering}
 use Rattle.std.specs.declared.cmp.Ordering.TheVariants.{Less, Equal, Greater}
 use Rattle.std.proofs.lemmas.List.Elements.{All-nil, All-head, All-tail, All-cons, All-set}
-use Rattle.std.proofs.lemmas.Bool.{eqb-true, eqb-false, eq-eqb, ne_eqb, cases_eq}
+use Rattle.std.proofs.lemmas.Bool.{eqb-true, eqb-false, cases_eq}
 use Rattle.hg_defs.specs.Sums.{total, total_z}
-use Rattle.hg_defs.proofs.SumLaws.{total-set, total-le, total_z-set, weight_if, weight_if-same, weight_if-other, weight_if-le, total_at-le}
+use Rattle.hg_defs.proofs.SumLaws.{total-set, total-le, total_z-set, weight_if, weight_if-same, weight_if-other, total_at-le}
 use Rattle.hg_defs.proofs.SortLaws.{nat_cmp_exact}
 use Rattle.move_core.specs.declared.account.Account.{Account}
 use Rattle.move_core.specs.State.{times, blank}
@@ -116,8 +116,8 @@ module _ (accounts : List Account) (i : ℕ) (a a' : Account) (l : i < length ac
   pub all_changed_others : (P : Account → Type 0) → ((k : ℕ) (d : Account) → k < length accounts → (k ≡ i → ⊥) → P (get_or accounts k d)) → P a' → All P (set accounts i a')
   all_changed_others P h p k d o =
       elim (cases_eq k i) [
-        inl e ↦ subst P (sym (ap (λ j. get_or (set accounts i a') j d) e ∙ get_or-set_same accounts i a' d l)) p
-      | inr q ↦ subst P (sym (get_or-set_other accounts i k a' d q)) (h k d (omega (arith, length-set accounts i a')) q)
+        | inl e ↦ subst P (sym (ap (λ j. get_or (set accounts i a') j d) e ∙ get_or-set_same accounts i a' d l)) p
+        | inr q ↦ subst P (sym (get_or-set_other accounts i k a' d q)) (h k d (omega (arith, length-set accounts i a')) q)
       ]
 
 -- the two cases of a number that stands at one place
@@ -143,18 +143,18 @@ total-weight_if v y [] = omega arith
 total-weight_if v y (x ∷ xs) =
     let r = total-weight_if v y xs in
     elim (cases_eq v x) [
-      inl e ↦
-        let a = weight_if-same v x y e in
-        let b = weight_if-same x v 1 (sym e) in
-        let d = scaled (weight_if x v 1) (times v xs) in
-        let f : weight_if x v 1 * y ≡ 1 * y = ap (λ z. z * y) b in
-        omega arith
-    | inr q ↦
-        let a = weight_if-other v x y q in
-        let b = weight_if-other x v 1 (λ e. q (sym e)) in
-        let d = scaled (weight_if x v 1) (times v xs) in
-        let f : weight_if x v 1 * y ≡ 0 * y = ap (λ z. z * y) b in
-        omega arith
+      | inl e ↦
+          let a = weight_if-same v x y e in
+          let b = weight_if-same x v 1 (sym e) in
+          let d = scaled (weight_if x v 1) (times v xs) in
+          let f : weight_if x v 1 * y ≡ 1 * y = ap (λ z. z * y) b in
+          omega arith
+      | inr q ↦
+          let a = weight_if-other v x y q in
+          let b = weight_if-other x v 1 (λ e. q (sym e)) in
+          let d = scaled (weight_if x v 1) (times v xs) in
+          let f : weight_if x v 1 * y ≡ 0 * y = ap (λ z. z * y) b in
+          omega arith
     ]
   where
     scaled : (p q : ℕ) → (p + q) * y ≡ p * y + q * y
@@ -173,13 +173,13 @@ pub total_strict : (f g : ℕ → ℕ) (xs : List ℕ) (v : ℕ) → ((u : ℕ) 
 total_strict f g [] v h p q = absurd (omega arith)
 total_strict f g (x ∷ xs) v h p q =
     elim (cases_eq x v) [
-      inl e ↦
-        let a = total-le f g xs (λ k d l. let t = times_at xs k d l in h (get_or xs k d) (omega arith)) in
-        let b : f x + 1 ≤ g x = subst (λ z. f z + 1 ≤ g z) (sym e) q in
-        omega arith
-    | inr n ↦
-        let s = weight_if-other x v 1 n in
-        let a = total_strict f g xs v (λ u t. h u (omega arith)) (omega arith) q in
-        let b = h x (let s = weight_if-same x x 1 refl in omega arith) in
-        omega arith
+      | inl e ↦
+          let a = total-le f g xs (λ k d l. let t = times_at xs k d l in h (get_or xs k d) (omega arith)) in
+          let b : f x + 1 ≤ g x = subst (λ z. f z + 1 ≤ g z) (sym e) q in
+          omega arith
+      | inr n ↦
+          let s = weight_if-other x v 1 n in
+          let a = total_strict f g xs v (λ u t. h u (omega arith)) (omega arith) q in
+          let b = h x (let s = weight_if-same x x 1 refl in omega arith) in
+          omega arith
     ]

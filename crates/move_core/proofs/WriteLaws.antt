@@ -1,10 +1,10 @@
 -- A number written into a word of a state: what the words read, and that none is lost.
-use Rattle.std.proofs.Common.{◌≡◌, ℕ, zero, suc, ◌+◌, ◌*◌, ◌<◌, ◌≤◌, ◌≢◌, ◌⊎◌, inl, inr, Bool, true, false, ◌&&◌, List, length, length-set, get_or, get_or-set_same, get_or-set_other, set, slice_index, slice_set, nat_eq, if◌then◌else◌, refl, sym, ap, ◌∙◌, subst, arith}
+use Rattle.std.proofs.Common.{◌≡◌, ℕ, ◌*◌, ◌<◌, inl, inr, ◌&&◌, List, length, length-set, get_or-set_same, get_or-set_other, slice_index, slice_set, nat_eq, if◌then◌else◌, refl, sym, ap, ◌∙◌, subst, arith}
 use Rattle.std.proofs.lemmas.Nat.{same_from_place, mul-add-lt}
 use Rattle.hg_defs.specs.Hypergraph.{vertex_count, net_count}
 use Rattle.move_core.specs.declared.events.Word.{Word}
 use Rattle.move_core.specs.declared.events.Word.TheVariants as word
-use Rattle.move_core.specs.State.{Setup, State, Readings, readings, written, count_place}
+use Rattle.move_core.specs.State.{Setup, State, readings, written, count_place}
 use Rattle.move_core.specs.Balance.{IsShaped}
 use Rattle.move_core.proofs.Words.{Writes}
 use Rattle.move_core.proofs.TimesLaws.{pick, pick_two}
@@ -23,8 +23,8 @@ IsWord s word.Cursor = Unit {0}
 set_reads : (xs : List ℕ) (i x j : ℕ) → i < length xs → slice_index (slice_set xs i x) j ≡ (if nat_eq i j then x else slice_index xs j)
 set_reads xs i x j l =
     elim (pick i j x (slice_index xs j)) [
-      inl p ↦ ap (slice_index (slice_set xs i x)) (sym p.0) ∙ get_or-set_same xs i x 0 l ∙ sym p.1
-    | inr p ↦ get_or-set_other xs i j x 0 (λ e. p.0 (sym e)) ∙ sym p.1
+      | inl p ↦ ap (slice_index (slice_set xs i x)) (sym p.0) ∙ get_or-set_same xs i x 0 l ∙ sym p.1
+      | inr p ↦ get_or-set_other xs i j x 0 (λ e. p.0 (sym e)) ∙ sym p.1
     ]
 
 pub place-below : (k e b m : ℕ) → e < m → b < k → count_place k e b < m * k
@@ -33,11 +33,11 @@ place-below k e b m le lb = let x = mul-add-lt e k b m le lb in omega arith
 set_counts : (xs : List ℕ) (k e b x f c m : ℕ) → length xs ≡ m * k → e < m → b < k → f < m → c < k → slice_index (slice_set xs (count_place k e b) x) (count_place k f c) ≡ (if nat_eq e f && nat_eq b c then x else slice_index xs (count_place k f c))
 set_counts xs k e b x f c m w le lb lf lc =
     elim (pick_two e f b c x (slice_index xs (count_place k f c))) [
-      inl p ↦
-        let e1 : count_place k f c ≡ count_place k e b = ap (λ z. count_place k z c) (sym p.0) ∙ ap (count_place k e) (sym p.1) in
-        let l : count_place k e b < length xs = subst (λ z. count_place k e b < z) (sym w) (place-below k e b m le lb) in
-        ap (slice_index (slice_set xs (count_place k e b) x)) e1 ∙ get_or-set_same xs (count_place k e b) x 0 l ∙ sym p.2
-    | inr p ↦ get_or-set_other xs (count_place k e b) (count_place k f c) x 0 (λ q. let z = same_from_place f c e b k lc lb q in p.0 (sym z.0, sym z.1)) ∙ sym p.1
+      | inl p ↦
+          let e1 : count_place k f c ≡ count_place k e b = ap (λ z. count_place k z c) (sym p.0) ∙ ap (count_place k e) (sym p.1) in
+          let l : count_place k e b < length xs = subst (λ z. count_place k e b < z) (sym w) (place-below k e b m le lb) in
+          ap (slice_index (slice_set xs (count_place k e b) x)) e1 ∙ get_or-set_same xs (count_place k e b) x 0 l ∙ sym p.2
+      | inr p ↦ get_or-set_other xs (count_place k e b) (count_place k f c) x 0 (λ q. let z = same_from_place f c e b k lc lb q in p.0 (sym z.0, sym z.1)) ∙ sym p.1
     ]
 
 pub writes_at : (s : State) (w : Word) (x : ℕ) → IsShaped s → IsWord s.setup w → Writes s.setup (readings s) (readings (written s w x)) w x

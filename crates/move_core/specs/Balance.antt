@@ -1,16 +1,15 @@
 -- The books in balance: what holds of the words and of the accounts of all passes at every moment.
-use Rattle.std.specs.Prelude.{◌≡◌, ◌≢◌, ℕ, ◌+◌, ◌-◌, ◌*◌, ◌^◌, ◌<◌, ◌≤◌, List, [], ◌∷◌, ◌++◌, length, take, map, All, ℤ, pos, ◌+ℤ◌, ◌-ℤ◌, ◌≤ℤ◌, Bool, true, false, max, nat_eq, nat_lt, slice_index, if◌then◌else◌}
+use Rattle.std.specs.Prelude.{◌≡◌, ◌≢◌, ℕ, ◌+◌, ◌-◌, ◌*◌, ◌^◌, ◌<◌, ◌≤◌, List, [], ◌∷◌, ◌++◌, length, take, All, ℤ, pos, ◌+ℤ◌, ◌-ℤ◌, ◌≤ℤ◌, true, false, max, nat_eq, nat_lt, slice_index, if◌then◌else◌}
 use Rattle.hg_defs.specs.declared.moves.Move.{Move}
 use Rattle.hg_defs.specs.Sums.{total, total_z, sum_below}
 use Rattle.hg_defs.specs.Hypergraph.{Hyper, vertex_count, net_count, net_of, weight_of, is_free, IsHypergraph, IsWithinLimits}
 use Rattle.hg_defs.specs.Partition.{block_of, load, IsPartition, Fits}
 use Rattle.hg_defs.specs.Cost.{cost}
 use Rattle.move_core.specs.declared.account.Account.{Account}
-use Rattle.move_core.specs.declared.account.Owed.{Owed}
 use Rattle.move_core.specs.declared.account.Owed.TheVariants.{Nothing, Up, Down}
 use Rattle.move_core.specs.declared.account.Stage.{Stage}
 use Rattle.move_core.specs.declared.account.Stage.TheVariants.{Idle, Refused, Granted, Moving}
-use Rattle.move_core.specs.State.{Setup, Readings, State, readings, times, nets_of, blank, opening_pins, present_below}
+use Rattle.move_core.specs.State.{Setup, Readings, State, readings, times, nets_of, blank, present_below}
 use Rattle.move_core.specs.Events.{moved, number_at, price_at}
 
 -- the vertex of a stage that isn't idle
