@@ -14,8 +14,9 @@ use Rattle.move_core.specs.declared.account.Stage.{Stage}
 use Rattle.move_core.specs.declared.account.Stage.TheVariants.{Idle, Refused, Granted, Moving}
 use Rattle.move_core.specs.declared.events.Word.TheVariants as word
 use Rattle.move_core.specs.State.{Setup, Readings, times, nets_of, blank}
-use Rattle.move_core.specs.Events.{number_at}
-use Rattle.move_core.specs.Balance.{Loads, Names, Counts, Moves, Spreads, Bounds, InBalance, IsSetup, IsGain, IsMove, IsStageMove, IsInStep, IsOwing, IsBetween, IsBookedWithin, carried, booked_at, stage_vertices, weights_of}
+use Rattle.move_core.specs.Stages.{number_at}
+use Rattle.move_core.specs.Balance.{Loads, Names, Counts, Moves, Spreads, Bounds, InBalance, IsSetup, IsGain, IsMove, IsStageMove, IsInStep, IsOwing, IsBetween, IsBookedWithin, carried, stage_vertices, weights_of}
+use Rattle.move_core.specs.Stages.{booked_at}
 use Rattle.move_core.proofs.Words.{Writes}
 use Rattle.move_core.proofs.TimesLaws.{all_changed, all_at}
 use Rattle.move_core.proofs.ClaimLaws.{claims_kept}

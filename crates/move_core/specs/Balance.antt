@@ -10,7 +10,8 @@ use Rattle.move_core.specs.declared.account.Owed.TheVariants.{Nothing, Up, Down}
 use Rattle.move_core.specs.declared.account.Stage.{Stage}
 use Rattle.move_core.specs.declared.account.Stage.TheVariants.{Idle, Refused, Granted, Moving}
 use Rattle.move_core.specs.State.{Setup, Readings, State, readings, times, nets_of, blank, present_below}
-use Rattle.move_core.specs.Events.{moved, number_at, price_at}
+use Rattle.move_core.specs.Events.{moved, price_at}
+use Rattle.move_core.specs.Stages.{number_at, booked_at}
 
 -- the vertex of a stage that isn't idle
 abbrev pub stage_vertices : Stage → List ℕ
@@ -146,12 +147,6 @@ drawn a = a.numbers ++ number_at a.stage
 pub record Numbers (r : Readings) (accounts : List Account) : Type 0 where
   pub each : (i : ℕ) → total (λ a. times i (drawn a)) accounts ≡ (if nat_lt i r.next then 1 else 0)
   pub lengths : All (λ a. length a.numbers ≡ length a.moves) accounts
-
-abbrev pub booked_at : Stage → ℤ
-booked_at Idle = pos 0
-booked_at (Refused v to seen) = pos 0
-booked_at (Granted v from to seen) = pos 0
-booked_at (Moving v from to number named raised lowered owed booked) = booked
 
 -- Gains. The gain of a pass is the sum of what it booked on its moves, done and in hand.
 abbrev pub IsGain : Account → Type 0

@@ -16,6 +16,7 @@ use Rattle.move_core.specs.declared.events.Event.{Event}
 use Rattle.move_core.specs.declared.events.Event.TheVariants.{Claim, Unclaim, Reserve, TakeBack, Draw, Name, Raise, Widen, Lower, Narrow, GiveBack, Seed, Peek, Split, Join}
 use Rattle.move_core.specs.declared.events.Word.{Word}
 use Rattle.move_core.specs.declared.events.Word.TheVariants as word
+use Rattle.move_core.specs.Stages.{vertex_at, to_at, from_at, raised_at, lowered_at, is_idle, is_reserved, is_granted, owes_nothing, owes_up, owes_down, is_moving, drawn_stage, named_stage, raised_stage, lowered_stage, booked_stage, move_at, number_at}
 use Rattle.move_core.specs.State.{Setup, State, times, nets_of, blank, account, read, readings, written}
 
 -- the pass that makes an event
@@ -39,37 +40,6 @@ pass_of (Join i j) = i
 -- the vertices of the moves done
 abbrev pub moved : Account → List ℕ
 moved a = map (λ m. m.vertex) a.moves
-
--- the parts of a stage; 0 where it has none
-abbrev pub vertex_at : Stage → ℕ
-vertex_at Idle = 0
-vertex_at (Refused v to seen) = v
-vertex_at (Granted v from to seen) = v
-vertex_at (Moving v from to number named raised lowered owed booked) = v
-
-abbrev pub to_at : Stage → ℕ
-to_at Idle = 0
-to_at (Refused v to seen) = to
-to_at (Granted v from to seen) = to
-to_at (Moving v from to number named raised lowered owed booked) = to
-
-abbrev pub from_at : Stage → ℕ
-from_at Idle = 0
-from_at (Refused v to seen) = 0
-from_at (Granted v from to seen) = from
-from_at (Moving v from to number named raised lowered owed booked) = from
-
-abbrev pub raised_at : Stage → ℕ
-raised_at Idle = 0
-raised_at (Refused v to seen) = 0
-raised_at (Granted v from to seen) = 0
-raised_at (Moving v from to number named raised lowered owed booked) = raised
-
-abbrev pub lowered_at : Stage → ℕ
-lowered_at Idle = 0
-lowered_at (Refused v to seen) = 0
-lowered_at (Granted v from to seen) = 0
-lowered_at (Moving v from to number named raised lowered owed booked) = lowered
 
 -- the net at a place of the nets of the stage's vertex
 abbrev pub net_at : Setup → Stage → ℕ → ℕ
@@ -142,57 +112,8 @@ reserved s v to found a =
 abbrev pub at_stage : Stage → Account → Account
 at_stage stage a = record a { stage = stage }
 
-abbrev pub drawn_stage : ℕ → Stage → Stage
-drawn_stage found Idle = Idle
-drawn_stage found (Refused v to seen) = Refused v to seen
-drawn_stage found (Granted v from to seen) = Moving v from to found false 0 0 Nothing (pos 0)
-drawn_stage found (Moving v from to number named raised lowered owed booked) =
-    Moving v from to number named raised lowered owed booked
-
-abbrev pub named_stage : Stage → Stage
-named_stage Idle = Idle
-named_stage (Refused v to seen) = Refused v to seen
-named_stage (Granted v from to seen) = Granted v from to seen
-named_stage (Moving v from to number named raised lowered owed booked) =
-    Moving v from to number true raised lowered owed booked
-
-abbrev pub raised_stage : ℕ → Stage → Stage
-raised_stage found Idle = Idle
-raised_stage found (Refused v to seen) = Refused v to seen
-raised_stage found (Granted v from to seen) = Granted v from to seen
-raised_stage found (Moving v from to number named raised lowered owed booked) =
-    Moving v from to number named (raised + 1) lowered (if nat_eq found 0 then Up else owed) booked
-
-abbrev pub lowered_stage : ℕ → Stage → Stage
-lowered_stage found Idle = Idle
-lowered_stage found (Refused v to seen) = Refused v to seen
-lowered_stage found (Granted v from to seen) = Granted v from to seen
-lowered_stage found (Moving v from to number named raised lowered owed booked) =
-    Moving v from to number named raised (lowered + 1) (if nat_eq found 1 then Down else owed) booked
-
-abbrev pub booked_stage : ℤ → Stage → Stage
-booked_stage gain Idle = Idle
-booked_stage gain (Refused v to seen) = Refused v to seen
-booked_stage gain (Granted v from to seen) = Granted v from to seen
-booked_stage gain (Moving v from to number named raised lowered owed booked) =
-    Moving v from to number named raised lowered Nothing (booked +ℤ gain)
-
 abbrev pub booked : ℤ → Account → Account
 booked gain a = record a { stage = booked_stage gain a.stage; gain = a.gain +ℤ gain }
-
--- the move of a stage, made by a pass, and its number
-abbrev pub move_at : ℕ → Stage → List Move
-move_at i Idle = []
-move_at i (Refused v to seen) = []
-move_at i (Granted v from to seen) = []
-move_at i (Moving v from to number named raised lowered owed booked) =
-    record { vertex = v; from = from; to = to; worker = i; booked = booked } ∷ []
-
-abbrev pub number_at : Stage → List ℕ
-number_at Idle = []
-number_at (Refused v to seen) = []
-number_at (Granted v from to seen) = []
-number_at (Moving v from to number named raised lowered owed booked) = number ∷ []
 
 abbrev pub given_back : ℕ → Account → Account
 given_back i a =
@@ -234,50 +155,13 @@ account_after s (Peek i w) found a = a
 account_after s (Split i) found a = a
 account_after s (Join i j) found a = a
 
--- the tests on stages
-abbrev pub is_idle : Stage → Bool
-is_idle Idle = true
-is_idle (Refused v to seen) = false
-is_idle (Granted v from to seen) = false
-is_idle (Moving v from to number named raised lowered owed booked) = false
-
-abbrev pub is_reserved : Stage → Bool
-is_reserved Idle = false
-is_reserved (Refused v to seen) = true
-is_reserved (Granted v from to seen) = true
-is_reserved (Moving v from to number named raised lowered owed booked) = false
-
-abbrev pub is_granted : Stage → Bool
-is_granted Idle = false
-is_granted (Refused v to seen) = false
-is_granted (Granted v from to seen) = true
-is_granted (Moving v from to number named raised lowered owed booked) = false
-
-abbrev pub owes_nothing : Owed → Bool
-owes_nothing Nothing = true
-owes_nothing Up = false
-owes_nothing Down = false
-
-abbrev pub owes_up : Owed → Bool
-owes_up Nothing = false
-owes_up Up = true
-owes_up Down = false
-
-abbrev pub owes_down : Owed → Bool
-owes_down Nothing = false
-owes_down Up = false
-owes_down Down = true
-
--- a test on a move in its middle
-abbrev pub is_moving : (Bool → ℕ → ℕ → Owed → Bool) → Stage → Bool
-is_moving test Idle = false
-is_moving test (Refused v to seen) = false
-is_moving test (Granted v from to seen) = false
-is_moving test (Moving v from to number named raised lowered owed booked) = test named raised lowered owed
+-- the pass holds the vertex
+abbrev pub holds : Account → ℕ → Bool
+holds a v = nat_lt 0 (times v a.held)
 
 -- the pass holds the vertex and hasn't moved it
 abbrev pub holds_unmoved : Account → ℕ → Bool
-holds_unmoved a v = nat_lt 0 (times v a.held) && nat_eq (times v (moved a)) 0
+holds_unmoved a v = holds a v && nat_eq (times v (moved a)) 0
 
 -- the word exists
 abbrev pub is_word : Setup → Word → Bool

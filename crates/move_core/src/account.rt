@@ -1,3 +1,7 @@
+ghost use Rattle.std.specs.Prelude.{◌≡◌, ◌+◌, ◌^◌, ◌<◌, ◌+ℤ◌, FitsSigned};
+ghost use Rattle.std.specs.Int.{w64};
+ghost use Rattle.move_core.specs.Stages.{vertex_at, from_at, to_at, raised_at, lowered_at, booked_at, is_idle, drawn_stage, named_stage, raised_stage, lowered_stage, booked_stage};
+
 use hg_defs::Move;
 use std::collections::LinkedList;
 
@@ -61,4 +65,192 @@ pub struct Account {
     pub seeds: u64,
     /// The sum of all that it has booked.
     pub gain: i64,
+}
+
+impl Stage {
+    // The parts of a stage, 0 where it has none.
+
+    pub(crate) fn vertex(self) -> u32
+        ensures { result ≡ vertex_at self }
+    {
+        match self {
+            Stage::Idle => 0,
+            Stage::Refused { vertex, .. } => vertex,
+            Stage::Granted { vertex, .. } => vertex,
+            Stage::Moving { vertex, .. } => vertex,
+        }
+    }
+
+    pub(crate) fn to(self) -> u32
+        ensures { result ≡ to_at self }
+    {
+        match self {
+            Stage::Idle => 0,
+            Stage::Refused { to, .. } => to,
+            Stage::Granted { to, .. } => to,
+            Stage::Moving { to, .. } => to,
+        }
+    }
+
+    pub(crate) fn from(self) -> u32
+        ensures { result ≡ from_at self }
+    {
+        match self {
+            Stage::Idle => 0,
+            Stage::Refused { .. } => 0,
+            Stage::Granted { from, .. } => from,
+            Stage::Moving { from, .. } => from,
+        }
+    }
+
+    pub(crate) fn is_idle(self) -> bool
+        ensures { result ≡ is_idle self }
+    {
+        match self {
+            Stage::Idle => true,
+            Stage::Refused { .. } | Stage::Granted { .. } | Stage::Moving { .. } => false,
+        }
+    }
+
+    // What becomes of a stage.
+
+    pub(crate) fn drawn(self, number: u64) -> Self
+        ensures { result ≡ drawn_stage number self }
+    {
+        match self {
+            Stage::Granted {
+                vertex, from, to, ..
+            } => Stage::Moving {
+                vertex,
+                from,
+                to,
+                number,
+                named: false,
+                raised: 0,
+                lowered: 0,
+                owed: Owed::Nothing,
+                booked: 0,
+            },
+            Stage::Idle | Stage::Refused { .. } | Stage::Moving { .. } => self,
+        }
+    }
+
+    pub(crate) fn named(self) -> Self
+        ensures { result ≡ named_stage self }
+    {
+        match self {
+            Stage::Moving {
+                vertex,
+                from,
+                to,
+                number,
+                raised,
+                lowered,
+                owed,
+                booked,
+                ..
+            } => Stage::Moving {
+                vertex,
+                from,
+                to,
+                number,
+                named: true,
+                raised,
+                lowered,
+                owed,
+                booked,
+            },
+            Stage::Idle | Stage::Refused { .. } | Stage::Granted { .. } => self,
+        }
+    }
+
+    pub(crate) fn raised(self, found: u64) -> Self
+        requires { raised_at self + 1 < 2 ^ 32 }
+        ensures { result ≡ raised_stage found self }
+    {
+        match self {
+            Stage::Moving {
+                vertex,
+                from,
+                to,
+                number,
+                named,
+                raised,
+                lowered,
+                owed,
+                booked,
+            } => Stage::Moving {
+                vertex,
+                from,
+                to,
+                number,
+                named,
+                raised: raised + 1,
+                lowered,
+                owed: if found == 0 { Owed::Up } else { owed },
+                booked,
+            },
+            Stage::Idle | Stage::Refused { .. } | Stage::Granted { .. } => self,
+        }
+    }
+
+    pub(crate) fn lowered(self, found: u64) -> Self
+        requires { lowered_at self + 1 < 2 ^ 32 }
+        ensures { result ≡ lowered_stage found self }
+    {
+        match self {
+            Stage::Moving {
+                vertex,
+                from,
+                to,
+                number,
+                named,
+                raised,
+                lowered,
+                owed,
+                booked,
+            } => Stage::Moving {
+                vertex,
+                from,
+                to,
+                number,
+                named,
+                raised,
+                lowered: lowered + 1,
+                owed: if found == 1 { Owed::Down } else { owed },
+                booked,
+            },
+            Stage::Idle | Stage::Refused { .. } | Stage::Granted { .. } => self,
+        }
+    }
+
+    pub(crate) fn booked(self, gain: i64) -> Self
+        requires { FitsSigned w64 (booked_at self +ℤ gain) }
+        ensures { result ≡ booked_stage gain self }
+    {
+        match self {
+            Stage::Moving {
+                vertex,
+                from,
+                to,
+                number,
+                named,
+                raised,
+                lowered,
+                booked,
+                ..
+            } => Stage::Moving {
+                vertex,
+                from,
+                to,
+                number,
+                named,
+                raised,
+                lowered,
+                owed: Owed::Nothing,
+                booked: booked + gain,
+            },
+            Stage::Idle | Stage::Refused { .. } | Stage::Granted { .. } => self,
+        }
+    }
 }

@@ -6,6 +6,7 @@
 
 mod account;
 mod events;
+mod pass;
 
 pub use account::{Account, Owed, Stage};
 pub use events::{Event, Word};
