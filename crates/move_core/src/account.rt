@@ -1,6 +1,6 @@
 ghost use Rattle.std.specs.Prelude.{◌≡◌, ◌+◌, ◌^◌, ◌<◌, ◌+ℤ◌, FitsSigned};
 ghost use Rattle.std.specs.Int.{w64};
-ghost use Rattle.move_core.specs.Stages.{vertex_at, from_at, to_at, raised_at, lowered_at, booked_at, is_idle, drawn_stage, named_stage, raised_stage, lowered_stage, booked_stage};
+ghost use Rattle.move_core.specs.Stages.{vertex_at, from_at, to_at, raised_at, lowered_at, booked_at, is_idle, owes_nothing, drawn_stage, named_stage, raised_stage, lowered_stage, booked_stage};
 
 use hg_defs::Move;
 use std::collections::LinkedList;
@@ -65,6 +65,17 @@ pub struct Account {
     pub seeds: u64,
     /// The sum of all that it has booked.
     pub gain: i64,
+}
+
+impl Owed {
+    pub(crate) fn is_nothing(self) -> bool
+        ensures { result ≡ owes_nothing self }
+    {
+        match self {
+            Owed::Nothing => true,
+            Owed::Up | Owed::Down => false,
+        }
+    }
 }
 
 impl Stage {

@@ -5,8 +5,10 @@
 #![tactic(auto)]
 
 mod account;
+mod books;
 mod events;
 mod pass;
 
 pub use account::{Account, Owed, Stage};
+pub use books::Books;
 pub use events::{Event, Word};
