@@ -1,6 +1,8 @@
 -- No word, gain or number of the books passes 64 bits.
 use Rattle.std.proofs.Common.{◌≡◌, ℕ, zero, suc, ◌+◌, ◌-◌, ◌*◌, ◌^◌, ◌<◌, ◌≤◌, ◌⊎◌, inl, inr, Bool, true, false, max, List, [], ◌∷◌, ◌++◌, map, length, length-append, get_or, take, nat_eq, nat_lt, if◌then◌else◌, All, ℤ, pos, ◌+ℤ◌, ◌-ℤ◌, ◌≤ℤ◌, refl, sym, ap, ◌∙◌, subst, arith}
 use Rattle.std.proofs.lemmas.Int.{ints}
+use Rattle.std.proofs.lemmas.Grind.{get_or_default_zero}
+use Rattle.std.proofs.Math.Nat.{mul-le-mul_left}
 use Rattle.std.proofs.lemmas.Bool.{cases_lt, lt-ltb, le-ltb}
 use Rattle.std.proofs.lemmas.List.Elements.{All-head, All-tail, All-nil}
 use Rattle.std.proofs.lemmas.List.{length-map}
@@ -38,6 +40,22 @@ carried_sum s r accounts c m g =
     within zero y h = omega arith
     within (suc zero) y h = omega arith
     within (suc (suc x)) y h = absurd (omega arith)
+
+-- the numbers below a bound that stand in a list
+listed : (n : ℕ) (xs : List ℕ) → sum_below (λ i. times i xs) n ≤ length xs
+listed n [] = let e = sum_below-constant 0 n in omega arith
+listed n (x ∷ xs) =
+    let e = listed n xs in
+    let f = sum_below-add (λ i. weight_if x i 1) (λ i. times i xs) n in
+    let g = single x n in
+    omega arith
+  where
+    single : (y m : ℕ) → sum_below (λ i. weight_if y i 1) m ≤ 1
+    single y m =
+        elim (cases_lt y m) [
+          inl l ↦ let e = sum_below-only (λ i. weight_if y i 1) m y l (λ j q p. weight_if-other y j 1 (λ z. p (sym z))) in let w = weight_if-le y y 1 in omega arith
+        | inr l ↦ let e = sum_below-zero (λ i. weight_if y i 1) m (λ j q. weight_if-other y j 1 (λ z. absurd (omega arith))) in omega arith
+        ]
 
 -- ---- loads
 
@@ -93,20 +111,6 @@ module _ (s : Setup) (r : Readings) (accounts : List Account) (b : InBalance s r
       let g = sum_below-constant 1 (vertex_count s.graph) in
       omega arith
     where
-      listed : (n : ℕ) (xs : List ℕ) → sum_below (λ i. times i xs) n ≤ length xs
-      listed n [] = let e = sum_below-constant 0 n in omega arith
-      listed n (x ∷ xs) =
-          let e = listed n xs in
-          let f = sum_below-add (λ i. weight_if x i 1) (λ i. times i xs) n in
-          let g = single x n in
-          omega arith
-        where
-          single : (y m : ℕ) → sum_below (λ i. weight_if y i 1) m ≤ 1
-          single y m =
-              elim (cases_lt y m) [
-                inl l ↦ let e = sum_below-only (λ i. weight_if y i 1) m y l (λ j q p. weight_if-other y j 1 (λ z. p (sym z))) in let w = weight_if-le y y 1 in omega arith
-              | inr l ↦ let e = sum_below-zero (λ i. weight_if y i 1) m (λ j q. weight_if-other y j 1 (λ z. absurd (omega arith))) in omega arith
-              ]
       one_number : (stage : Stage) → length (number_at stage) ≤ length (stage_vertices stage)
       one_number Idle = omega arith
       one_number (Refused v to seen) = omega arith
@@ -156,3 +160,116 @@ module _ (s : Setup) (r : Readings) (accounts : List Account) (b : InBalance s r
       let x = total_at-le (λ (a : Account). a.seeds) accounts k d l in
       let y = cursor_small in
       omega arith
+
+-- ---- gains
+
+-- the weight of the nets of a vertex
+abbrev pub vertex_weights : Hyper → ℕ → ℕ
+vertex_weights h v = weights_of h (nets_of h v)
+
+has_pin-le_times : (h : Hyper) (v e : ℕ) → has_pin h v e ≤ times v (net_of h e).pins
+has_pin-le_times h v e =
+    elim (cases_lt 0 (times v (net_of h e).pins)) [
+      inl l ↦ subst (λ b. (if b then 1 else 0) ≤ times v (net_of h e).pins) (sym (lt-ltb 0 (times v (net_of h e).pins) l)) (omega arith)
+    | inr m ↦ subst (λ b. (if b then 1 else 0) ≤ times v (net_of h e).pins) (sym (le-ltb 0 (times v (net_of h e).pins) m)) (omega arith)
+    ]
+
+-- each pin adds the weight of its net once
+pub vertex_weights-sum : (h : Hyper) → sum_below (vertex_weights h) (vertex_count h) ≤ total (λ e. e.weight * length e.pins) h.nets
+vertex_weights-sum h =
+    let n = vertex_count h in
+    let m = net_count h in
+    let w : ℕ → ℕ = λ e. (net_of h e).weight in
+    let a = sum_below-le (vertex_weights h) (λ v. sum_below (λ e. times v (net_of h e).pins * w e) m) n
+      (λ v l.
+        let x = total-by_times w m (nets_of h v) (λ k d q. let z = get_or_default_zero (nets_of h v) k d q in let y = net_at-below h v k q in omega arith) in
+        let y = sum_below-le (λ e. times e (nets_of h v) * w e) (λ e. times v (net_of h e).pins * w e) m (λ e q. scaled (times e (nets_of h v)) (times v (net_of h e).pins) (w e) (let z = times-nets_of h v e q in let u = has_pin-le_times h v e in omega arith)) in
+        omega arith) in
+    let b = sum_below-swap (λ v e. times v (net_of h e).pins * w e) n m in
+    let c = sum_below-le (λ e. sum_below (λ v. times v (net_of h e).pins * w e) n) (λ e. (net_of h e).weight * length (net_of h e).pins) m
+      (λ e q.
+        let x = sum_below-same (λ v. times v (net_of h e).pins * w e) (λ v. w e * times v (net_of h e).pins) n (λ v l. turned (times v (net_of h e).pins) (w e)) in
+        let y = sum_below-scale (w e) (λ v. times v (net_of h e).pins) n in
+        let z = listed n (net_of h e).pins in
+        let u = mul-le-mul_left (w e) z in
+        omega arith) in
+    let d = total-by_index (λ (e : Net). e.weight * length e.pins) (record { weight = 0; pins = [] }) h.nets in
+    omega arith
+  where
+    turned : (x y : ℕ) → x * y ≡ y * x
+    turned x y = omega arith
+    scaled : (x y z : ℕ) → x ≤ y → x * z ≤ y * z
+    scaled x y z q = let u = mul-le-mul_left z q in let t = turned x z in let v = turned y z in omega arith
+
+-- a sum of bookings, each within twice a weight
+moves_between : (h : Hyper) (ms : List Move) → All (λ m. IsBetween (vertex_weights h m.vertex) (vertex_weights h m.vertex) m.booked) ms → IsBetween (total (vertex_weights h) (map (λ m. m.vertex) ms)) (total (vertex_weights h) (map (λ m. m.vertex) ms)) (total_z (λ m. m.booked) ms)
+moves_between h [] q = record { low = omega (arith, ints); high = omega (arith, ints) }
+moves_between h (m ∷ ms) q =
+    let e = moves_between h ms (All-tail (λ (z : Move). IsBetween (vertex_weights h z.vertex) (vertex_weights h z.vertex) z.booked) m ms q) in
+    let f = All-head (λ (z : Move). IsBetween (vertex_weights h z.vertex) (vertex_weights h z.vertex) z.booked) m ms q in
+    let low = e.low in
+    let high = e.high in
+    let low' = f.low in
+    let high' = f.high in
+    record { low = omega (arith, ints); high = omega (arith, ints) }
+
+stage_between : (h : Hyper) (stage : Stage) → IsBookedWithin h stage → IsBetween (total (vertex_weights h) (stage_vertices stage)) (total (vertex_weights h) (stage_vertices stage)) (booked_at stage)
+stage_between h Idle q = record { low = omega (arith, ints); high = omega (arith, ints) }
+stage_between h (Refused v to seen) q = record { low = omega (arith, ints); high = omega (arith, ints) }
+stage_between h (Granted v from to seen) q = record { low = omega (arith, ints); high = omega (arith, ints) }
+stage_between h (Moving v from to number named raised lowered Nothing booked) q =
+    let x = total-take-le (λ e. (net_of h e).weight) (nets_of h v) raised in
+    let y = total-take-le (λ e. (net_of h e).weight) (nets_of h v) lowered in
+    let low = q.low in
+    let high = q.high in
+    record { low = omega (arith, ints); high = omega (arith, ints) }
+stage_between h (Moving v from to number named raised lowered Up booked) q =
+    let x = total-take-le (λ e. (net_of h e).weight) (nets_of h v) (raised - 1) in
+    let y = total-take-le (λ e. (net_of h e).weight) (nets_of h v) lowered in
+    let low = q.low in
+    let high = q.high in
+    record { low = omega (arith, ints); high = omega (arith, ints) }
+stage_between h (Moving v from to number named raised lowered Down booked) q =
+    let x = total-take-le (λ e. (net_of h e).weight) (nets_of h v) raised in
+    let y = total-take-le (λ e. (net_of h e).weight) (nets_of h v) (lowered - 1) in
+    let low = q.low in
+    let high = q.high in
+    record { low = omega (arith, ints); high = omega (arith, ints) }
+
+-- what a pass has booked, and what it has booked on the move in hand, is far from 2^63
+pub record IsGainSmall (gain : ℤ) : Type 0 where
+  pub low : pos 0 ≤ℤ (gain +ℤ pos (2 ^ 58))
+  pub high : gain ≤ℤ pos (2 ^ 58)
+
+module _ (s : Setup) (r : Readings) (accounts : List Account) (limits : IsWithinLimits s.graph) (b : InBalance s r accounts) where
+  carried_bound : (k : ℕ) (d : Account) → k < length accounts → total (vertex_weights s.graph) (carried (get_or accounts k d)) < 2 ^ 57
+  carried_bound k d l =
+      let x = total_at-le (λ a. total (vertex_weights s.graph) (carried a)) accounts k d l in
+      let y = carried_sum s r accounts b.claims b.moves (vertex_weights s.graph) in
+      let z = vertex_weights-sum s.graph in
+      let w = limits.pin_weight in
+      omega arith
+
+  pub gain_small : (k : ℕ) (d : Account) → k < length accounts → IsGainSmall (get_or accounts k d).gain
+  gain_small k d l =
+      let a = get_or accounts k d in
+      let x = moves_between s.graph a.moves (b.bounds.done k d l) in
+      let y = stage_between s.graph a.stage (b.bounds.stages k d l) in
+      let p = total-append (vertex_weights s.graph) (moved a) (stage_vertices a.stage) in
+      let q = carried_bound k d l in
+      let g = b.gains k d l in
+      let x0 = x.low in
+      let x1 = x.high in
+      let y0 = y.low in
+      let y1 = y.high in
+      record { low = omega (arith, ints); high = omega (arith, ints) }
+
+  pub booked_small : (k : ℕ) (d : Account) → k < length accounts → IsGainSmall (booked_at (get_or accounts k d).stage)
+  booked_small k d l =
+      let a = get_or accounts k d in
+      let y = stage_between s.graph a.stage (b.bounds.stages k d l) in
+      let p = total-append (vertex_weights s.graph) (moved a) (stage_vertices a.stage) in
+      let q = carried_bound k d l in
+      let y0 = y.low in
+      let y1 = y.high in
+      record { low = omega (arith, ints); high = omega (arith, ints) }
