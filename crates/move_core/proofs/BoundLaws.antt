@@ -1,31 +1,28 @@
 -- No word, gain or number of the books passes 64 bits.
-use Rattle.std.proofs.Common.{◌≡◌, ℕ, zero, suc, ◌+◌, ◌-◌, ◌*◌, ◌^◌, ◌<◌, ◌≤◌, ◌⊎◌, inl, inr, Bool, true, false, max, List, [], ◌∷◌, ◌++◌, map, length, length-append, get_or, take, nat_eq, nat_lt, if◌then◌else◌, All, ℤ, pos, ◌+ℤ◌, ◌-ℤ◌, ◌≤ℤ◌, refl, sym, ap, ◌∙◌, subst, arith}
+use Rattle.std.proofs.Common.{◌≡◌, ℕ, zero, suc, ◌+◌, ◌-◌, ◌*◌, ◌^◌, ◌<◌, ◌≤◌, inl, inr, Bool, true, false, max, List, [], ◌∷◌, map, length, length-append, get_or, if◌then◌else◌, All, ℤ, pos, ◌+ℤ◌, ◌≤ℤ◌, refl, sym, ap, ◌∙◌, subst, arith}
 use Rattle.std.proofs.lemmas.Int.{ints}
 use Rattle.std.proofs.lemmas.Grind.{get_or_default_zero}
 use Rattle.std.proofs.Math.Nat.{mul-le-mul_left}
 use Rattle.std.proofs.lemmas.Bool.{cases_lt, lt-ltb, le-ltb}
-use Rattle.std.proofs.lemmas.List.Elements.{All-head, All-tail, All-nil}
+use Rattle.std.proofs.lemmas.List.Elements.{All-head, All-tail}
 use Rattle.std.proofs.lemmas.List.{length-map}
 use Rattle.hg_defs.specs.declared.moves.Move.{Move}
 use Rattle.hg_defs.specs.Sums.{total, total_z, sum_below}
-use Rattle.hg_defs.specs.Hypergraph.{Hyper, Net, IsHypergraph, IsWithinLimits, vertex_count, net_count, net_of, weight_of, pin_count, total_weight}
-use Rattle.hg_defs.specs.Partition.{block_of, load}
+use Rattle.hg_defs.specs.Hypergraph.{Hyper, Net, IsWithinLimits, vertex_count, net_count, net_of, weight_of, total_weight}
 use Rattle.hg_defs.specs.Pins.{present}
-use Rattle.hg_defs.proofs.SumLaws.{weight_if, weight_if-le, total-map, total-le, total-same, total-append, total-ones, total-scale, total-by_index, total-add, total_at-le, total-take-le, sum_below-total, sum_below-le, sum_below-same, sum_below-swap, sum_below-constant, sum_below-scale, sum_below-add, sum_below-only, sum_below-zero, weight_if-other, weight_in-le, total-scale_right}
+use Rattle.hg_defs.proofs.SumLaws.{weight_if, weight_if-le, total-le, total-same, total-append, total-ones, total-by_index, total_at-le, total-take-le, sum_below-total, sum_below-le, sum_below-same, sum_below-swap, sum_below-constant, sum_below-scale, sum_below-add, sum_below-only, sum_below-zero, weight_if-other, weight_in-le, total-scale_right}
 use Rattle.hg_defs.proofs.DistinctLaws.{present-le}
 use Rattle.move_core.specs.declared.account.Account.{Account}
-use Rattle.move_core.specs.declared.account.Owed.{Owed}
 use Rattle.move_core.specs.declared.account.Owed.TheVariants.{Nothing, Up, Down}
 use Rattle.move_core.specs.declared.account.Stage.{Stage}
 use Rattle.move_core.specs.declared.account.Stage.TheVariants.{Idle, Refused, Granted, Moving}
-use Rattle.move_core.specs.State.{Setup, State, Readings, readings, times, nets_of, blank, account, present_below}
+use Rattle.move_core.specs.State.{Setup, Readings, times, nets_of, blank}
 use Rattle.move_core.specs.Events.{moved}
 use Rattle.move_core.specs.Stages.{number_at, booked_at}
-use Rattle.move_core.specs.Balance.{Claims, Moves, InBalance, IsBooks, IsGain, IsBetween, IsBookedWithin, carried, drawn, stage_vertices, reserved_weight, arrived, departed, owed_up, owed_down, weights_of}
+use Rattle.move_core.specs.Balance.{Claims, Moves, InBalance, IsBetween, IsBookedWithin, carried, drawn, stage_vertices, reserved_weight, arrived, owed_down, weights_of}
 use Rattle.move_core.proofs.RestLaws.{seed_room}
 use Rattle.move_core.proofs.HeldLaws.{carried_below, carried_once, total-by_times}
-use Rattle.move_core.proofs.NetLaws.{times-nets_of, has_pin, net_at-below, times_pin}
-use Rattle.move_core.proofs.TimesLaws.{All_from_times}
+use Rattle.move_core.proofs.NetLaws.{times-nets_of, has_pin, net_at-below}
 
 -- what is summed over the vertices that passes carry is within the sum over all vertices
 pub carried_sum : (s : Setup) (r : Readings) (accounts : List Account) → Claims s.graph r accounts → Moves s accounts → (g : ℕ → ℕ) → total (λ a. total g (carried a)) accounts ≤ sum_below g (vertex_count s.graph)
@@ -53,8 +50,8 @@ listed n (x ∷ xs) =
     single : (y m : ℕ) → sum_below (λ i. weight_if y i 1) m ≤ 1
     single y m =
         elim (cases_lt y m) [
-          inl l ↦ let e = sum_below-only (λ i. weight_if y i 1) m y l (λ j q p. weight_if-other y j 1 (λ z. p (sym z))) in let w = weight_if-le y y 1 in omega arith
-        | inr l ↦ let e = sum_below-zero (λ i. weight_if y i 1) m (λ j q. weight_if-other y j 1 (λ z. absurd (omega arith))) in omega arith
+          | inl l ↦ let e = sum_below-only (λ i. weight_if y i 1) m y l (λ j q p. weight_if-other y j 1 (λ z. p (sym z))) in let w = weight_if-le y y 1 in omega arith
+          | inr l ↦ let e = sum_below-zero (λ i. weight_if y i 1) m (λ j q. weight_if-other y j 1 (λ z. absurd (omega arith))) in omega arith
         ]
 
 -- ---- loads
@@ -77,12 +74,12 @@ module _ (s : Setup) (r : Readings) (accounts : List Account) (b : InBalance s r
   load_small c l =
       let w = b.loads.word c l in
       let x = total-le (λ a. reserved_weight s.graph c a.stage + arrived s.graph c a.moves) (λ a. total (weight_of s.graph) (carried a)) accounts
-        (λ k d q.
-          let a = get_or accounts k d in
-          let e = stage_weight-le s.graph c a.stage in
-          let f = arrived-le s.graph c a.moves in
-          let g = total-append (weight_of s.graph) (moved a) (stage_vertices a.stage) in
-          omega arith) in
+      (λ k d q.
+      let a = get_or accounts k d in
+      let e = stage_weight-le s.graph c a.stage in
+      let f = arrived-le s.graph c a.moves in
+      let g = total-append (weight_of s.graph) (moved a) (stage_vertices a.stage) in
+      omega arith) in
       let y = carried_sum s r accounts b.claims b.moves (weight_of s.graph) in
       let z = weights-sum s.graph.weights in
       let o = weight_in-le s.graph.weights s.opening c in
@@ -97,16 +94,16 @@ module _ (s : Setup) (r : Readings) (accounts : List Account) (b : InBalance s r
       let c = sum_below-constant 1 n in
       let d = sum_below-total (λ i x. times i (drawn x)) n accounts in
       let e = total-le (λ x. sum_below (λ i. times i (drawn x)) n) (λ x. total (λ v. 1) (carried x)) accounts
-        (λ k y l.
-          let x = get_or accounts k y in
-          let p = listed n (drawn x) in
-          let q = length-append x.numbers (number_at x.stage) in
-          let t = b.numbers.lengths k y l in
-          let u = total-ones (carried x) in
-          let v = length-append (moved x) (stage_vertices x.stage) in
-          let w = length-map x.moves (λ (m : Move). m.vertex) in
-          let z = one_number x.stage in
-          omega arith) in
+      (λ k y l.
+      let x = get_or accounts k y in
+      let p = listed n (drawn x) in
+      let q = length-append x.numbers (number_at x.stage) in
+      let t = b.numbers.lengths k y l in
+      let u = total-ones (carried x) in
+      let v = length-append (moved x) (stage_vertices x.stage) in
+      let w = length-map x.moves (λ (m : Move). m.vertex) in
+      let z = one_number x.stage in
+      omega arith) in
       let f = carried_sum s r accounts b.claims b.moves (λ v. 1) in
       let g = sum_below-constant 1 (vertex_count s.graph) in
       omega arith
@@ -170,8 +167,8 @@ vertex_weights h v = weights_of h (nets_of h v)
 has_pin-le_times : (h : Hyper) (v e : ℕ) → has_pin h v e ≤ times v (net_of h e).pins
 has_pin-le_times h v e =
     elim (cases_lt 0 (times v (net_of h e).pins)) [
-      inl l ↦ subst (λ b. (if b then 1 else 0) ≤ times v (net_of h e).pins) (sym (lt-ltb 0 (times v (net_of h e).pins) l)) (omega arith)
-    | inr m ↦ subst (λ b. (if b then 1 else 0) ≤ times v (net_of h e).pins) (sym (le-ltb 0 (times v (net_of h e).pins) m)) (omega arith)
+      | inl l ↦ subst (λ b. (if b then 1 else 0) ≤ times v (net_of h e).pins) (sym (lt-ltb 0 (times v (net_of h e).pins) l)) (omega arith)
+      | inr m ↦ subst (λ b. (if b then 1 else 0) ≤ times v (net_of h e).pins) (sym (le-ltb 0 (times v (net_of h e).pins) m)) (omega arith)
     ]
 
 -- each pin adds the weight of its net once
@@ -181,23 +178,24 @@ vertex_weights-sum h =
     let m = net_count h in
     let w : ℕ → ℕ = λ e. (net_of h e).weight in
     let a = sum_below-le (vertex_weights h) (λ v. sum_below (λ e. times v (net_of h e).pins * w e) m) n
-      (λ v l.
-        let x = total-by_times w m (nets_of h v) (λ k d q. let z = get_or_default_zero (nets_of h v) k d q in let y = net_at-below h v k q in omega arith) in
-        let y = sum_below-le (λ e. times e (nets_of h v) * w e) (λ e. times v (net_of h e).pins * w e) m (λ e q. scaled (times e (nets_of h v)) (times v (net_of h e).pins) (w e) (let z = times-nets_of h v e q in let u = has_pin-le_times h v e in omega arith)) in
-        omega arith) in
+    (λ v l.
+    let x = total-by_times w m (nets_of h v) (λ k d q. let z = get_or_default_zero (nets_of h v) k d q in let y = net_at-below h v k q in omega arith) in
+    let y = sum_below-le (λ e. times e (nets_of h v) * w e) (λ e. times v (net_of h e).pins * w e) m (λ e q. scaled (times e (nets_of h v)) (times v (net_of h e).pins) (w e) (let z = times-nets_of h v e q in let u = has_pin-le_times h v e in omega arith)) in
+    omega arith) in
     let b = sum_below-swap (λ v e. times v (net_of h e).pins * w e) n m in
     let c = sum_below-le (λ e. sum_below (λ v. times v (net_of h e).pins * w e) n) (λ e. (net_of h e).weight * length (net_of h e).pins) m
-      (λ e q.
-        let x = sum_below-same (λ v. times v (net_of h e).pins * w e) (λ v. w e * times v (net_of h e).pins) n (λ v l. turned (times v (net_of h e).pins) (w e)) in
-        let y = sum_below-scale (w e) (λ v. times v (net_of h e).pins) n in
-        let z = listed n (net_of h e).pins in
-        let u = mul-le-mul_left (w e) z in
-        omega arith) in
+    (λ e q.
+    let x = sum_below-same (λ v. times v (net_of h e).pins * w e) (λ v. w e * times v (net_of h e).pins) n (λ v l. turned (times v (net_of h e).pins) (w e)) in
+    let y = sum_below-scale (w e) (λ v. times v (net_of h e).pins) n in
+    let z = listed n (net_of h e).pins in
+    let u = mul-le-mul_left (w e) z in
+    omega arith) in
     let d = total-by_index (λ (e : Net). e.weight * length e.pins) (record { weight = 0; pins = [] }) h.nets in
     omega arith
   where
     turned : (x y : ℕ) → x * y ≡ y * x
     turned x y = omega arith
+
     scaled : (x y z : ℕ) → x ≤ y → x * z ≤ y * z
     scaled x y z q = let u = mul-le-mul_left z q in let t = turned x z in let v = turned y z in omega arith
 

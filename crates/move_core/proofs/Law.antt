@@ -298,13 +298,13 @@ one_pass s k x i on may law =
     (law a.held a.moves a.numbers a.seeds a.gain a.stage e (subst (λ (z : Account). may_step s.setup x z ≡ true) e may)))
 
 module _ (s : State) (k : IsBooks s) where
-  on_at : (x : Event) → is_enabled s x ≡ true → (account s (pass_of x)).live ≡ true
+  pub on_at : (x : Event) → is_enabled s x ≡ true → (account s (pass_of x)).live ≡ true
   on_at x h = (and_parts (account s (pass_of x)).live (may_step s.setup x (account s (pass_of x)) && others_agree s x) h).0
 
-  may_at : (x : Event) → is_enabled s x ≡ true → may_step s.setup x (account s (pass_of x)) ≡ true
+  pub may_at : (x : Event) → is_enabled s x ≡ true → may_step s.setup x (account s (pass_of x)) ≡ true
   may_at x h = (and_parts (may_step s.setup x (account s (pass_of x))) (others_agree s x) (and_parts (account s (pass_of x)).live (may_step s.setup x (account s (pass_of x)) && others_agree s x) h).1).0
 
-  others_at : (x : Event) → is_enabled s x ≡ true → others_agree s x ≡ true
+  pub others_at : (x : Event) → is_enabled s x ≡ true → others_agree s x ≡ true
   others_at x h = (and_parts (may_step s.setup x (account s (pass_of x))) (others_agree s x) (and_parts (account s (pass_of x)).live (may_step s.setup x (account s (pass_of x)) && others_agree s x) h).1).1
 
   -- from books in balance, every enabled event leads to books in balance

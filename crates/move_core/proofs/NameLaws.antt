@@ -39,7 +39,7 @@ from-map P (m ∷ ms) h =
     (All-head P m.vertex (map (λ (m : Move). m.vertex) ms) h)
     (from-map P ms (All-tail P m.vertex (map (λ (m : Move). m.vertex) ms) h))
 
-times-named_at : (v : ℕ) (stage : Stage) → times v (named_at stage) ≤ times v (stage_vertices stage)
+pub times-named_at : (v : ℕ) (stage : Stage) → times v (named_at stage) ≤ times v (stage_vertices stage)
 times-named_at v Idle = omega arith
 times-named_at v (Refused u to seen) = omega arith
 times-named_at v (Granted u from to seen) = omega arith

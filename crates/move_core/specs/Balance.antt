@@ -240,6 +240,7 @@ pub record InBalance (s : Setup) (r : Readings) (accounts : List Account) : Type
 pub record IsSetup (s : Setup) : Type 0 where
   pub graph : IsHypergraph s.graph
   pub bounds : IsWithinLimits s.graph
+  pub blocks : s.blocks < 2 ^ 32
   pub opening : IsPartition s.graph s.blocks s.opening
   pub fits : Fits s.graph s.blocks s.limit s.opening
 

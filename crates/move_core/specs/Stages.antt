@@ -133,4 +133,3 @@ number_at Idle = []
 number_at (Refused v to seen) = []
 number_at (Granted v from to seen) = []
 number_at (Moving v from to number named raised lowered owed booked) = number ∷ []
-

@@ -1,6 +1,6 @@
-ghost use Rattle.std.specs.Prelude.{◌≡◌, ◌+◌, ◌^◌, ◌<◌, ◌+ℤ◌, FitsSigned};
+ghost use Rattle.std.specs.Prelude.{◌≡◌, ◌+◌, ◌^◌, ◌<◌, ◌+ℤ◌, ◌&&◌, not, nat_eq, FitsSigned};
 ghost use Rattle.std.specs.Int.{w64};
-ghost use Rattle.move_core.specs.Stages.{vertex_at, from_at, to_at, raised_at, lowered_at, booked_at, is_idle, owes_nothing, drawn_stage, named_stage, raised_stage, lowered_stage, booked_stage};
+ghost use Rattle.move_core.specs.Stages.{vertex_at, from_at, to_at, raised_at, lowered_at, booked_at, is_idle, is_reserved, is_granted, is_moving, owes_nothing, owes_up, owes_down, drawn_stage, named_stage, raised_stage, lowered_stage, booked_stage};
 
 use hg_defs::Move;
 use std::collections::LinkedList;
@@ -76,6 +76,24 @@ impl Owed {
             Owed::Up | Owed::Down => false,
         }
     }
+
+    fn is_up(self) -> bool
+        ensures { result ≡ owes_up self }
+    {
+        match self {
+            Owed::Up => true,
+            Owed::Nothing | Owed::Down => false,
+        }
+    }
+
+    fn is_down(self) -> bool
+        ensures { result ≡ owes_down self }
+    {
+        match self {
+            Owed::Down => true,
+            Owed::Nothing | Owed::Up => false,
+        }
+    }
 }
 
 impl Stage {
@@ -114,12 +132,91 @@ impl Stage {
         }
     }
 
+    pub(crate) fn raised_nets(self) -> u32
+        ensures { result ≡ raised_at self }
+    {
+        match self {
+            Stage::Moving { raised, .. } => raised,
+            Stage::Idle | Stage::Refused { .. } | Stage::Granted { .. } => 0,
+        }
+    }
+
+    pub(crate) fn lowered_nets(self) -> u32
+        ensures { result ≡ lowered_at self }
+    {
+        match self {
+            Stage::Moving { lowered, .. } => lowered,
+            Stage::Idle | Stage::Refused { .. } | Stage::Granted { .. } => 0,
+        }
+    }
+
     pub(crate) fn is_idle(self) -> bool
         ensures { result ≡ is_idle self }
     {
         match self {
             Stage::Idle => true,
             Stage::Refused { .. } | Stage::Granted { .. } | Stage::Moving { .. } => false,
+        }
+    }
+
+    // The tests on a stage.
+
+    pub(crate) fn is_reserved(self) -> bool
+        ensures { result ≡ is_reserved self }
+    {
+        match self {
+            Stage::Refused { .. } | Stage::Granted { .. } => true,
+            Stage::Idle | Stage::Moving { .. } => false,
+        }
+    }
+
+    pub(crate) fn is_granted(self) -> bool
+        ensures { result ≡ is_granted self }
+    {
+        match self {
+            Stage::Granted { .. } => true,
+            Stage::Idle | Stage::Refused { .. } | Stage::Moving { .. } => false,
+        }
+    }
+
+    pub(crate) fn is_unnamed(self) -> bool
+        ensures { result ≡ is_moving (λ named raised lowered owed. not named) self }
+    {
+        match self {
+            Stage::Moving { named, .. } => !named,
+            Stage::Idle | Stage::Refused { .. } | Stage::Granted { .. } => false,
+        }
+    }
+
+    pub(crate) fn is_lowering(self) -> bool
+        ensures { result ≡ is_moving (λ named raised lowered owed. owes_nothing owed && nat_eq raised (lowered + 1)) self }
+    {
+        match self {
+            Stage::Moving {
+                raised,
+                lowered,
+                owed,
+                ..
+            } => owed.is_nothing() && u64::from(raised) == u64::from(lowered) + 1,
+            Stage::Idle | Stage::Refused { .. } | Stage::Granted { .. } => false,
+        }
+    }
+
+    pub(crate) fn owes_up(self) -> bool
+        ensures { result ≡ is_moving (λ named raised lowered owed. owes_up owed) self }
+    {
+        match self {
+            Stage::Moving { owed, .. } => owed.is_up(),
+            Stage::Idle | Stage::Refused { .. } | Stage::Granted { .. } => false,
+        }
+    }
+
+    pub(crate) fn owes_down(self) -> bool
+        ensures { result ≡ is_moving (λ named raised lowered owed. owes_down owed) self }
+    {
+        match self {
+            Stage::Moving { owed, .. } => owed.is_down(),
+            Stage::Idle | Stage::Refused { .. } | Stage::Granted { .. } => false,
         }
     }
 
@@ -130,7 +227,10 @@ impl Stage {
     {
         match self {
             Stage::Granted {
-                vertex, from, to, ..
+                vertex,
+                from,
+                to,
+                ..
             } => Stage::Moving {
                 vertex,
                 from,

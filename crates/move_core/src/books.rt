@@ -1,6 +1,8 @@
-ghost use Rattle.std.specs.Prelude.{◌≡◌, ◌<◌, ◌≤◌, ◌^◌, ◌==◌, All, slice_index, IsTrue, length, ℕ};
+ghost use Rattle.std.specs.Prelude.{◌≡◌, ◌<◌, ◌≤◌, ◌^◌, ◌==◌, All, true, slice_index, IsTrue, length, ℕ};
 ghost use Rattle.hg_defs.specs.Hypergraph.{vertex_count, net_count};
 ghost use Rattle.move_core.specs.State.{readings, account, nets_of, count_place};
+ghost use Rattle.move_core.specs.Stages.{is_idle};
+ghost use Rattle.move_core.specs.Events.{holds_unmoved};
 ghost use Rattle.move_core.specs.Balance.{IsBooks};
 
 use crate::account::Stage;
@@ -136,10 +138,11 @@ impl Books {
         self.passes[pass as usize].moves()
     }
 
-    /// The stage of the pass.
+    /// The stage of the pass. As all books, these are in balance.
     pub fn stage(&self, pass: u32) -> Stage
         requires { pass < length self.now.accounts }
-        ensures { result ≡ (account self.now pass).stage }
+        ensures stage { result ≡ (account self.now pass).stage }
+        ensures balance { IsBooks self.now }
     {
         self.passes[pass as usize].stage()
     }
@@ -162,5 +165,15 @@ impl Books {
         ensures below { All (λ e. e < net_count self.now.setup.graph) result.now }
     {
         self.index[v as usize].slice()
+    }
+
+    /// Whether the pass holds the vertex and hasn't moved it; the pass must be idle.
+    pub(crate) fn holds_unmoved(&self, pass: u32, v: u32) -> bool
+        requires pass { pass < length self.now.accounts }
+        requires vertex { v < vertex_count self.now.setup.graph }
+        requires idle { is_idle (account self.now pass).stage ≡ true }
+        ensures { result ≡ holds_unmoved (account self.now pass) v }
+    {
+        self.passes[pass as usize].holds(v) && self.names[v as usize] == self.opening[v as usize]
     }
 }

@@ -6,9 +6,20 @@
 
 mod account;
 mod books;
+mod enabled;
 mod events;
+mod laws;
+mod machine;
 mod pass;
+mod prices;
+mod run;
+mod steps;
 
 pub use account::{Account, Owed, Stage};
 pub use books::Books;
 pub use events::{Event, Word};
+pub use laws::{
+    balance_is_kept, counts_are_pins, gains_are_savings, grants_are_within_limit,
+    vertices_move_once,
+};
+pub use run::RunEnd;

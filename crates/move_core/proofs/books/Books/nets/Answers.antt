@@ -1,5 +1,5 @@
 -- The index has the nets of each vertex.
-use Rattle.std.proofs.Common.{◌≡◌, ℕ, ◌<◌, All, List, length, ap, sym, subst, arith, ◌∙◌}
+use Rattle.std.proofs.Common.{◌≡◌, ◌<◌, All, length, ap, sym, subst, arith, ◌∙◌}
 use Rattle.std.proofs.lemmas.Grind.{get_or_default_zero}
 use Rattle.hg_defs.specs.Hypergraph.{vertex_count, net_count}
 use Rattle.move_core.specs.State.{State, nets_of}
@@ -34,6 +34,6 @@ pub returns-clause-below : goal.returns-clause-below
 returns-clause-below c =
     subst (All (λ e. e < net_count c.args.self.now.setup.graph)) (sym (are-nets c))
     (λ k d l.
-      let b = net_at-below c.args.self.now.setup.graph c.args.v k l in
-      let z = get_or_default_zero (nets_of c.args.self.now.setup.graph c.args.v) k d l in
-      omega arith)
+    let b = net_at-below c.args.self.now.setup.graph c.args.v k l in
+    let z = get_or_default_zero (nets_of c.args.self.now.setup.graph c.args.v) k d l in
+    omega arith)
