@@ -1,8 +1,8 @@
 -- Lists of events: whether each is enabled at its turn, and the state that they lead to.
 use Rattle.std.specs.Prelude.{◌≡◌, ◌<◌, length, take, slice_index_or, false, ℕ, List, [], ◌∷◌, Bool, true, ◌&&◌}
 use Rattle.move_core.specs.declared.events.Event.{Event}
-use Rattle.move_core.specs.declared.run.RunEnd.{RunEnd}
-use Rattle.move_core.specs.declared.run.RunEnd.TheVariants.{NotEnabled, NoMemory}
+use Rattle.move_core.specs.declared.runs.RunEnd.{RunEnd}
+use Rattle.move_core.specs.declared.runs.RunEnd.TheVariants.{NotEnabled, NoMemory}
 use Rattle.move_core.specs.State.{State}
 use Rattle.move_core.specs.Events.{is_enabled, found_of, after}
 

@@ -121,3 +121,7 @@ opened s passes =
       cursor = 0;
       accounts = replicate passes (blank true);
     }
+
+-- what a round of a hypergraph is over
+abbrev pub setup_of : Hyper → ℕ → ℕ → List ℕ → Setup
+setup_of h blocks limit p = record { graph = h; blocks = blocks; limit = limit; opening = p }

@@ -10,9 +10,10 @@ mod enabled;
 mod events;
 mod laws;
 mod machine;
+mod open;
 mod pass;
 mod prices;
-mod run;
+mod runs;
 mod steps;
 
 pub use account::{Account, Owed, Stage};
@@ -22,4 +23,4 @@ pub use laws::{
     balance_is_kept, counts_are_pins, gains_are_savings, grants_are_within_limit,
     vertices_move_once,
 };
-pub use run::RunEnd;
+pub use runs::{RunEnd, run};
