@@ -1,0 +1,5 @@
+pub mod Stages
+pub mod State
+pub mod Events
+pub mod Run
+pub mod Balance
