@@ -18,9 +18,8 @@ def main() -> None:
     lines = []
     for net in range(nets):
         mean = left / (nets - net)
-        size = left if net == nets - 1 else max(1, min(left, int(rng.expovariate(1 / mean) + 0.5)))
-        size = max(1, min(size, 64, left))
-        left -= size if left > size else 0
+        size = max(1, min(64, left - (nets - net - 1), int(rng.expovariate(1 / mean) + 0.5)))
+        left -= size
         centre = rng.randrange(vertices)
         fields = [str(rng.randrange(1, 100))] if weighted else []
         for place in range(size):
