@@ -183,7 +183,7 @@ fn partitions_and_evaluates(rt: HostRuntime) -> Result<(), Fail> {
 #[test]
 fn outcome_has_the_partition(rt: HostRuntime) -> Result<(), Fail> {
     let made = run_over(rt.alloc(), "partition g 2 0", PATH, b"", NONE)?;
-    let Some(outcome) = made.ended.outcome else {
+    let Some(outcome) = &made.ended.outcome else {
         return Err(Fail::from("no outcome"));
     };
     assert_eq!(rt; outcome.cost, 3);
