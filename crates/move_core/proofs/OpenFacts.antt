@@ -1,5 +1,5 @@
 -- One step of each loop that opens the books.
-use Rattle.std.proofs.Common.{◌≡◌, ℕ, ◌+◌, ◌*◌, ◌/◌, ◌%◌, ◌<◌, ◌≤◌, ◌⊎◌, inl, inr, Bool, true, false, if◌then◌else◌, nat_eq, nat_lt, List, [], ◌∷◌, ◌++◌, map, filter, length, get_or, get_or-set_same, get_or-set_other, set, slice_index, take, refl, sym, ap, ◌∙◌, arith}
+use Rattle.std.proofs.Common.{◌≡◌, ℕ, ◌+◌, ◌*◌, ◌/◌, ◌%◌, ◌<◌, ◌≤◌, ◌⊎◌, inl, inr, Bool, true, false, if◌then◌else◌, nat_eq, nat_lt, List, [], ◌∷◌, ◌++◌, map, filter, length, get_or, get_or-set_same, get_or-set_other, set, slice_index, take, All, refl, sym, ap, ◌∙◌, arith}
 use Rattle.std.specs.List.{range_with_len, flat_map}
 use Rattle.std.proofs.lemmas.Bool.{cases_eq, cases_lt, lt-ltb, le-ltb, eq-eqb, ne_eqb}
 use Rattle.std.proofs.lemmas.Nat.{same_from_place}
@@ -9,7 +9,7 @@ use Rattle.std.proofs.lemmas.Grind.{same_number_lists}
 use Rattle.std.proofs.Math.Nat.{mul-le-mul_left}
 use Rattle.move_core.proofs.OpenLaws.{length-opened_counts, opened-count}
 use Rattle.hg_defs.specs.Hypergraph.{Hyper, net_count, net_of}
-use Rattle.hg_defs.specs.Partition.{block_of, weight_in}
+use Rattle.hg_defs.specs.Partition.{block_of, weight_in, load, Fits}
 use Rattle.hg_defs.specs.Pins.{pins_in}
 use Rattle.hg_defs.proofs.SumLaws.{weight_in-take_more, weight_if, weight_if-same, weight_if-other, weight_if-le, total-le, total-ones, total-take_more, total_more-le}
 use Rattle.move_core.proofs.WriteLaws.{place-below}
@@ -21,6 +21,15 @@ use Rattle.std.proofs.Common.{replicate}
 use Rattle.std.proofs.lemmas.List.FromFn.{fill_by_all, length-map-range_with_len, get_or-map-range_with_len}
 
 -- ---- loads
+
+-- a partition fits where all of its loads are within the limit
+pub fits_by_all : (h : Hyper) (k l : ℕ) (p loads : List ℕ) → loads ≡ map (load h p) (range_with_len 0 k) → All (λ x. x ≤ l) loads → Fits h k l p
+fits_by_all h k l p loads e a b m =
+    let n = length-map-range_with_len (load h p) 0 k in
+    let w = ap length e in
+    let q = a b 0 (omega arith) in
+    let r = ap (λ xs. get_or xs b 0) e ∙ get_or-map-range_with_len (load h p) 0 k b b 0 m (omega arith) in
+    omega arith
 
 pub loads_more : (ws p loads : List ℕ) (v k x : ℕ) → length loads ≡ k → v < length ws → v < length p → slice_index p v < k → ((b : ℕ) → b < k → get_or loads b 0 ≡ weight_in (take v ws) (take v p) b) → x ≡ get_or loads (slice_index p v) 0 + slice_index ws v → (b : ℕ) → b < k → get_or (set loads (slice_index p v) x) b 0 ≡ weight_in (take (v + 1) ws) (take (v + 1) p) b
 loads_more ws p loads v k x w lw lp lk each e b lb =

@@ -31,6 +31,9 @@ run_of_push s (y ∷ xs) x = run_of_push (after s y) xs x
 pub after_setup : (s : State) (x : Event) → (after s x).setup ≡ s.setup
 after_setup s x = setup_written s (word_of s.setup x (account s (pass_of x))) (write_of s.setup x (account s (pass_of x)) (found_of s x))
 
+pub leads_setup : (s : State) (x : Event) (f : ℕ) (t : State) → Leads s x f t → t.setup ≡ s.setup
+leads_setup s x f t l = ap (λ (z : State). z.setup) l.state ∙ after_setup s x
+
 pub record IsMore (s t u : State) (xs : List Event) (i : ℕ) : Type 0 where
   pub enabled : all_enabled s (take (i + 1) xs) ≡ true
   pub state : u ≡ run_of s (take (i + 1) xs)

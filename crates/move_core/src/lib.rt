@@ -15,6 +15,8 @@ mod pass;
 mod prices;
 mod runs;
 mod steps;
+#[cfg(test)]
+mod tests;
 
 pub use account::{Account, Owed, Stage};
 pub use books::Books;

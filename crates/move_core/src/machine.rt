@@ -12,11 +12,13 @@ impl Books {
     /// there is no memory, nothing changes.
     ///
     /// The hypergraph must be the one that the books were made over.
+    #[tactic(auto, using(crate::proofs::RunLaws::leads_setup))]
     pub fn step(&mut self, h: &FlatHyper, event: Event) -> Result<u64, NoMemory>
         requires graph { h.now ≡ self.old.setup.graph }
         requires enabled { is_enabled self.old event ≡ true }
         ensures ok { IfOk result (λ found. Leads self.old event found self.new) }
         ensures err { OnErr result (self.new ≡ self.old) }
+        ensures setup { self.new.setup ≡ self.old.setup }
     {
         match event {
             Event::Claim { pass, vertex } => self.claim(pass, vertex),

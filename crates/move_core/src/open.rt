@@ -28,7 +28,12 @@ fn index_of(alloc: Global, h: &FlatHyper) -> Result<Vec<Verts>, NoMemory>
 }
 
 /// The load of each block.
-fn loads_of(alloc: Global, h: &FlatHyper, p: &[u32], k: u32) -> Result<Vec<u64>, NoMemory>
+pub(crate) fn loads_of(
+    alloc: Global,
+    h: &FlatHyper,
+    p: &[u32],
+    k: u32,
+) -> Result<Vec<u64>, NoMemory>
     requires { IsPartition h.now k p.now }
     ensures { IfOk result (λ loads. loads.items ≡ map (load h.now p.now) (range_with_len 0 k)) }
 {

@@ -20,6 +20,10 @@ pub enum RunEnd {
 }
 
 impl From<NoMemory> for RunEnd {
+    ghost use Rattle.move_core.specs.declared.runs.RunEnd.TheVariants.{NoMemory as no_memory};
+
+    ghost from_gives = { λ _ end. end ≡ no_memory };
+
     fn from(_error: NoMemory) -> Self {
         RunEnd::NoMemory
     }
@@ -33,6 +37,7 @@ impl Books {
         ensures enabled { OnOk result (all_enabled self.old events.now ≡ true) }
         ensures state { OnOk result (self.new ≡ run_of self.old events.now) }
         ensures refused { IfErr result (IsStoppedBy self.old events.now) }
+        ensures setup { self.new.setup ≡ self.old.setup }
     {
         let mut at = 0;
         for event in events {
@@ -71,6 +76,7 @@ pub fn run(
     ensures enabled { OnOk result (all_enabled (opened (setup_of h.now k limit p.now) passes) events.now ≡ true) }
     ensures state { IfOk result (λ books. books ≡ run_of (opened (setup_of h.now k limit p.now) passes) events.now) }
     ensures refused { IfErr result (IsStoppedBy (opened (setup_of h.now k limit p.now) passes) events.now) }
+    ensures setup { IfOk result (λ books. books.setup ≡ setup_of h.now k limit p.now) }
 {
     match Books::open(alloc, h, p, k, limit, passes) {
         Ok(mut books) => match books.make(h, events) {

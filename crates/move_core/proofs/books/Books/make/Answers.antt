@@ -1,6 +1,5 @@
 -- Each event is enabled at its turn, and leads to the state after it.
-use Rattle.std.proofs.Common.{◌+◌, ap, ◌∙◌, sym}
-use Rattle.move_core.specs.State.{Setup}
+use Rattle.std.proofs.Common.{◌+◌, ap, ◌∙◌}
 use Rattle.move_core.proofs.RunLaws.{made_more}
 use Rattle.move_core.proofs.books.Books.make.Goals as goal
 
@@ -10,7 +9,7 @@ loop-event-preserved c =
     let m = made_more c.args.self.now c.args.events.now c.loop-event.event-index _ c.loop-event-test.true c.loop-event.self c.step.new.self c.in-Ok._found o.ok c.loop-event.invariant.state c.loop-event.invariant.enabled in
     record {
       place = ap (λ n. n + 1) c.loop-event.invariant.place;
-      graph = c.loop-event.invariant.graph ∙ ap (λ (z : Setup). z.graph) (sym m.setup);
+      setup = m.setup ∙ c.loop-event.invariant.setup;
       enabled = m.enabled;
       state = m.state;
     }

@@ -5,7 +5,7 @@ use Rattle.move_core.proofs.books.Books.make.Given as goal
 abbrev pub invariant-loop-event : goal.invariant-loop-event
 invariant-loop-event l = record {
   place : l.at ≡ l.event-index;
-  graph : l.h ≡ l.self.setup.graph;
+  setup : l.self.setup ≡ l.fn.self.setup;
   enabled : all_enabled l.fn.self (take l.event-index l.events) ≡ true;
   state : l.self ≡ run_of l.fn.self (take l.event-index l.events);
 }
