@@ -1,3 +1,4 @@
 pub mod Rounds
 pub mod Passes
 pub mod Trace
+pub mod RoundLaws

@@ -134,7 +134,9 @@ impl Partition {
                 return Ok(rounds);
             }
             let after = self.cost(h);
-            log.push(swept(alloc, moves, before, after)?)?;
+            // The sweep reserved a place for each vertex; what is logged takes its moves' places alone.
+            let made = moves.copy()?;
+            log.push(swept(alloc, made, before, after)?)?;
             rounds += 1;
             before = after;
         }

@@ -14,7 +14,7 @@ returns-then-not-branch-clause-ok c =
 pub swept-requires-clause-few : goal.swept-requires-clause-few
 swept-requires-clause-few c =
     let p = c.loop-moves.self in
-    let moves = c.in_ok-sweep.ensures.log ∙ ap (λ (xs : List Move). xs ++ sweep c.args.h.now p.k p.limit p.blocks) c.new-moves.ensures in
+    let moves = c.in_ok-made.ensures ∙ c.in_ok-sweep.ensures.log ∙ ap (λ (xs : List Move). xs ++ sweep c.args.h.now p.k p.limit p.blocks) c.new-moves.ensures in
     let few = sweep_few c.args.h.now p.k p.limit p.blocks c.vertices-vertices.ensures.bounds in
     let len = ap length moves in
     omega arith
@@ -51,7 +51,7 @@ loop-moves-preserved c =
       number = let was = c.loop-moves.invariant.number in omega arith;
       added =
           settle_more c.args.h.now c.args.self.now c.loop-moves.self c.sweep.new.self c.loop-moves.invariant.same c.in_ok-sweep.ensures.after c.args.log.now c.loop-moves.log c.push.new.self c.loop-moves.rounds
-          c.sweep.new.log c.loop-moves.before c.cost-after.result c.in_ok-swept.field-0 (λ settled. true≢false (sym c.if-not-branch.false ∙ c.in_ok-sweep.ensures.settled.1 settled))
-          (c.in_ok-sweep.ensures.log ∙ ap (λ (xs : List Move). xs ++ sweep c.args.h.now c.loop-moves.self.k c.loop-moves.self.limit c.loop-moves.self.blocks) c.new-moves.ensures) before after c.in_ok-swept.ensures
+          c.in_ok-made.made c.loop-moves.before c.cost-after.result c.in_ok-swept.field-0 (λ settled. true≢false (sym c.if-not-branch.false ∙ c.in_ok-sweep.ensures.settled.1 settled))
+          (c.in_ok-made.ensures ∙ c.in_ok-sweep.ensures.log ∙ ap (λ (xs : List Move). xs ++ sweep c.args.h.now c.loop-moves.self.k c.loop-moves.self.limit c.loop-moves.self.blocks) c.new-moves.ensures) before after c.in_ok-swept.ensures
           c.in_ok-push.ensures.ok c.loop-moves.invariant.added;
     }
