@@ -1,3 +1,4 @@
 pub mod OrderLaws
 pub mod FewMoves
 pub mod RoundLaws
+pub mod Rows
