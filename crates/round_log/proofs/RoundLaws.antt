@@ -22,20 +22,20 @@ module _ (h : Hyper) (k l : ℕ) (p : List ℕ) (r : LoggedRound) (s : IsSwept h
   swept_to : after_round p r ≡ replay p (sweep h k l p)
   swept_to = ap (replay_first p r.moves) s.kept ∙ replay_first-all p r.moves ∙ ap (replay p) s.moves
 
-  swept_partition : IsPartition h k p → IsPartition h k (after_round p r)
+  pub swept_partition : IsPartition h k p → IsPartition h k (after_round p r)
   swept_partition w = subst (IsPartition h k) (sym swept_to) (replay-partition h k l p (sweep h k l p) w (sweep_allowed h k l p))
 
-  swept_obeys : Obeys h p → Obeys h (after_round p r)
+  pub swept_obeys : Obeys h p → Obeys h (after_round p r)
   swept_obeys o = subst (Obeys h) (sym swept_to) (replay-obeys h k l p (sweep h k l p) o (sweep_allowed h k l p))
 
-  swept_fits : IsPartition h k p → Fits h k l p → Fits h k l (after_round p r)
+  pub swept_fits : IsPartition h k p → Fits h k l p → Fits h k l (after_round p r)
   swept_fits w f = subst (Fits h k l) (sym swept_to) (replay-fits h k l p (sweep h k l p) w f (sweep_allowed h k l p))
 
   some_long : (xs : List Move) → xs ≢ [] → 0 < length xs
   some_long [] q = absurd (q refl)
   some_long (x ∷ xs) q = omega arith
 
-  swept_less : cost h (after_round p r) < cost h p
+  pub swept_less : cost h (after_round p r) < cost h p
   swept_less =
       subst (λ (q : List ℕ). cost h q < cost h p) (sym swept_to)
       (sweep_lowers h k l p (subst (λ (xs : List Move). 0 < length xs) s.moves (some_long r.moves s.some)))
