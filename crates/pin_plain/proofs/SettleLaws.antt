@@ -1,17 +1,16 @@
 -- Laws of the sweeps that settle a partition.
-use Rattle.std.proofs.Common.{◌≡◌, ◌≢◌, ◌⊎◌, inl, inr, ℕ, zero, suc, ◌+◌, ◌-◌, ◌<◌, ◌≤◌, ◌^◌, ◌≤ℤ◌, ◌<ℤ◌, ◌+ℤ◌, negsuc, nat_abs, FitsSigned, drop, get_or, All, to_z, of_z, Option, Some, None, option_map, option_to_list, Bool, true, false, List, [], ◌∷◌, ◌++◌, ℤ, pos, ◌-ℤ◌, length, take, refl, sym, ap, subst, ◌∙◌, arith}
+use Rattle.std.proofs.Common.{◌≡◌, ◌≢◌, inl, inr, ℕ, suc, ◌+◌, ◌<◌, ◌≤◌, ◌^◌, ◌≤ℤ◌, ◌<ℤ◌, negsuc, nat_abs, FitsSigned, drop, get_or, All, to_z, of_z, Option, Some, None, option_map, option_to_list, false, List, [], ◌∷◌, ◌++◌, ℤ, pos, ◌-ℤ◌, length, take, refl, sym, ap, subst, ◌∙◌, arith}
 use Rattle.std.proofs.lemmas.List.{append_assoc, append-nil, length-append, take_all}
 use Rattle.std.specs.Int.{w64}
 use Rattle.std.proofs.lemmas.Int.{ints, to_z-of_z}
 use Rattle.std.proofs.lemmas.List.Elements.{All-drop, All-head, All-tail}
 use Rattle.std.proofs.lemmas.List.FromFn.{length-range_with_len}
-use Rattle.std.specs.List.{range_with_len}
 use Rattle.hg_defs.specs.declared.moves.Move.{Move}
 use Rattle.hg_defs.specs.Sums.{total_z}
 use Rattle.hg_defs.specs.Hypergraph.{Hyper, IsWithinLimits, vertex_count, vertices}
 use Rattle.hg_defs.specs.Cost.{cost}
 use Rattle.hg_defs.specs.Replay.{replay}
-use Rattle.hg_defs.specs.Moves.{IsSettled, move_of, best_block, visit, visits, sweep}
+use Rattle.hg_defs.specs.Moves.{IsSettled, move_of, best_block, visits, sweep}
 use Rattle.hg_defs.proofs.SumLaws.{total_z-take-drop, total_z-take_more}
 use Rattle.hg_defs.proofs.MoveLaws.{sweep_best, empty_sweep, settled_sweep, sweep_saves, sweep_lowers}
 use Rattle.round_log.specs.declared.record.Kind.TheVariants.{Sweep}

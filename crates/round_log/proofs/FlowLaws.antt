@@ -1,13 +1,11 @@
 -- The laws over flow rounds.
-use Rattle.std.proofs.Common.{◌≡◌, ◌≢◌, ◌⊎◌, inl, inr, ℕ, ◌-◌, ◌<◌, ◌≤◌, Bool, true, false, ◌&&◌, not, nat_eq, nat_le, if◌then◌else◌, List, [], ◌∷◌, ◌++◌, length, filter, get_or, All, Contains, refl, sym, ap, subst, ◌∙◌, arith, nat_cmp}
-use Rattle.std.specs.Prelude.{slice_index}
+use Rattle.std.proofs.Common.{◌≡◌, ◌≢◌, ◌⊎◌, inl, inr, ℕ, ◌-◌, ◌<◌, Bool, true, false, ◌&&◌, not, nat_eq, nat_le, if◌then◌else◌, List, [], ◌∷◌, ◌++◌, length, filter, All, Contains, refl, sym, subst, ◌∙◌, arith}
 use Rattle.std.proofs.lemmas.Bool.{and_parts, eqb-true, cases_eq}
 use Rattle.std.proofs.lemmas.List.{get_or_default}
 use Rattle.std.proofs.lemmas.List.Elements.{All-nil, All-cons, All-head, All-tail, All-append, All-weaker, All-contains, All-contains_itself, filter_passes}
 use Rattle.std.proofs.lemmas.Cmp.{nat_cmp_total}
-use Rattle.hg_defs.specs.Hypergraph.{Hyper, IsFree, is_free, fix_of, vertex_count, vertices, weight_of}
-use Rattle.hg_defs.specs.Partition.{IsPartition, Obeys, block_of, load}
-use Rattle.hg_defs.specs.Cost.{cost}
+use Rattle.hg_defs.specs.Hypergraph.{Hyper, IsFree, is_free, fix_of, vertices, weight_of}
+use Rattle.hg_defs.specs.Partition.{block_of, load}
 use Rattle.hg_defs.proofs.SortLaws.{Contains_head, Contains_later, Contains-from_set_of, nat_cmp_exact}
 use Rattle.round_log.specs.declared.record.LoggedRound.{LoggedRound}
 use Rattle.round_log.specs.Rounds.{after_round, IsFlowRound, IsAssignment, is_near, is_next, taken, side, region}

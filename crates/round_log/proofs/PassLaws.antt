@@ -1,5 +1,5 @@
 -- The laws over passes: whatever each of their rounds keeps, they keep.
-use Rattle.std.proofs.Common.{◌≡◌, ◌≢◌, ◌⊎◌, inl, inr, ℕ, zero, suc, ◌+◌, ◌-◌, ◌<◌, ◌≤◌, Bool, true, false, nat_lt, if◌then◌else◌, List, [], ◌∷◌, ◌++◌, length, map, All, refl, sym, ap, subst, ◌∙◌, arith}
+use Rattle.std.proofs.Common.{inl, inr, ℕ, ◌+◌, ◌-◌, ◌<◌, ◌≤◌, Bool, true, false, nat_lt, if◌then◌else◌, List, [], ◌∷◌, map, All, sym, subst, arith}
 use Rattle.std.specs.List.{range_with_len, flat_map}
 use Rattle.std.proofs.lemmas.List.Concat.{flat_map-cons}
 use Rattle.std.proofs.lemmas.List.FromFn.{length-range_with_len, get_or-range_with_len}
@@ -122,9 +122,10 @@ module _ (h : Hyper) (k l : ℕ) where
   flow_rounds (pair ∷ pairs) p [] low s = tt
   flow_rounds (pair ∷ pairs) p (r ∷ rounds) low (inl s) = flow_rounds pairs p (r ∷ rounds) (All-tail (IsPair k) pair pairs low) s.1
   flow_rounds (pair ∷ pairs) p (r ∷ rounds) low (inr s) =
-      let here = All-head (IsPair k) pair pairs low in
-      ( flow_keeps h k l p r (subst (λ a. a < k) (sym s.2) here.0) (subst (λ b. b < k) (sym s.3) here.1) s.5
-      , flow_rounds pairs (after_round p r) rounds (All-tail (IsPair k) pair pairs low) s.6 )
+      let here = All-head (IsPair k) pair pairs low in (
+        flow_keeps h k l p r (subst (λ a. a < k) (sym s.2) here.0) (subst (λ b. b < k) (sym s.3) here.1) s.5,
+        flow_rounds pairs (after_round p r) rounds (All-tail (IsPair k) pair pairs low) s.6,
+      )
 
 pub pass_keeps : (kind : Kind) (h : Hyper) (k l workers : ℕ) (p : List ℕ) (rounds : List LoggedRound) → IsPass kind h k l workers p rounds → AllKeep h k l p rounds
 pass_keeps Label h k l workers p rounds s = label_rounds h k l workers 0 true p rounds s

@@ -1,10 +1,9 @@
 -- The laws over sweeps and raced rounds.
-use Rattle.std.proofs.Common.{◌≡◌, ◌≢◌, ℕ, ◌<◌, ◌≤◌, List, [], ◌∷◌, length, take, All, refl, sym, ap, subst, ◌∙◌, arith}
+use Rattle.std.proofs.Common.{◌≡◌, ◌≢◌, ℕ, ◌<◌, List, [], ◌∷◌, length, take, All, refl, sym, ap, subst, ◌∙◌, arith}
 use Rattle.std.proofs.lemmas.List.Elements.{All-take}
 use Rattle.hg_defs.specs.declared.moves.Move.{Move}
-use Rattle.hg_defs.specs.Hypergraph.{Hyper, IsFree, fix_of, vertex_count}
-use Rattle.hg_defs.specs.declared.objective.TheConstants.{FREE}
-use Rattle.hg_defs.specs.Partition.{IsPartition, Fits, Obeys, block_of}
+use Rattle.hg_defs.specs.Hypergraph.{Hyper, IsFree}
+use Rattle.hg_defs.specs.Partition.{IsPartition, Fits, Obeys}
 use Rattle.hg_defs.specs.Cost.{cost}
 use Rattle.hg_defs.specs.Moves.{IsSettled, sweep}
 use Rattle.hg_defs.specs.Replay.{replay, replay_first}
@@ -12,7 +11,7 @@ use Rattle.hg_defs.specs.ReplayLaws.{IsBestPrefix}
 use Rattle.hg_defs.proofs.MoveLaws.{settled_sweep, sweep_lowers, sweep_allowed, replay-partition, replay-obeys, replay-fits}
 use Rattle.hg_defs.proofs.ReplayLaws.{replay_first-all, length-replay, replay-blocks, replay-apart, best_prefix_is}
 use Rattle.round_log.specs.declared.record.LoggedRound.{LoggedRound}
-use Rattle.round_log.specs.Rounds.{after_round, after_rounds, IsSwept, IsRaced, IsMove}
+use Rattle.round_log.specs.Rounds.{after_round, IsSwept, IsRaced, IsMove}
 use Rattle.round_log.specs.Trace.{AreSweeps}
 use Rattle.round_log.specs.RoundLaws.{SweepsEndSettled, SweepsAreReplayed, SweepsLeadToOne, SweepsLeavePartition, SweepsLeaveFixes, SweepsStayWithinLimit, SweepsRaiseNoCost, SweepsLowerCost, RacedRoundLeavesPartition, RacedRoundLeavesFixes, RacedRoundStaysWithinLimit, RacedRoundRaisesNoCost, RacedRoundKeepsBest, RacedRoundKeepsCheapest}
 

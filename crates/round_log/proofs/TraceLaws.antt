@@ -1,17 +1,17 @@
 -- The laws over whole descents.
-use Rattle.std.proofs.Common.{◌≡◌, ◌≢◌, ◌⊎◌, inl, inr, ℕ, zero, suc, ◌+◌, ◌<◌, ◌≤◌, List, [], ◌∷◌, ◌++◌, length, refl, sym, ap, subst, ◌∙◌, arith}
-use Rattle.std.specs.Prelude.{slice_index, slice_index_or, None}
+use Rattle.std.proofs.Common.{◌≡◌, ◌⊎◌, inl, inr, ℕ, zero, suc, ◌<◌, ◌≤◌, List, [], ◌∷◌, ◌++◌, length, refl, sym, ap, subst, ◌∙◌, arith}
+use Rattle.std.specs.Prelude.{slice_index_or}
 use Rattle.std.specs.List.{range_with_len}
 use Rattle.std.proofs.lemmas.Bool.{cases_lt}
 use Rattle.std.proofs.lemmas.List.{length-map}
 use Rattle.std.proofs.lemmas.List.FromFn.{length-range_with_len}
-use Rattle.hg_defs.specs.Hypergraph.{Hyper, IsHypergraph, IsFixedWithin, vertex_count}
+use Rattle.hg_defs.specs.Hypergraph.{Hyper, IsHypergraph}
 use Rattle.hg_defs.specs.Partition.{IsPartition, Fits, Obeys, weight_in}
 use Rattle.hg_defs.specs.Cost.{cost}
-use Rattle.hg_defs.specs.LeastLoaded.{greedy, overfills}
-use Rattle.hg_defs.specs.Contraction.{contract, after, IsFull, IsApart}
+use Rattle.hg_defs.specs.LeastLoaded.{greedy}
+use Rattle.hg_defs.specs.Contraction.{contract, after, IsApart}
 use Rattle.hg_defs.specs.ContractionLaws.{IsContractible}
-use Rattle.hg_defs.specs.Clustering.{cluster_count, IsClustering}
+use Rattle.hg_defs.specs.Clustering.{cluster_count}
 use Rattle.hg_defs.proofs.ContractionLaws.{hypergraph_kept, partition_projected, fitting_projected, fixes_projected, cost_kept}
 use Rattle.hg_defs.proofs.PlacementLaws.{greedy-partition, greedy-obeys, greedy-fits}
 use Rattle.round_log.specs.declared.record.Kind.TheVariants.{Label, Search, Flow}
@@ -20,8 +20,8 @@ use Rattle.round_log.specs.declared.record.Chosen.TheVariants.{Levels, Greedy}
 use Rattle.round_log.specs.declared.record.LoggedRound.{LoggedRound}
 use Rattle.round_log.specs.declared.record.Trace.{Trace}
 use Rattle.round_log.specs.Rounds.{after_round, after_rounds}
-use Rattle.round_log.specs.Trace.{Task, level, AreContracted, IsGoodClustering, IsRefined, Refined, IsDescent, IsChoice, AreSweeps, IsLegal, limit_of_task}
-use Rattle.round_log.specs.TraceLaws.{IsPlaceable, IsSettledPartition, TraceEndsSettled, DescentRaisesNoCost, TraceEndsBelowLast, TraceEndsBelowGreedy}
+use Rattle.round_log.specs.Trace.{Task, level, AreContracted, IsGoodClustering, IsRefined, Refined, IsDescent, IsLegal, limit_of_task}
+use Rattle.round_log.specs.TraceLaws.{IsPlaceable, TraceEndsSettled, DescentRaisesNoCost, TraceEndsBelowLast, TraceEndsBelowGreedy}
 use Rattle.round_log.proofs.RoundLaws.{sweeps-partition, sweeps-obeys, sweeps-fits, sweeps-settled, sweeps-no_dearer}
 use Rattle.round_log.proofs.PassLaws.{AllKeep, pass_keeps, rounds-partition, rounds-obeys, rounds-fits, rounds-no_dearer}
 

@@ -4,7 +4,7 @@ use Rattle.hg_defs.specs.Hypergraph.{Hyper, IsFree}
 use Rattle.hg_defs.specs.Partition.{IsPartition, Fits, Obeys, block_of}
 use Rattle.hg_defs.specs.Cost.{cost}
 use Rattle.hg_defs.specs.Moves.{IsSettled}
-use Rattle.hg_defs.specs.Replay.{replay, replay_first}
+use Rattle.hg_defs.specs.Replay.{replay_first}
 use Rattle.round_log.specs.declared.record.Kind.{Kind}
 use Rattle.round_log.specs.declared.record.LoggedRound.{LoggedRound}
 use Rattle.round_log.specs.Rounds.{after_round, after_rounds, IsRaced, IsFlowRound, region}

@@ -1,8 +1,7 @@
-use Rattle.std.proofs.Common.{◌≡◌, ◌-◌, ◌^◌, All, pos, ◌≤ℤ◌, ◌<ℤ◌, ◌+◌, ◌++◌, ◌<◌, ◌≤◌, ◌∙◌, ℕ, List, length, sym, ap, subst, arith, true≢false}
+use Rattle.std.proofs.Common.{◌-◌, ◌^◌, All, pos, ◌≤ℤ◌, ◌<ℤ◌, ◌++◌, ◌∙◌, List, length, sym, ap, subst, arith, true≢false}
 use Rattle.hg_defs.specs.declared.moves.Move.{Move}
 use Rattle.hg_defs.specs.Sums.{total_z}
 use Rattle.hg_defs.specs.Moves.{sweep}
-use Rattle.pin_plain.specs.Parted.{Parted}
 use Rattle.pin_plain.proofs.SettleLaws.{sweep_gains, sweep_bound, sweep_after, settle_after, sweep_few, settle_less, settle_end, settle_more}
 use Rattle.pin_plain.proofs.SweepLaws.{same_step}
 use Rattle.pin_plain.proofs.partition.Partition.settle.Goals as goal
