@@ -1,5 +1,5 @@
 -- What sweeps make of greedy placement.
-use Rattle.std.proofs.Common.{◌≡◌, ◌≤◌, ℕ, List, [], subst, ap, arith}
+use Rattle.std.proofs.Common.{◌≡◌, ℕ, List, subst, ap, arith}
 use Rattle.hg_defs.specs.Hypergraph.{Hyper}
 use Rattle.hg_defs.specs.Cost.{cost}
 use Rattle.round_log.specs.declared.record.LoggedRound.{LoggedRound}

@@ -1,4 +1,4 @@
-use Rattle.std.proofs.Common.{◌≡◌, List, ℕ, ap, sym, subst, ◌∙◌}
+use Rattle.std.proofs.Common.{List, ℕ, ap, sym, subst, ◌∙◌}
 use Rattle.hg_defs.specs.Hypergraph.{Hyper}
 use Rattle.pin_plain.specs.Parted.{Parted}
 use Rattle.part_run.specs.Answers.{IsPlaced}
