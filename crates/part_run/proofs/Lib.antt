@@ -4,3 +4,4 @@ pub mod FreeGraph
 pub mod Flushed
 pub mod Unplaced
 pub mod Nonempty
+pub mod Swept

@@ -1,12 +1,15 @@
 -- What a run may answer: for each way to end its cause, what was read, and what was written.
-use Rattle.std.specs.Prelude.{◌≡◌, ◌≢◌, ℕ, ◌+◌, List, [], Option, Some, None, Ok, ◌⊎◌}
+use Rattle.std.specs.Prelude.{◌≡◌, ◌≢◌, ℕ, ◌+◌, ◌≤◌, List, [], Option, Some, None, Ok, ◌⊎◌}
 use Rattle.std.specs.Io.KnownBytes.{Appends, Keeps}
 use Rattle.hg_defs.specs.Hypergraph.{Hyper, vertex_count, total_weight}
 use Rattle.hg_defs.specs.Partition.{IsPartition, Obeys, Fits, limit}
 use Rattle.hg_defs.specs.Cost.{cost}
 use Rattle.hg_defs.specs.LeastLoaded.{greedy, overfills}
+use Rattle.hg_defs.specs.Moves.{IsSettled}
 use Rattle.hg_io.specs.Faults.{Rose}
 use Rattle.hg_io.specs.Transfers.{AppendsPrefix}
+use Rattle.round_log.specs.declared.record.LoggedRound.{LoggedRound}
+use Rattle.round_log.specs.Trace.{AreSweeps}
 use Rattle.part_text.specs.Part.{part_text}
 use Rattle.part_text.specs.Entries.{spelled_part}
 use Rattle.hg_make.specs.Made.{made}
@@ -90,13 +93,25 @@ IsInputRefusal p old new status =
 abbrev pub limit_for : Partitioning → Hyper → ℕ
 limit_for p h = limit (total_weight h) p.k p.eps
 
--- the partition that is written: greedy placement, with one block for each vertex, where it is fixed and within the limit
-pub record IsResult (p : Partitioning) (h : Hyper) (blocks : List ℕ) : Type 0 where
+-- greedy placement, which passes the limit nowhere
+pub record IsPlaced (p : Partitioning) (h : Hyper) (blocks : List ℕ) : Type 0 where
   pub greedy : blocks ≡ greedy h p.k
   pub placed : overfills h p.k (limit_for p h) ≡ None
   pub partition : IsPartition h p.k blocks
   pub obeys : Obeys h blocks
   pub fits : Fits h p.k (limit_for p h) blocks
+
+-- the partition that is written: one block for each vertex, where it is fixed and within the limit, which no single allowed move makes cheaper.
+-- It is where sweeps lead from greedy placement
+pub record IsResult (p : Partitioning) (h : Hyper) (blocks : List ℕ) : Type 0 where
+  pub placed : overfills h p.k (limit_for p h) ≡ None
+  pub sweeps : List LoggedRound
+  pub swept : AreSweeps h p.k (limit_for p h) (greedy h p.k) sweeps blocks
+  pub partition : IsPartition h p.k blocks
+  pub obeys : Obeys h blocks
+  pub fits : Fits h p.k (limit_for p h) blocks
+  pub settled : IsSettled h p.k (limit_for p h) blocks
+  pub no_dearer : cost h blocks ≤ cost h (greedy h p.k)
 
 -- why a hypergraph gets no partition: greedy placement passes the limit at a vertex, numbered from 1, or there was no memory
 abbrev pub IsPlaceRefusal : Partitioning → Hyper → Status → Type 0

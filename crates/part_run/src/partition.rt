@@ -1,22 +1,25 @@
 //! The command `partition`: from a graph to a partition and its report.
 
 ghost use Rattle.std.specs.Prelude.{◌≡◌, ◌≤◌, MatchResult, ◌≢◌, [], IfOk, OnErr, All, length};
-ghost use Rattle.hg_defs.specs.Hypergraph.{IsFixedWithin, IsHypergraph, IsWithinLimits, total_weight, vertex_count};
+ghost use Rattle.hg_defs.specs.Hypergraph.{IsFixedWithin, IsHypergraph, IsWithinLimits, Suits, total_weight, vertex_count};
 ghost use Rattle.hg_defs.specs.Partition.{IsPartition};
 ghost use Rattle.hg_io.specs.Faults.{HasCause};
 ghost use Rattle.hg_io.specs.Transfers.{PutsAll};
 ghost use Rattle.part_text.specs.Part.{part_text};
 ghost use Rattle.part_run.specs.Reads.{IsFixedBy, IsFixRefusal};
-ghost use Rattle.part_run.specs.Answers.{Inputs, Outputs, IsAccepted, IsInputRefusal, IsResult, IsPlaceRefusal, IsWritten, IsWriteRefusal, IsPartitioned, IsPartitionRefused, IsUnused, limit_for, report_for};
+ghost use Rattle.part_run.specs.Answers.{Inputs, Outputs, IsAccepted, IsInputRefusal, IsPlaced, IsResult, IsPlaceRefusal, IsWritten, IsWriteRefusal, IsPartitioned, IsPartitionRefused, IsUnused, limit_for, report_for};
 ghost use Rattle.part_run.specs.Spelled.{partitioning_of};
 
 use crate::evaluate::write_evaluation;
 use crate::reading::{read_fixes, read_graph};
 use crate::words::Partitioning;
 use crate::{Outcome, Status};
-use hg_base::{Blocks, FREE, FlatHyper, GreedyEnd, cost_of, greedy, limit_of};
+use hg_base::{Blocks, FREE, FlatHyper, GreedyEnd, NoMemory, greedy, limit_of};
 use hg_io::{Failed, Sink, Source};
+use incidence::Hypergraph;
 use part_text::put_part;
+use pin_plain::Partition;
+use round_log::RoundList;
 use std::alloc::Global;
 
 /// Fixes each vertex as the list says, whose entries are `FREE` or blocks.
@@ -74,6 +77,7 @@ fn accept<S: Source, X: Source>(
         (IsAccepted (partitioning_of p.now) old new)
         (IsInputRefusal (partitioning_of p.now) old new) }
     ensures within { IfOk result (λ h. IsFixedWithin h p.now.k) }
+    ensures suits { IfOk result (λ h. Suits h p.now.k) }
     ensures graph_later { S.faults graph.old ≤ S.faults graph.new }
     ensures extra_later { X.faults extra.old ≤ X.faults extra.new }
 {
@@ -94,13 +98,47 @@ fn place(alloc: Global, p: &Partitioning<'_>, h: &FlatHyper, limit: u64) -> Resu
     requires sound { IsHypergraph h.now }
     requires bounds { IsWithinLimits h.now }
     ensures answer { MatchResult result
-        (IsResult (partitioning_of p.now) h.now)
+        (IsPlaced (partitioning_of p.now) h.now)
         (IsPlaceRefusal (partitioning_of p.now) h.now) }
 {
     match greedy(alloc, h, p.k, limit) {
         Ok(blocks) => Ok(blocks),
         Err(GreedyEnd::Overfills { vertex }) => Err(Status::Unplaced { vertex: vertex + 1 }),
         Err(GreedyEnd::NoMemory) => Err(Status::NoMemory),
+    }
+}
+
+/// Greedy placement, swept until no single allowed move makes it cheaper.
+fn settle(
+    alloc: Global,
+    p: &Partitioning<'_>,
+    h: &Hypergraph,
+    limit: u64,
+) -> Result<Partition, Status>
+    requires least_k { 2 ≤ p.now.k }
+    requires most_k { p.now.k ≤ 256 }
+    requires fixed { IsFixedWithin h.now p.now.k }
+    requires suits { Suits h.now p.now.k }
+    requires limit { limit ≡ limit_for (partitioning_of p.now) h.now }
+    ensures answer { MatchResult result
+        (λ q. IsResult (partitioning_of p.now) h.now q.blocks)
+        (IsPlaceRefusal (partitioning_of p.now) h.now) }
+    ensures hyper { IfOk result (λ q. q.hyper ≡ h.now) }
+    ensures blocks { IfOk result (λ q. q.k ≡ p.now.k) }
+{
+    let _vertices = h.vertices();
+    let blocks = match place(alloc, p, h.flat(), limit) {
+        Ok(blocks) => blocks,
+        Err(status) => return Err(status),
+    };
+    let mut partition = match Partition::of(alloc, h, p.k, limit, blocks) {
+        Ok(partition) => partition,
+        Err(NoMemory) => return Err(Status::NoMemory),
+    };
+    let mut sweeps = RoundList::new(alloc);
+    match partition.settle(alloc, h, &mut sweeps) {
+        Ok(_) => Ok(partition),
+        Err(NoMemory) => Err(Status::NoMemory),
     }
 }
 
@@ -159,7 +197,7 @@ fn write_blocks<K: Sink>(out: &mut K, blocks: &[u32]) -> Result<(), Failed>
     out.flush()
 }
 
-/// Partitions: reads what the words name, places, and writes the partition and its report.
+/// Partitions: reads what the words name, places, sweeps, and writes the partition and its report.
 pub(crate) fn partition<S: Source, X: Source, K: Sink, R: Sink>(
     alloc: Global,
     p: &Partitioning<'_>,
@@ -203,18 +241,23 @@ pub(crate) fn partition<S: Source, X: Source, K: Sink, R: Sink>(
     ensures out_later { K.faults out.old ≤ K.faults out.new }
     ensures report_later { R.faults report.old ≤ R.faults report.new }
 {
-    let h = match accept(alloc, p, graph, extra) {
+    let flat = match accept(alloc, p, graph, extra) {
+        Ok(flat) => flat,
+        Err(status) => return Err(status),
+    };
+    let limit = limit_of(flat.total_weight(), p.k, p.eps);
+    let h = match Hypergraph::build(alloc, flat) {
         Ok(h) => h,
+        Err(NoMemory) => return Err(Status::NoMemory),
+    };
+    let partition = match settle(alloc, p, &h, limit) {
+        Ok(partition) => partition,
         Err(status) => return Err(status),
     };
-    let limit = limit_of(h.total_weight(), p.k, p.eps);
-    let blocks = match place(alloc, p, &h, limit) {
-        Ok(blocks) => blocks,
-        Err(status) => return Err(status),
-    };
-    match deliver(p, &h, blocks.slice(), out, report) {
+    match deliver(p, h.flat(), partition.blocks(), out, report) {
         Ok(()) => {
-            let cost = cost_of(&h, blocks.slice(), p.k);
+            let cost = partition.cost(&h);
+            let blocks = partition.into_blocks();
             Ok(Outcome { blocks, cost })
         }
         Err(status) => Err(status),

@@ -112,15 +112,29 @@ fn partitions_and_evaluates(rt: HostRuntime) -> Result<(), Fail> {
             "partition g 2 0 workers=1 seed=7",
             FIRST,
             "",
-            "0\n1\n0\n1\n0\n1\n0\n",
-            "vertices 7\nnets 4\nweight 7\nblocks 2\nlimit 4\ncost 20\nload 0 4\nload 1 3\nfits yes\n",
+            "1\n1\n0\n1\n0\n1\n0\n",
+            "vertices 7\nnets 4\nweight 7\nblocks 2\nlimit 4\ncost 18\nload 0 3\nload 1 4\nfits yes\n",
+        ),
+        (
+            "partition g 2 0 cost=soed",
+            FIRST,
+            "",
+            "1\n1\n0\n1\n0\n1\n0\n",
+            "vertices 7\nnets 4\nweight 7\nblocks 2\nlimit 4\nobjective soed\ncost 36\nload 0 3\nload 1 4\nfits yes\n",
         ),
         (
             "partition g 2 0 fix=f",
             FIRST,
             "0\n-1\n-1\n1\n-1\n-1\n1\n",
-            "0\n0\n0\n1\n1\n0\n1\n",
-            "vertices 7\nnets 4\nweight 7\nblocks 2\nlimit 4\ncost 18\nload 0 4\nload 1 3\nfits yes\n",
+            "0\n0\n0\n1\n1\n1\n1\n",
+            "vertices 7\nnets 4\nweight 7\nblocks 2\nlimit 4\ncost 10\nload 0 3\nload 1 4\nfits yes\n",
+        ),
+        (
+            "partition g 2 0 fix=f",
+            FIRST,
+            "0\n0\n0\n1\n1\n1\n0\n",
+            "0\n0\n0\n1\n1\n1\n0\n",
+            "vertices 7\nnets 4\nweight 7\nblocks 2\nlimit 4\ncost 10\nload 0 4\nload 1 3\nfits yes\n",
         ),
         (
             "partition g 2 0.334",
@@ -182,12 +196,12 @@ fn partitions_and_evaluates(rt: HostRuntime) -> Result<(), Fail> {
 
 #[test]
 fn outcome_has_the_partition(rt: HostRuntime) -> Result<(), Fail> {
-    let made = run_over(rt.alloc(), "partition g 2 0", PATH, b"", NONE)?;
+    let made = run_over(rt.alloc(), "partition g 2 0", FIRST, b"", NONE)?;
     let Some(outcome) = &made.ended.outcome else {
         return Err(Fail::from("no outcome"));
     };
-    assert_eq!(rt; outcome.cost, 3);
-    assert_eq!(rt; outcome.blocks.slice(), [0, 1, 0, 1].as_slice());
+    assert_eq!(rt; outcome.cost, 18);
+    assert_eq!(rt; outcome.blocks.slice(), [1, 1, 0, 1, 0, 1, 0].as_slice());
     Ok(())
 }
 
@@ -292,7 +306,7 @@ fn refused_runs_write_nothing(rt: HostRuntime) -> Result<(), Fail> {
 
 #[test]
 fn failing_ends(rt: HostRuntime) -> Result<(), Fail> {
-    let text = b"0\n1\n0\n1\n0\n1\n0\n";
+    let text = b"1\n1\n0\n1\n0\n1\n0\n";
     for call in 1..=6 {
         let fails = Fails {
             out: call,

@@ -1,13 +1,12 @@
 -- The best block of a vertex by the scores of the blocks.
-use Rattle.std.proofs.Common.{◌≡◌, ◌≢◌, ◌⊎◌, inl, inr, ℕ, ◌+◌, ◌-◌, ◌<◌, ◌≤◌, ◌^◌, Option, Some, None, option_map, is_some, true, true≢false, IfSome, List, [], length, get_or, slice_index, ℤ, pos, ◌-ℤ◌, ◌<ℤ◌, ◌≤ℤ◌, All, refl, sym, ap, subst, ◌∙◌, arith}
+use Rattle.std.proofs.Common.{◌≡◌, ◌≢◌, ℕ, ◌+◌, ◌-◌, ◌<◌, ◌≤◌, ◌^◌, Option, Some, None, option_map, is_some, true, true≢false, IfSome, List, [], get_or, slice_index, ℤ, pos, ◌-ℤ◌, ◌<ℤ◌, ◌≤ℤ◌, All, refl, sym, ap, subst, ◌∙◌, arith}
 use Rattle.std.proofs.lemmas.Int.{ints}
 use Rattle.hg_defs.specs.Sums.{total}
-use Rattle.hg_defs.specs.Hypergraph.{Hyper, IsHypergraph, IsWithinLimits, IsFree, vertex_count, net_count, net_of, weight_of, fix_of}
+use Rattle.hg_defs.specs.Hypergraph.{Hyper, IsWithinLimits, IsFree, vertex_count, net_of, weight_of, fix_of}
 use Rattle.hg_defs.specs.declared.objective.TheConstants.{FREE}
-use Rattle.hg_defs.specs.Partition.{IsPartition, block_of, load}
+use Rattle.hg_defs.specs.Partition.{block_of}
 use Rattle.hg_defs.specs.Cost.{cost}
 use Rattle.hg_defs.specs.Moves.{IsAllowed, IsSettled, moved, gain, best_block}
-use Rattle.hg_defs.specs.MoveLaws.{IsBestBlock}
 use Rattle.hg_defs.proofs.MoveLaws.{best_block_is, only_best_block, no_best_block}
 use Rattle.hg_defs.proofs.SumLaws.{total-zero, weight_in-le}
 use Rattle.std.proofs.lemmas.List.{get_or_default}

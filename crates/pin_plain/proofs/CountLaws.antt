@@ -1,14 +1,13 @@
 -- Laws of the counts of all nets: where they stand, and what a change of one net's words leaves.
-use Rattle.std.proofs.Common.{◌≡◌, ◌≢◌, ◌⊎◌, inl, inr, ℕ, zero, suc, ◌+◌, ◌-◌, ◌*◌, ◌/◌, ◌%◌, ◌^◌, ◌<◌, ◌≤◌, Bool, true, false, ◌||◌, cond, if◌then◌else◌, nat_eq, nat_lt, nat_le, List, [], ◌∷◌, length, filter, take, All, Contains, slice_index, get_or, slice_set, refl, sym, ap, ◌∙◌, subst, arith, true≢false}
-use Rattle.std.proofs.lemmas.Bool.{eqb-true, eqb-false, ne_eqb, eq-eqb, ltb-true, ltb-false, lt-ltb, leb-true, leb-false, cases_eq, cases_lt}
+use Rattle.std.proofs.Common.{◌≡◌, ◌≢◌, ◌⊎◌, inl, inr, ℕ, ◌+◌, ◌*◌, ◌/◌, ◌%◌, ◌^◌, ◌<◌, ◌≤◌, Bool, true, false, ◌||◌, cond, if◌then◌else◌, nat_eq, nat_lt, nat_le, List, [], ◌∷◌, length, filter, take, All, Contains, slice_index, get_or, slice_set, refl, sym, ap, ◌∙◌, subst, arith, true≢false}
+use Rattle.std.proofs.lemmas.Bool.{eqb-true, eqb-false, ne_eqb, eq-eqb, ltb-true, ltb-false, lt-ltb, leb-true, cases_eq, cases_lt}
 use Rattle.hg_base.specs.Packed.{IsWidth, fields_of, bits_of, words_of, field}
-use Rattle.hg_defs.specs.Sums.{sum_below}
 use Rattle.hg_defs.specs.Hypergraph.{Hyper, IsHypergraph, vertex_count, net_count, net_of, Suits}
 use Rattle.hg_defs.specs.Partition.{IsPartition, block_of}
 use Rattle.hg_defs.specs.Pins.{pins_in}
 use Rattle.hg_defs.specs.Moves.{moved}
 use Rattle.std.specs.Set.{is_member}
-use Rattle.std.specs.List.{range_with_len, list_any}
+use Rattle.std.specs.List.{range_with_len}
 use Rattle.std.specs.List.Sorted.{IsStrictlyIncreasing}
 use Rattle.incidence.specs.Incidence.{is_on, nets_of}
 use Rattle.hg_defs.proofs.SumLaws.{sum_below_more, sum_below-le, sum_below-constant, weight_if}

@@ -1,6 +1,6 @@
 -- A gain by the pin counts: what the nets of the vertex save, less what they lose.
-use Rattle.std.proofs.Common.{◌≡◌, ◌≢◌, ◌⊎◌, inl, inr, ℕ, zero, suc, ◌+◌, ◌-◌, ◌*◌, ◌<◌, ◌≤◌, Bool, true, false, not, ◌&&◌, if◌then◌else◌, nat_eq, nat_lt, List, [], ◌∷◌, length, map, All, Contains, get_or, slice_index, slice_set, ℤ, pos, ◌+ℤ◌, ◌-ℤ◌, refl, sym, ap, ◌∙◌, subst, arith}
-use Rattle.std.proofs.lemmas.Bool.{eqb-true, eqb-false, ne_eqb, eq-eqb, ltb-true, ltb-false, lt-ltb}
+use Rattle.std.proofs.Common.{◌≡◌, ◌≢◌, ℕ, zero, suc, ◌+◌, ◌*◌, ◌<◌, ◌≤◌, Bool, true, false, not, ◌&&◌, if◌then◌else◌, nat_eq, nat_lt, List, [], ◌∷◌, length, map, All, Contains, get_or, slice_set, pos, ◌-ℤ◌, refl, sym, ap, ◌∙◌, subst, arith}
+use Rattle.std.proofs.lemmas.Bool.{eqb-true, eqb-false, ne_eqb, eq-eqb, ltb-true, ltb-false}
 use Rattle.std.proofs.lemmas.List.{length-set}
 use Rattle.std.proofs.lemmas.List.Elements.{All-set, filter_passes}
 use Rattle.std.proofs.lemmas.Bool.Decides.{Decides-eqb}
@@ -9,20 +9,20 @@ use Rattle.std.proofs.lemmas.Int.{ints}
 use Rattle.std.specs.List.{range_with_len}
 use Rattle.hg_defs.specs.declared.objective.Objective.{Objective}
 use Rattle.hg_defs.specs.declared.objective.Objective.TheVariants.{Connectivity, CutNet, ExternalDegree}
-use Rattle.hg_defs.specs.Sums.{total, total_z, sum_below}
-use Rattle.hg_defs.specs.Hypergraph.{Net, Hyper, IsNet, IsHypergraph, vertex_count, net_count, net_of}
+use Rattle.hg_defs.specs.Sums.{total, sum_below}
+use Rattle.hg_defs.specs.Hypergraph.{Hyper, IsNet, IsHypergraph, vertex_count, net_count, net_of}
 use Rattle.hg_defs.specs.Partition.{IsPartition, block_of}
-use Rattle.hg_defs.specs.Cost.{connectivity, price, cut_price, net_cost, cost}
+use Rattle.hg_defs.specs.Cost.{connectivity, price}
 use Rattle.hg_defs.specs.Pins.{pins_in, present}
 use Rattle.hg_defs.specs.Moves.{moved, gain}
 use Rattle.hg_defs.specs.MoveLaws.{connectivity_after, net_gain}
 use Rattle.hg_defs.proofs.SumLaws.{sum_below-only, sum_below-change, sum_below-zero_each, sum_below_at-le, total_z-difference, total_z-same}
-use Rattle.hg_defs.proofs.DistinctLaws.{present-zero, present-positive, pins_in-sum, connectivity-sum, pins_in-set_new, pins_in-set_old, connectivity-set, blocks_of_pins, pins_in-times, times_of-positive, Contains-map, connectivity-positive}
+use Rattle.hg_defs.proofs.DistinctLaws.{present-zero, present-positive, pins_in-sum, connectivity-sum, pins_in-set_new, connectivity-set, blocks_of_pins, pins_in-times, times_of-positive, Contains-map, connectivity-positive}
 use Rattle.hg_defs.proofs.SortLaws.{Contains-nil}
 use Rattle.hg_defs.proofs.MoveLaws.{gain_is_local}
 use Rattle.incidence.specs.Incidence.{is_on, nets_of}
 use Rattle.incidence.proofs.IndexLaws.{nets_of-below}
-use Rattle.pin_plain.specs.Savings.{joined, left, parted, saved, lost, net_saved, net_lost}
+use Rattle.pin_plain.specs.Savings.{saved, lost, net_saved, net_lost}
 
 -- ---- the price of a net, by the number of blocks
 

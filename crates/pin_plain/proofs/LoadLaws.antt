@@ -1,5 +1,5 @@
 -- Laws of the loads that a partition keeps.
-use Rattle.std.proofs.Common.{◌≡◌, ◌≢◌, ◌⊎◌, inl, inr, ℤ, pos, ◌-ℤ◌, ◌^◌, ℕ, ◌+◌, ◌-◌, ◌<◌, ◌≤◌, List, ◌++◌, All, length, map, take, drop, get_or, slice_index, slice_set, refl, sym, ap, subst, ◌∙◌, arith}
+use Rattle.std.proofs.Common.{◌≡◌, ◌≢◌, ◌⊎◌, inl, inr, pos, ◌-ℤ◌, ◌^◌, ℕ, ◌+◌, ◌-◌, ◌<◌, ◌≤◌, List, ◌++◌, All, length, take, drop, get_or, slice_index, slice_set, refl, sym, ap, subst, ◌∙◌, arith}
 use Rattle.std.proofs.lemmas.List.{length-set, length-map, get_or-set_same, get_or-set_other}
 use Rattle.std.proofs.lemmas.Bool.{cases_eq}
 use Rattle.std.proofs.lemmas.Int.{ints}
@@ -14,7 +14,7 @@ use Rattle.std.proofs.lemmas.List.FromFn.{length-map-range_with_len}
 use Rattle.hg_defs.specs.Moves.{moved}
 use Rattle.hg_defs.proofs.SumLaws.{weight_in-take_more, weight_if-same, weight_if-other}
 use Rattle.hg_defs.proofs.MoveLaws.{load-moved_new, load-moved_old, load-moved_other}
-use Rattle.pin_plain.specs.Parted.{IsLoaded, IsParted, IsKept, KeepsCost, loads_after}
+use Rattle.pin_plain.specs.Parted.{IsLoaded, IsKept, KeepsCost, loads_after}
 use Rattle.pin_plain.specs.Counts.{HoldsCounts, counts_of}
 use Rattle.incidence.proofs.IndexLaws.{written_back}
 use Rattle.std.proofs.lemmas.List.Elements.{All-set, All-map}

@@ -1,18 +1,18 @@
 -- Laws of what nets save and lose: by the counts that are read, and their bounds.
-use Rattle.std.proofs.Common.{◌≡◌, ◌≢◌, ◌⊎◌, inl, inr, ℕ, zero, suc, ◌+◌, ◌-◌, ◌*◌, ◌/◌, ◌%◌, ◌<◌, ◌≤◌, ◌^◌, Bool, true, false, cond, not, ◌&&◌, if◌then◌else◌, nat_eq, nat_lt, List, [], ◌∷◌, length, filter, All, take, drop, get_or, slice_index, refl, sym, ap, subst, ◌∙◌, arith}
+use Rattle.std.proofs.Common.{◌≡◌, ◌≢◌, ◌⊎◌, inl, inr, ℕ, zero, suc, ◌+◌, ◌-◌, ◌*◌, ◌/◌, ◌%◌, ◌<◌, ◌≤◌, ◌^◌, Bool, true, false, cond, not, ◌&&◌, if◌then◌else◌, nat_eq, nat_lt, List, [], ◌∷◌, length, filter, All, take, drop, get_or, slice_index, sym, ap, subst, ◌∙◌, arith}
 use Rattle.std.specs.List.{range_with_len}
 use Rattle.hg_base.specs.Packed.{fields_of, bits_of, words_of, field}
 use Rattle.hg_defs.specs.declared.objective.Objective.{Objective}
 use Rattle.hg_defs.specs.declared.objective.Objective.TheVariants.{Connectivity, CutNet, ExternalDegree}
-use Rattle.hg_defs.specs.Sums.{total, sum_below}
-use Rattle.hg_defs.specs.Hypergraph.{Net, Hyper, IsWithinLimits, net_count, net_of, total_net_weight}
-use Rattle.hg_defs.specs.Pins.{pins_in, present}
-use Rattle.hg_defs.proofs.SumLaws.{total-filter, total-le, total-scale, total-range, total-by_index, total-take-le, total_more-le}
+use Rattle.hg_defs.specs.Sums.{total}
+use Rattle.hg_defs.specs.Hypergraph.{Hyper, IsWithinLimits, net_count, net_of, total_net_weight}
+use Rattle.hg_defs.specs.Pins.{pins_in}
+use Rattle.hg_defs.proofs.SumLaws.{total-filter, total-le, total-scale, total-range, total-by_index, total_more-le}
 use Rattle.hg_defs.specs.Partition.{block_of}
-use Rattle.hg_defs.proofs.DistinctLaws.{present-le, present-zero, blocks_of_pins}
+use Rattle.hg_defs.proofs.DistinctLaws.{present-le, blocks_of_pins}
 use Rattle.incidence.specs.Incidence.{is_on, nets_of}
 use Rattle.pin_plain.specs.Counts.{count_at, net_bits, net_words, net_start, counts_of}
-use Rattle.pin_plain.specs.Savings.{joined, left, parted, saved, lost, net_saved, net_lost}
+use Rattle.pin_plain.specs.Savings.{saved, lost, net_saved, net_lost}
 use Rattle.pin_plain.specs.Parted.{IsTold}
 use Rattle.pin_plain.proofs.CountLaws.{fields_enough, all_words-le, part_inside, count_same, net_part, pins_in-two}
 use Rattle.pin_plain.proofs.TallyLaws.{none_past}

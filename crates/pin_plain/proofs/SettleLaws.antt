@@ -1,15 +1,18 @@
 -- Laws of the sweeps that settle a partition.
-use Rattle.std.proofs.Common.{◌≡◌, ◌≢◌, ◌⊎◌, inl, inr, ℕ, zero, suc, ◌+◌, ◌-◌, ◌<◌, ◌≤◌, ◌^◌, Option, Some, None, option_map, option_to_list, Bool, true, false, List, [], ◌∷◌, ◌++◌, ℤ, pos, ◌-ℤ◌, length, take, refl, sym, ap, subst, ◌∙◌, arith}
+use Rattle.std.proofs.Common.{◌≡◌, ◌≢◌, inl, inr, ℕ, suc, ◌+◌, ◌<◌, ◌≤◌, ◌^◌, ◌≤ℤ◌, ◌<ℤ◌, negsuc, nat_abs, FitsSigned, drop, get_or, All, to_z, of_z, Option, Some, None, option_map, option_to_list, false, List, [], ◌∷◌, ◌++◌, ℤ, pos, ◌-ℤ◌, length, take, refl, sym, ap, subst, ◌∙◌, arith}
 use Rattle.std.proofs.lemmas.List.{append_assoc, append-nil, length-append, take_all}
+use Rattle.std.specs.Int.{w64}
+use Rattle.std.proofs.lemmas.Int.{ints, to_z-of_z}
+use Rattle.std.proofs.lemmas.List.Elements.{All-drop, All-head, All-tail}
 use Rattle.std.proofs.lemmas.List.FromFn.{length-range_with_len}
-use Rattle.std.specs.List.{range_with_len}
 use Rattle.hg_defs.specs.declared.moves.Move.{Move}
 use Rattle.hg_defs.specs.Sums.{total_z}
 use Rattle.hg_defs.specs.Hypergraph.{Hyper, IsWithinLimits, vertex_count, vertices}
 use Rattle.hg_defs.specs.Cost.{cost}
 use Rattle.hg_defs.specs.Replay.{replay}
-use Rattle.hg_defs.specs.Moves.{IsSettled, move_of, best_block, visit, visits, sweep}
-use Rattle.hg_defs.proofs.MoveLaws.{empty_sweep, settled_sweep, sweep_saves, sweep_lowers}
+use Rattle.hg_defs.specs.Moves.{IsSettled, move_of, best_block, visits, sweep}
+use Rattle.hg_defs.proofs.SumLaws.{total_z-take-drop, total_z-take_more}
+use Rattle.hg_defs.proofs.MoveLaws.{sweep_best, empty_sweep, settled_sweep, sweep_saves, sweep_lowers}
 use Rattle.round_log.specs.declared.record.Kind.TheVariants.{Sweep}
 use Rattle.round_log.specs.declared.record.LoggedRound.{LoggedRound}
 use Rattle.round_log.specs.Rounds.{after_round, IsSwept}
@@ -44,6 +47,64 @@ some_long (x ∷ xs) q = omega arith
 
 pub sweep_less : (h : Hyper) (k l : ℕ) (p : List ℕ) → (IsSettled h k l p → ⊥) → cost h (replay p (sweep h k l p)) < cost h p
 sweep_less h k l p unsettled = sweep_lowers h k l p (some_long (sweep h k l p) (sweep_some h k l p unsettled))
+
+-- ---- what moves save
+
+not_negative : (moves : List Move) → All (λ m. pos 0 ≤ℤ m.booked) moves → pos 0 ≤ℤ total_z (λ (m : Move). m.booked) moves
+not_negative [] a = omega (arith, ints)
+not_negative (m ∷ moves) a =
+    let x = All-head (λ (n : Move). pos 0 ≤ℤ n.booked) m moves a in
+    let y = not_negative moves (All-tail (λ (n : Move). pos 0 ≤ℤ n.booked) m moves a) in
+    omega (arith, ints)
+
+-- the first moves save no more than all of them
+pub saved_first : (moves : List Move) (i : ℕ) → All (λ m. pos 0 ≤ℤ m.booked) moves → total_z (λ (m : Move). m.booked) (take i moves) ≤ℤ total_z (λ (m : Move). m.booked) moves
+saved_first moves i a =
+    let whole = total_z-take-drop (λ (m : Move). m.booked) moves i in
+    let rest = not_negative (drop i moves) (All-drop (λ (m : Move). pos 0 ≤ℤ m.booked) i moves a) in
+    omega (arith, ints)
+
+-- a gain below 2^57 is what is read of it
+small-fits : (z : ℤ) → pos 0 ≤ℤ z → z <ℤ pos (2 ^ 57) → FitsSigned w64 z
+small-fits z low high = omega (arith, ints)
+
+pub gain_read : (z : ℤ) → pos 0 ≤ℤ z → z <ℤ pos (2 ^ 57) → pos (nat_abs (to_z w64 (of_z w64 z))) ≡ z
+gain_read z low high = ap (λ (x : ℤ). pos (nat_abs x)) (to_z-of_z w64 z (small-fits z low high)) ∙ whole z low
+  where
+    whole : (z : ℤ) → pos 0 ≤ℤ z → pos (nat_abs z) ≡ z
+    whole (pos n) low = refl
+    whole (negsuc n) low = absurd (omega (arith, ints))
+
+-- the saving after one move more
+pub saved_more : (moves : List Move) (i saved : ℕ) (d : Move) → i < length moves → All (λ m. pos 0 ≤ℤ m.booked) moves → total_z (λ (m : Move). m.booked) moves <ℤ pos (2 ^ 57)
+    → pos saved ≡ total_z (λ (m : Move). m.booked) (take i moves)
+    → (pos (saved + nat_abs (to_z w64 (of_z w64 (get_or moves i d).booked))) ≡ total_z (λ (m : Move). m.booked) (take (i + 1) moves))
+    × (saved + nat_abs (to_z w64 (of_z w64 (get_or moves i d).booked)) < 2 ^ 57)
+saved_more moves i saved d low gains bound so_far =
+    let more = total_z-take_more (λ (m : Move). m.booked) moves i d low in
+    let before = saved_first moves i gains in
+    let after = saved_first moves (i + 1) gains in
+    let gain = gains i d low in
+    let none : pos 0 ≤ℤ total_z (λ (m : Move). m.booked) (take i moves) = subst (λ (z : ℤ). pos 0 ≤ℤ z) so_far (omega (arith, ints)) in
+    let same = gain_read (get_or moves i d).booked gain (omega (arith, ints)) in
+    (omega (arith, ints), omega (arith, ints))
+
+pub sweep_gains : (h : Hyper) (k l : ℕ) (p : List ℕ) → All (λ (m : Move). pos 0 ≤ℤ m.booked) (sweep h k l p)
+sweep_gains h k l p i d low =
+    let best = sweep_best h k l p i d low in
+    let gains = best.best.gains in
+    subst (λ (z : ℤ). pos 0 ≤ℤ z) (sym best.booked) (omega (arith, ints))
+
+pub sweep_bound : (h : Hyper) (k l : ℕ) (p : List ℕ) → cost h p < 2 ^ 57 → total_z (λ (m : Move). m.booked) (sweep h k l p) <ℤ pos (2 ^ 57)
+sweep_bound h k l p small = let all = sweep_saves h k l p in omega (arith, ints)
+
+-- the cost after a sweep is the cost before it less what its moves save
+pub sweep_after : (h : Hyper) (k l : ℕ) (p : List ℕ) (moves : List Move) (saved : ℕ) → moves ≡ sweep h k l p → pos saved ≡ total_z (λ (m : Move). m.booked) moves
+    → cost h (replay p (sweep h k l p)) + saved ≡ cost h p
+sweep_after h k l p moves saved e s =
+    let all = sweep_saves h k l p in
+    let same = ap (total_z (λ (m : Move). m.booked)) e in
+    omega (arith, ints)
 
 -- ---- its round
 
@@ -133,6 +194,9 @@ module _ (h : Hyper) (first now new : Parted) (same : now ≡ record first { blo
 
   pub settle_less : (IsSettled h now.k now.limit now.blocks → ⊥) → cost h new.blocks < cost h now.blocks
   settle_less unsettled = subst (λ (q : List ℕ). cost h q < cost h now.blocks) (sym new_blocks) (sweep_less h now.k now.limit now.blocks unsettled)
+
+  pub settle_after : (moves : List Move) (saved : ℕ) → moves ≡ sweep h now.k now.limit now.blocks → pos saved ≡ total_z (λ (m : Move). m.booked) moves → cost h new.blocks + saved ≡ cost h now.blocks
+  settle_after moves saved e s = subst (λ (q : List ℕ). cost h q + saved ≡ cost h now.blocks) (sym new_blocks) (sweep_after h now.k now.limit now.blocks moves saved e s)
 
   pub settle_end : (old logged : List LoggedRound) (number : ℕ) → IsSettled h now.k now.limit now.blocks → AddsSweeps h first.k first.limit first.blocks now.blocks old logged number → Settles h first.k first.limit first.blocks new.blocks old logged number
   settle_end old logged number settled added =

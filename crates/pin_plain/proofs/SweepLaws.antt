@@ -1,9 +1,9 @@
 -- Laws of a sweep, vertex by vertex.
-use Rattle.std.proofs.Common.{◌≡◌, ◌≢◌, ◌⊎◌, inl, inr, ℕ, suc, ◌+◌, ◌-◌, ◌<◌, ◌≤◌, List, [], ◌∷◌, ◌++◌, Option, Some, None, option_map, option_to_list, Bool, true, false, nat_lt, length, refl, sym, ap, subst, ◌∙◌, arith}
+use Rattle.std.proofs.Common.{◌≡◌, ℕ, suc, ◌+◌, ◌-◌, ◌<◌, ◌≤◌, List, [], ◌∷◌, ◌++◌, Option, option_map, option_to_list, Bool, true, false, nat_lt, length, refl, sym, ap, subst, ◌∙◌, arith}
 use Rattle.std.proofs.lemmas.List.{append_assoc, append-nil, length-append}
 use Rattle.std.specs.List.{range_with_len}
 use Rattle.hg_defs.specs.declared.moves.Move.{Move}
-use Rattle.hg_defs.specs.Hypergraph.{Hyper, vertex_count, vertices}
+use Rattle.hg_defs.specs.Hypergraph.{Hyper, vertex_count}
 use Rattle.hg_defs.specs.Replay.{replay}
 use Rattle.hg_defs.specs.Moves.{IsSettled, move_of, best_block, visit, visits, sweep}
 use Rattle.pin_plain.specs.Parted.{Parted}

@@ -4,7 +4,6 @@ use Rattle.hg_defs.specs.declared.objective.Objective.{Objective}
 use Rattle.hg_defs.specs.declared.objective.Objective.TheVariants.{Connectivity, CutNet, ExternalDegree}
 use Rattle.hg_defs.specs.Hypergraph.{Hyper, net_of}
 use Rattle.hg_defs.specs.Pins.{pins_in, present}
-use Rattle.hg_defs.specs.Partition.{block_of}
 
 -- 1 where the pin is the last that the new block lacks
 abbrev pub joined : ℕ → ℕ → ℕ

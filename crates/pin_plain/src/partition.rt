@@ -125,6 +125,13 @@ impl Partition {
         self.blocks.slice()
     }
 
+    /// Gives the block of each vertex, in the same memory.
+    pub fn into_blocks(self) -> Blocks
+        ensures { result ≡ self.blocks }
+    {
+        self.blocks
+    }
+
     /// The number of blocks.
     pub fn k(&self) -> u32
         ensures { result ≡ self.now.k }

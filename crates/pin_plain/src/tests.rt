@@ -1,4 +1,4 @@
-ghost use Rattle.std.specs.Prelude.{◌≡◌, ◌≤◌, ◌<◌, IfOk};
+ghost use Rattle.std.specs.Prelude.{◌≡◌, ◌≤◌, ◌<◌, ◌^◌, All, length, IfOk};
 ghost use Rattle.hg_defs.specs.Hypergraph.{vertex_count, net_count};
 
 use super::*;
@@ -32,6 +32,30 @@ fn path(alloc: Global) -> Result<Hypergraph, NoMemory>
     flat.push_net(1, &[2, 3])?;
     flat.push_net(1, &[3, 4])?;
     flat.push_net(1, &[4, 5])?;
+    Hypergraph::build(alloc, flat)
+}
+
+/// The numbers below `n`.
+fn numbers(alloc: Global, n: u32) -> Result<Vec<u32>, NoMemory>
+    ensures below { IfOk result (λ ns. All (λ v. v < n) ns.items) }
+    ensures count { IfOk result (λ ns. length ns.items ≡ n) }
+{
+    let mut numbers = Vec::with_capacity(alloc, n as usize)?;
+    for v in 0..n {
+        numbers.push(v)?;
+    }
+    Ok(numbers)
+}
+
+/// So many vertices, and one net of weight 3 that holds them all.
+fn one_net(alloc: Global, vertices: u32) -> Result<Hypergraph, NoMemory>
+    requires { vertices ≤ 2 ^ 22 }
+    ensures vertices { IfOk result (λ h. vertex_count h ≡ vertices) }
+    ensures nets { IfOk result (λ h. net_count h ≡ 1) }
+{
+    let mut flat = FlatHyper::start(alloc, vertices)?;
+    let pins = numbers(alloc, vertices)?;
+    flat.push_net(3, pins.as_slice())?;
     Hypergraph::build(alloc, flat)
 }
 
@@ -118,6 +142,7 @@ fn one_sweep(rt: HostRuntime) -> Result<(), Fail> {
     assert_eq!(rt; (p.weight(0), p.weight(1)), (3, 4));
     assert_eq!(rt; (p.count(1, 0), p.count(1, 1)), (2, 2));
     assert!(rt; !p.sweep(rt.alloc(), &h, &mut log)?);
+    assert_eq!(rt; p.into_blocks().slice(), [1, 1, 0, 1, 0, 1, 0].as_slice());
     Ok(())
 }
 
@@ -160,6 +185,35 @@ fn fixed_vertices_stay(rt: HostRuntime) -> Result<(), Fail> {
     assert_eq!(rt; p.settle(rt.alloc(), &h, &mut log)?, 0);
     assert_eq!(rt; p.cost(&h), 10);
     assert_eq!(rt; p.blocks(), blocks.as_slice());
+    Ok(())
+}
+
+/// A net of so many pins in one block, of which one and then another go to block `to`.
+fn leave_one_by_one(rt: &impl Abort, alloc: Global, pins: u32, to: u32) -> Result<(), Fail>
+    requires some { 2 ≤ pins }
+    requires few { pins ≤ 2 ^ 22 }
+    requires block { to < 5 }
+{
+    let h = one_net(alloc, pins)?;
+    let zeros = vec![in alloc; 0u32; pins as usize]?;
+    let mut p = parted(rt, alloc, &h, 5, u64::from(pins), zeros.as_slice())?;
+    assert_eq!(rt; (p.count(0, 0), p.count(0, to)), (pins, 0));
+    assert_eq!(rt; p.gain(&h, 0, to), -3);
+    p.shift(&h, 0, to);
+    assert_eq!(rt; (p.count(0, 0), p.count(0, to)), (pins - 1, 1));
+    assert_eq!(rt; p.gain(&h, 1, to), 0);
+    p.shift(&h, 1, to);
+    assert_eq!(rt; (p.count(0, 0), p.count(0, to)), (pins - 2, 2));
+    assert_eq!(rt; (p.cost(&h), p.weight(to)), (3, 2));
+    Ok(())
+}
+
+#[test]
+fn counts_of_wide_nets(rt: HostRuntime) -> Result<(), Fail> {
+    // The last width of 16 bits, and the first of 32, at the end of a word and at its beginning.
+    for (pins, to) in [(65_535, 3), (65_536, 1), (65_536, 4)] {
+        leave_one_by_one(&rt, rt.alloc(), pins, to)?;
+    }
     Ok(())
 }
 

@@ -1,3 +1,5 @@
 pub mod Rounds
 pub mod Passes
 pub mod Trace
+pub mod RoundLaws
+pub mod TraceLaws

@@ -117,17 +117,15 @@ pub record IsStart (h : Hyper) (task : Task) (l : ℕ) (trace : Trace) : Type 0 
       → cost (level h trace.maps trace.start) trace.first ≤ cost (level h trace.maps trace.start) p)
       (named (level h trace.maps trace.start) task.k task.seed)
 
--- what all traces have in common, for the clusterings and the rounds of a level that are asked for
-pub record IsDescended (good : Hyper → List ℕ → Type 0) (refined : Refined) (h : Hyper) (task : Task) (l : ℕ) (trace : Trace) (q : List ℕ) : Type 0 where
+-- what all traces have in common, for the clusterings and the rounds of a level that are asked for, and for the partition of the file that is swept
+pub record IsDescended (good : Hyper → List ℕ → Type 0) (refined : Refined) (h : Hyper) (task : Task) (l : ℕ) (trace : Trace) (swept q : List ℕ) : Type 0 where
   pub maps : AreContracted good h task.k trace.maps
   pub stop : IsStop good (coarsest h trace.maps) task.k trace.stop
   pub level_rounds : List LoggedRound
   pub sweeps : List LoggedRound
-  pub swept : List ℕ
   pub rounds_are : trace.rounds ≡ level_rounds ++ sweeps
   pub descent : IsDescent refined h trace.maps trace.start trace.first level_rounds trace.last
   pub last_obeys : Obeys h trace.last
-  pub choice : IsChoice h task.k trace.last trace.chosen swept
   pub settled : AreSweeps h task.k l swept sweeps q
   pub obeys : Obeys h q
 
@@ -137,6 +135,8 @@ limit_of_task h task = limit (total_weight h) task.k task.eps
 -- the trace of a run that ends with the partition q
 pub record IsLegal (h : Hyper) (task : Task) (trace : Trace) (q : List ℕ) : Type 0 where
   pub start : IsStart h task (limit_of_task h task) trace
+  pub swept : List ℕ
+  pub choice : IsChoice h task.k trace.last trace.chosen swept
   pub descended : IsDescended
       (IsGoodClustering task.k)
       (λ g number. IsRefined g task (limit_of_task h task) number)
@@ -144,4 +144,5 @@ pub record IsLegal (h : Hyper) (task : Task) (trace : Trace) (q : List ℕ) : Ty
       task
       (limit_of_task h task)
       trace
+      swept
       q

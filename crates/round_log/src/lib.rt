@@ -4,6 +4,7 @@
 //! `specs/`: `Rounds`, `Passes` and `Trace`.
 #![tactic(auto)]
 
+pub mod laws;
 mod order;
 mod record;
 #[cfg(test)]

@@ -1,6 +1,7 @@
 //! Sweeps over all vertices, until no single move helps.
 
-ghost use Rattle.std.specs.Prelude.{◌≡◌, ◌≢◌, ℕ, ◌+◌, ◌*◌, ◌<◌, ◌≤◌, ◌^◌, List, [], ◌∷◌, ◌++◌, length, ℤ, pos, ◌-ℤ◌, false, IsTrue, ◌↔◌, IfOk, IfSome, OnOk, OnErr, option_map, option_to_list};
+ghost use Rattle.std.specs.Prelude.{◌≡◌, ◌≢◌, ℕ, ◌+◌, ◌*◌, ◌<◌, ◌≤◌, ◌^◌, List, [], ◌∷◌, ◌++◌, length, All, ℤ, pos, ◌-ℤ◌, ◌≤ℤ◌, ◌<ℤ◌, false, IsTrue, ◌↔◌, IfOk, IfSome, OnOk, OnErr, option_map, option_to_list};
+ghost use Rattle.hg_defs.specs.Sums.{total_z};
 ghost use Rattle.hg_defs.specs.Hypergraph.{vertex_count};
 ghost use Rattle.hg_defs.specs.Replay.{replay};
 ghost use Rattle.hg_defs.specs.Moves as sweeps;
@@ -133,12 +134,27 @@ impl Partition {
             if !self.sweep(alloc, h, &mut moves)? {
                 return Ok(rounds);
             }
-            let after = self.cost(h);
-            log.push(swept(alloc, moves, before, after)?)?;
+            let after = before - saved_by(moves.slice());
+            // The sweep reserved a place for each vertex; what is logged takes its moves' places alone.
+            let made = moves.copy()?;
+            log.push(swept(alloc, made, before, after)?)?;
             rounds += 1;
             before = after;
         }
     }
+}
+
+/// What moves save together, none of which is booked with a loss.
+fn saved_by(moves: &[Move]) -> u64
+    requires gains { All (λ m. pos 0 ≤ℤ m.booked) moves.now }
+    requires bound { total_z (λ m. m.booked) moves.now <ℤ pos (2 ^ 57) }
+    ensures { pos result ≡ total_z (λ m. m.booked) moves.now }
+{
+    let mut saved = 0;
+    for step in moves {
+        saved += step.booked as u64;
+    }
+    saved
 }
 
 /// The round of a sweep of the file's hypergraph.

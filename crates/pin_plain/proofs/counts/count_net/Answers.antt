@@ -1,4 +1,4 @@
-use Rattle.std.proofs.Common.{◌≢◌, ◌+◌, ◌/◌, ◌<◌, ◌∙◌, length, take, slice_index, arith}
+use Rattle.std.proofs.Common.{◌∙◌, take, slice_index, arith}
 use Rattle.std.proofs.lemmas.List.{length-take-le}
 use Rattle.hg_defs.specs.Partition.{block_of}
 use Rattle.hg_defs.proofs.SumLaws.{total-take_more, weight_if}

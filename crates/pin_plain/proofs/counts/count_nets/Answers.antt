@@ -1,6 +1,6 @@
-use Rattle.std.proofs.Common.{◌≡◌, ◌+◌, ◌/◌, ◌<◌, ◌∙◌, ℕ, length, slice_index, get_or, ap, arith}
+use Rattle.std.proofs.Common.{◌≡◌, ◌∙◌, length, slice_index, get_or, ap, arith}
 use Rattle.hg_base.specs.Packed.{bits_of}
-use Rattle.pin_plain.specs.Counts.{net_bits, net_start}
+use Rattle.pin_plain.specs.Counts.{net_bits}
 use Rattle.pin_plain.proofs.CountLaws.{all_words-le, part_inside, counted_net}
 use Rattle.pin_plain.proofs.counts.count_nets.Goals as goal
 

@@ -1,9 +1,9 @@
-use Rattle.std.proofs.Common.{◌≡◌, ◌+◌, ◌/◌, ◌<◌, ◌≤◌, ◌^◌, ◌∙◌, ℕ, length, take, slice_index, refl, ap, subst, arith}
+use Rattle.std.proofs.Common.{◌≡◌, ◌≤◌, ◌^◌, ◌∙◌, length, slice_index, refl, ap, subst, arith}
 use Rattle.std.proofs.lemmas.List.{take_all}
 use Rattle.hg_base.specs.Packed.{bits_of}
 use Rattle.hg_defs.specs.Moves.{moved}
 use Rattle.pin_plain.specs.Counts.{net_bits, HoldsCounts, counts_between}
-use Rattle.pin_plain.proofs.CountLaws.{all_words-le, part_inside, pin_held, pin_room, pin_moved, all_moved, at_net}
+use Rattle.pin_plain.proofs.CountLaws.{all_words-le, part_inside, pin_held, pin_room, pin_moved, all_moved}
 use Rattle.pin_plain.proofs.counts.move_pin.Goals as goal
 
 pub lower-requires-clause-inside : goal.lower-requires-clause-inside

@@ -1,4 +1,4 @@
-use Rattle.std.proofs.Common.{◌≡◌, ◌+◌, ◌*◌, ◌∙◌, ℕ, length, take, slice_index, refl, sym, ap, arith}
+use Rattle.std.proofs.Common.{◌∙◌, length, slice_index, ap, arith}
 use Rattle.std.proofs.lemmas.List.{take_all}
 use Rattle.hg_defs.specs.Sums.{total}
 use Rattle.hg_defs.specs.Partition.{block_of}

@@ -1,9 +1,6 @@
-use Rattle.std.proofs.Common.{◌≡◌, ◌+◌, ◌<◌, ◌⊎◌, inl, inr, ℕ, length, take, slice_index, slice_set, sym, ap, subst, ◌∙◌, arith}
-use Rattle.std.proofs.lemmas.List.{length-set, get_or-set_same, get_or-set_other}
-use Rattle.std.proofs.lemmas.Bool.{cases_eq}
+use Rattle.std.proofs.Common.{◌≡◌, ◌+◌, ◌<◌, ℕ, length, take, slice_index, slice_set, sym, subst, arith}
 use Rattle.hg_defs.specs.Partition.{weight_in}
-use Rattle.hg_defs.specs.Hypergraph.{weight_of}
-use Rattle.hg_defs.proofs.SumLaws.{weight_in-take_more, weight_in-le, total-take-le}
+use Rattle.hg_defs.proofs.SumLaws.{weight_in-le, total-take-le}
 use Rattle.pin_plain.proofs.LoadLaws.{weight_added}
 use Rattle.pin_plain.proofs.partition.add_weights.Goals as goal
 

@@ -1,7 +1,6 @@
-use Rattle.std.proofs.Common.{◌≡◌, ◌+◌, ◌/◌, ◌<◌, ◌∙◌, ℕ, List, length, slice_index, sym, ap, subst, arith}
+use Rattle.std.proofs.Common.{◌<◌, ◌∙◌, ℕ, List, length, slice_index, sym, ap, subst, arith}
 use Rattle.hg_defs.specs.Hypergraph.{Hyper, net_count}
 use Rattle.pin_plain.specs.Parted.{Parted}
-use Rattle.pin_plain.specs.Counts.{net_bits}
 use Rattle.pin_plain.proofs.CountLaws.{all_words-le, part_inside}
 use Rattle.pin_plain.proofs.partition.Partition.count.Goals as goal
 

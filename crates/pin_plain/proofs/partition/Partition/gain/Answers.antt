@@ -1,11 +1,11 @@
-use Rattle.std.proofs.Common.{◌≡◌, ◌≢◌, ◌<◌, ◌∙◌, ℕ, List, ℤ, pos, ◌-ℤ◌, slice_index, sym, ap, subst, arith}
+use Rattle.std.proofs.Common.{◌≡◌, ◌≢◌, ◌<◌, ◌∙◌, ℕ, List, pos, ◌-ℤ◌, sym, ap, subst, arith}
 use Rattle.hg_defs.specs.Sums.{total}
-use Rattle.hg_defs.specs.Hypergraph.{Hyper, IsHypergraph, vertex_count}
+use Rattle.hg_defs.specs.Hypergraph.{Hyper, IsHypergraph}
 use Rattle.hg_defs.specs.Partition.{IsPartition, block_of}
 use Rattle.hg_defs.specs.Moves.{gain}
 use Rattle.incidence.specs.Incidence.{nets_of}
 use Rattle.pin_plain.specs.Parted.{Parted}
-use Rattle.pin_plain.specs.Savings.{net_saved, net_lost}
+use Rattle.pin_plain.specs.Savings.{net_saved}
 use Rattle.pin_plain.proofs.GainLaws.{gain_counted}
 use Rattle.pin_plain.proofs.LoadLaws.{signed_difference}
 use Rattle.pin_plain.proofs.partition.Partition.gain.Goals as goal

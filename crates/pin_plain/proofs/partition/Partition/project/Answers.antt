@@ -1,8 +1,7 @@
-use Rattle.std.proofs.Common.{◌≡◌, ◌<◌, ◌∙◌, ℕ, List, All, length, map, slice_index, IfOk, sym, ap, subst, arith}
-use Rattle.std.proofs.lemmas.List.{length-map}
+use Rattle.std.proofs.Common.{◌≡◌, ◌<◌, ◌∙◌, ℕ, List, All, sym, ap, subst}
 use Rattle.std.proofs.lemmas.Result.{IfOk-weaker}
 use Rattle.hg_defs.specs.Hypergraph.{Hyper, vertex_count}
-use Rattle.hg_defs.specs.Partition.{IsPartition, block_of}
+use Rattle.hg_defs.specs.Partition.{IsPartition}
 use Rattle.hg_defs.specs.Contraction.{after}
 use Rattle.pin_plain.specs.Parted.{Parted, KeepsCost}
 use Rattle.pin_plain.proofs.LoadLaws.{after_partition, after_keeps}

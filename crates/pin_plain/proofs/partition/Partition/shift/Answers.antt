@@ -1,6 +1,6 @@
-use Rattle.std.proofs.Common.{◌≡◌, ◌≢◌, ◌+◌, ◌<◌, ◌≤◌, ◌∙◌, ℕ, List, length, slice_index, sym, ap, subst, arith}
+use Rattle.std.proofs.Common.{◌≡◌, ◌≢◌, ◌<◌, ◌∙◌, ℕ, List, slice_index, sym, ap, subst, arith}
 use Rattle.hg_defs.specs.Hypergraph.{Hyper, vertex_count, weight_of}
-use Rattle.hg_defs.specs.Partition.{block_of, load}
+use Rattle.hg_defs.specs.Partition.{block_of}
 use Rattle.hg_defs.specs.Moves.{moved}
 use Rattle.hg_defs.proofs.SumLaws.{weight_in-le}
 use Rattle.pin_plain.specs.Parted.{Parted, IsLoaded, loads_after}

@@ -1,7 +1,6 @@
-use Rattle.std.proofs.Common.{◌≡◌, ◌+◌, ◌++◌, ◌<◌, ◌≤◌, ◌∙◌, [], ◌∷◌, ℕ, List, Some, None, option_to_list, length, sym, ap, subst, arith, vec_len}
+use Rattle.std.proofs.Common.{◌++◌, ◌∙◌, option_to_list, sym, ap, arith}
 use Rattle.std.proofs.lemmas.List.{append-nil}
 use Rattle.std.proofs.lemmas.Bool.{ltb-false}
-use Rattle.hg_defs.specs.declared.moves.Move.{Move}
 use Rattle.hg_defs.specs.Replay.{replay}
 use Rattle.pin_plain.proofs.SweepLaws.{same_step, visit_more, swept_log, unmoved_settled, settled_unmoved, ltb_no}
 use Rattle.pin_plain.proofs.partition.Partition.sweep.Goals as goal

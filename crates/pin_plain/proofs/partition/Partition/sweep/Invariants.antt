@@ -1,7 +1,6 @@
-use Rattle.std.proofs.Common.{◌≡◌, ℕ, ◌+◌, ◌-◌, ◌*◌, ◌^◌, ◌≤◌, vec_len}
+use Rattle.std.proofs.Common.{◌≡◌, ◌+◌, ◌-◌, ◌*◌, ◌^◌, ◌≤◌, vec_len}
 use Rattle.std.specs.Vec.{vec_capacity}
 use Rattle.pin_plain.specs.Scores.{IsReady}
-use Rattle.pin_plain.specs.Parted.{Parted}
 use Rattle.pin_plain.proofs.SweepLaws.{IsSweeping}
 use Rattle.pin_plain.proofs.partition.Partition.sweep.Given as goal
 

@@ -1,4 +1,4 @@
-use Rattle.std.proofs.Common.{◌≡◌, ◌+◌, ◌<◌, ℕ, slice_index, slice_set, sym, subst, arith}
+use Rattle.std.proofs.Common.{◌+◌, ◌<◌, slice_index, slice_set, sym, subst, arith}
 use Rattle.pin_plain.specs.declared.scores.Scores.{Scores}
 use Rattle.pin_plain.specs.Scores.{IsTracked}
 use Rattle.pin_plain.proofs.TallyLaws.{tracked_room, tracked_new, tracked_old}

@@ -1,10 +1,8 @@
-use Rattle.std.proofs.Common.{◌≡◌, ◌≢◌, ◌⊎◌, inl, inr, ◌+◌, ◌*◌, ◌<◌, ◌≤◌, ◌∙◌, ℕ, true, false, length, take, slice_index, slice_set, nat_eq, nat_lt, if◌then◌else◌, refl, sym, ap, subst, arith}
-use Rattle.std.proofs.lemmas.List.{take_all, get_or-set_same, get_or-set_other}
-use Rattle.std.proofs.lemmas.Bool.{cases_eq, eq-eqb, ne_eqb}
-use Rattle.hg_defs.specs.Partition.{block_of}
+use Rattle.std.proofs.Common.{◌≡◌, ◌≢◌, ◌+◌, ◌*◌, ◌∙◌, ℕ, true, false, length, take, slice_index, slice_set, nat_eq, nat_lt, if◌then◌else◌, refl, sym, ap, subst, arith}
+use Rattle.std.proofs.lemmas.List.{take_all, get_or-set_other}
+use Rattle.std.proofs.lemmas.Bool.{eq-eqb, ne_eqb}
 use Rattle.hg_defs.specs.Pins.{pins_in}
 use Rattle.hg_defs.proofs.DistinctLaws.{pins_in-le}
-use Rattle.pin_plain.specs.Savings.{saved}
 use Rattle.pin_plain.specs.Scores.{amount_for, IsBefore}
 use Rattle.pin_plain.proofs.TallyLaws.{touched_kept, marked_before, amount_all, amount_first, amount_is, sums_step, marks_step}
 use Rattle.pin_plain.proofs.scores.Scores.add_by_pins.Goals as goal

@@ -1,4 +1,4 @@
-use Rattle.std.proofs.Common.{◌≡◌, ◌≢◌, ℕ, ◌+◌, ◌<◌, ◌≤◌, take, slice_index, nat_eq, nat_lt, if◌then◌else◌}
+use Rattle.std.proofs.Common.{◌≡◌, ◌≢◌, ℕ, ◌+◌, ◌<◌, take, slice_index, nat_eq, nat_lt, if◌then◌else◌}
 use Rattle.hg_defs.specs.Pins.{pins_in}
 use Rattle.pin_plain.specs.Scores.{IsTracked, IsBefore, amount_for}
 use Rattle.pin_plain.proofs.scores.Scores.add_by_pins.Given as goal

@@ -1,6 +1,6 @@
-use Rattle.std.proofs.Common.{◌≡◌, ◌≢◌, ◌+◌, ◌*◌, ◌/◌, ◌%◌, ◌^◌, ◌<◌, ◌∙◌, ℕ, length, slice_index, refl, sym, ap, arith}
+use Rattle.std.proofs.Common.{◌≡◌, ◌∙◌, ℕ, sym, ap, arith}
 use Rattle.hg_base.specs.Packed.{fields_of, field}
-use Rattle.pin_plain.proofs.TallyLaws.{words_more, words_none, words_all, between_past}
+use Rattle.pin_plain.proofs.TallyLaws.{words_more, words_none}
 use Rattle.pin_plain.proofs.scores.Scores.add_by_words.Goals as goal
 
 field_zero : (bits place : ℕ) → field 0 bits place ≡ 0

@@ -1,5 +1,4 @@
-use Rattle.std.proofs.Common.{◌≡◌, ◌+◌, ◌<◌, ◌≤◌, ◌∙◌, ℕ, length, slice_index, get_or, refl, sym, ap, arith}
-use Rattle.pin_plain.specs.Savings.{net_saved}
+use Rattle.std.proofs.Common.{◌∙◌, slice_index, get_or, refl, sym, arith}
 use Rattle.pin_plain.proofs.ScoreLaws.{told_inside, told_count, told_few, part_within, part_counts, part_all, whole_elsewhere, saved_none}
 use Rattle.pin_plain.proofs.scores.Scores.add_net.Goals as goal
 

@@ -1,5 +1,5 @@
-use Rattle.std.proofs.Common.{◌≡◌, ◌≢◌, ◌⊎◌, ◌+◌, ◌-◌, ◌<◌, ◌≤◌, ◌^◌, ◌∙◌, ℕ, Option, None, option_map, IfSome, pos, length, slice_index, sym, ap, subst, arith}
-use Rattle.hg_defs.specs.Hypergraph.{IsFree, weight_of, fix_of}
+use Rattle.std.proofs.Common.{◌≡◌, ◌<◌, ◌^◌, ◌∙◌, ℕ, Option, option_map, IfSome, pos, sym, ap, subst, arith}
+use Rattle.hg_defs.specs.Hypergraph.{IsFree}
 use Rattle.hg_defs.specs.Partition.{block_of}
 use Rattle.hg_defs.specs.Moves.{gain}
 use Rattle.pin_plain.specs.Scores.{IsTop}

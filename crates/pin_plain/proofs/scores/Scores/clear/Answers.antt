@@ -1,4 +1,4 @@
-use Rattle.std.proofs.Common.{◌≡◌, ◌∙◌, ℕ, List, true, length, take, slice_index, nat_eq, ap, subst, sym, arith}
+use Rattle.std.proofs.Common.{◌≡◌, ◌∙◌, ℕ, List, true, length, take, slice_index, nat_eq, ap, subst, arith}
 use Rattle.std.specs.Set.{is_member}
 use Rattle.pin_plain.proofs.TallyLaws.{tracked_count, tracked_none, clear_after}
 use Rattle.pin_plain.proofs.scores.Scores.clear.Goals as goal

@@ -1,11 +1,10 @@
-use Rattle.std.proofs.Common.{◌≡◌, ◌≢◌, ◌⊎◌, inl, inr, ◌+◌, ◌<◌, ◌≤◌, ◌∙◌, ℕ, length, take, slice_index, sym, ap, subst, arith}
-use Rattle.std.proofs.lemmas.Bool.{cases_eq}
+use Rattle.std.proofs.Common.{◌∙◌, length, ap, arith}
 use Rattle.std.proofs.lemmas.List.{take_all}
 use Rattle.hg_defs.specs.Sums.{total}
 use Rattle.hg_defs.specs.Partition.{block_of}
 use Rattle.hg_defs.proofs.SumLaws.{total-take_more}
 use Rattle.pin_plain.specs.Savings.{net_saved, net_lost}
-use Rattle.pin_plain.proofs.ScoreLaws.{saved_so_far, lost_so_far, lost_bound, nets_few, room_for}
+use Rattle.pin_plain.proofs.ScoreLaws.{lost_so_far, lost_bound, nets_few, room_for}
 use Rattle.pin_plain.proofs.scores.Scores.score.Goals as goal
 
 pub add_net-loss-requires-clause-room : goal.add_net-loss-requires-clause-room

@@ -1,4 +1,4 @@
-use Rattle.std.proofs.Common.{◌≡◌, ◌+◌, ◌<◌, ◌≤◌, ◌∙◌, ℕ, Option, Some, None, length, take, slice_index, sym, subst, arith, true≢false}
+use Rattle.std.proofs.Common.{◌+◌, ◌<◌, ◌∙◌, length, take, slice_index, sym, subst, arith, true≢false}
 use Rattle.pin_plain.specs.Scores.{IsTarget, IsTopAmong}
 use Rattle.pin_plain.proofs.TallyLaws.{tracked_count, target_block, top_kept, top_taken}
 use Rattle.pin_plain.proofs.scores.Scores.top.Goals as goal

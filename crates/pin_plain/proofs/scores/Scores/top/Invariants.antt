@@ -1,4 +1,4 @@
-use Rattle.std.proofs.Common.{ℕ, true, take, nat_eq}
+use Rattle.std.proofs.Common.{take}
 use Rattle.pin_plain.specs.Scores.{IsTopAmong}
 use Rattle.pin_plain.proofs.scores.Scores.top.Given as goal
 
