@@ -17,7 +17,8 @@ use Rattle.hg_defs.specs.Partition.{IsPartition, Obeys, Fits, block_of, load}
 use Rattle.hg_defs.specs.Cost.{connectivity, price, net_cost, cost}
 use Rattle.hg_defs.specs.Moves.{sweep, IsAllowed, moved, gain, is_allowed, is_better, best_block, move_of, visits}
 use Rattle.hg_defs.specs.Replay.{replay, replay_first}
-use Rattle.hg_defs.specs.MoveLaws.{IsBestBlock, IsBestMove, connectivity_after, net_gain, nets_with, BestBlockIsBest, OnlyBestBlockIsBest, NoBestBlockGainsNothing, EmptySweepIsSettled, SettledSweepIsEmpty, SweepMakesBestMoves, SweepRises, SweepSavesWhatItBooks, SweepLowersCost, SweepIsAllowed, AreAllowedInTurn, AllowedMovesArePartition, AllowedMovesObey, AllowedMovesFit, AllowedMoveIsPartition, AllowedMoveObeys, AllowedMoveFits, MoveRaisesLoad, MoveLowersLoad, MoveKeepsOtherLoads, ConnectivityCountsBlocks, GainIsLocal}
+use Rattle.hg_defs.specs.Incidence.{nets_of}
+use Rattle.hg_defs.specs.MoveLaws.{IsBestBlock, IsBestMove, connectivity_after, net_gain, BestBlockIsBest, OnlyBestBlockIsBest, NoBestBlockGainsNothing, EmptySweepIsSettled, SettledSweepIsEmpty, SweepMakesBestMoves, SweepRises, SweepSavesWhatItBooks, SweepLowersCost, SweepIsAllowed, AreAllowedInTurn, AllowedMovesArePartition, AllowedMovesObey, AllowedMovesFit, AllowedMoveIsPartition, AllowedMoveObeys, AllowedMoveFits, MoveRaisesLoad, MoveLowersLoad, MoveKeepsOtherLoads, ConnectivityCountsBlocks, GainIsLocal}
 use Rattle.hg_defs.proofs.SumLaws.{weight_in-set_new, weight_in-set_old, weight_in-set_other, total_z-map, total_z-filter, total_z-same, total_z-difference}
 use Rattle.hg_defs.proofs.DistinctLaws.{connectivity-sum, blocks_of_pins, connectivity-set, connectivity-set_apart}
 use Rattle.hg_defs.proofs.PlacementLaws.{Contains_vertices, vertices_within}
@@ -434,15 +435,15 @@ module _ (h : Hyper) (p : List ℕ) (v b : ℕ) (good : IsHypergraph h) (long : 
           let s = connectivity-set p (net_of h e).pins v b inside (net_is h e good l).rising ((is_member-Decides Decides-eqb (net_of h e).pins v).0 f) other in
           omega arith
 
-  gain_is : gain h p v b ≡ total_z (λ e. net_gain h p v b (net_of h e)) (nets_with h v)
+  gain_is : gain h p v b ≡ total_z (λ e. net_gain h p v b (net_of h e)) (nets_of h v)
   gain_is =
       sym (total_z-difference (net_cost h.objective p) (net_cost h.objective (moved p v b)) h.nets)
       ∙ ap (total_z (λ e. pos (net_cost h.objective p e) -ℤ pos (net_cost h.objective (moved p v b) e))) (nets_by_number h)
       ∙ total_z-map (λ e. pos (net_cost h.objective p e) -ℤ pos (net_cost h.objective (moved p v b) e)) (net_of h) (range_with_len 0 (net_count h))
       ∙ sym (total_z-filter saved (λ e. is_member nat_eq (net_of h e).pins v) (range_with_len 0 (net_count h)) (λ i d l. apart_saves_nothing (get_or (range_with_len 0 (net_count h)) i d)))
-      ∙ total_z-same saved (λ e. net_gain h p v b (net_of h e)) (nets_with h v) (λ i d l. pin_saves (get_or (nets_with h v) i d) (within i d l) (filter_passes (λ e. is_member nat_eq (net_of h e).pins v) (range_with_len 0 (net_count h)) i d l))
+      ∙ total_z-same saved (λ e. net_gain h p v b (net_of h e)) (nets_of h v) (λ i d l. pin_saves (get_or (nets_of h v) i d) (within i d l) (filter_passes (λ e. is_member nat_eq (net_of h e).pins v) (range_with_len 0 (net_count h)) i d l))
     where
-      within : (i d : ℕ) → i < length (nets_with h v) → get_or (nets_with h v) i d < net_count h
+      within : (i d : ℕ) → i < length (nets_of h v) → get_or (nets_of h v) i d < net_count h
       within i d l = All-filter (λ e. is_member nat_eq (net_of h e).pins v) (λ e. e < net_count h) (range_with_len 0 (net_count h)) below i d l
         where
           below : All (λ e. e < net_count h) (range_with_len 0 (net_count h))

@@ -1,6 +1,7 @@
 pub mod Sums
 pub mod Sorting
 pub mod Hypergraph
+pub mod Incidence
 pub mod Partition
 pub mod Cost
 pub mod Pins

@@ -4,6 +4,7 @@ use Rattle.std.specs.List.{range_with_len}
 use Rattle.std.specs.Set.{is_member}
 use Rattle.hg_defs.specs.declared.moves.Move.{Move}
 use Rattle.hg_defs.specs.Sums.{total_z, sum_below}
+use Rattle.hg_defs.specs.Incidence.{nets_of}
 use Rattle.hg_defs.specs.Hypergraph.{Net, Hyper, IsHypergraph, vertex_count, net_count, net_of, weight_of}
 use Rattle.hg_defs.specs.Partition.{IsPartition, Fits, Obeys, block_of, load}
 use Rattle.hg_defs.specs.Cost.{connectivity, price, cost}
@@ -41,10 +42,6 @@ abbrev pub net_gain : Hyper → List ℕ → ℕ → ℕ → Net → ℤ
 net_gain h p v b e =
     pos (e.weight * price h.objective (connectivity p e.pins))
     -ℤ pos (e.weight * price h.objective (connectivity_after p e.pins (block_of p v) b))
-
--- the numbers of the nets that hold v, in rising order
-abbrev pub nets_with : Hyper → ℕ → List ℕ
-nets_with h v = filter (λ e. is_member nat_eq (net_of h e).pins v) (range_with_len 0 (net_count h))
 
 -- ---- the laws
 
@@ -144,4 +141,4 @@ ConnectivityCountsBlocks =
 abbrev pub GainIsLocal : Type 0
 GainIsLocal =
     (h : Hyper) (p : List ℕ) (v b : ℕ) → IsHypergraph h → length p ≡ vertex_count h → v < vertex_count h → b ≢ block_of p v
-    → gain h p v b ≡ total_z (λ e. net_gain h p v b (net_of h e)) (nets_with h v)
+    → gain h p v b ≡ total_z (λ e. net_gain h p v b (net_of h e)) (nets_of h v)

@@ -1,3 +1,4 @@
 pub mod FaultLemmas
 pub mod TransferLemmas
 pub mod SliceLemmas
+pub mod PenLemmas

@@ -1,2 +1,1 @@
-pub mod Incidence
 pub mod Index

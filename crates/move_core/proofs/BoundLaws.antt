@@ -16,7 +16,8 @@ use Rattle.move_core.specs.declared.account.Account.{Account}
 use Rattle.move_core.specs.declared.account.Owed.TheVariants.{Nothing, Up, Down}
 use Rattle.move_core.specs.declared.account.Stage.{Stage}
 use Rattle.move_core.specs.declared.account.Stage.TheVariants.{Idle, Refused, Granted, Moving}
-use Rattle.move_core.specs.State.{Setup, Readings, times, nets_of, blank}
+use Rattle.hg_defs.specs.Incidence.{nets_of}
+use Rattle.move_core.specs.State.{Setup, Readings, times, blank}
 use Rattle.move_core.specs.Events.{moved}
 use Rattle.move_core.specs.Stages.{number_at, booked_at}
 use Rattle.move_core.specs.Balance.{Claims, Moves, InBalance, IsBetween, IsBookedWithin, carried, drawn, stage_vertices, reserved_weight, arrived, owed_down, weights_of}

@@ -8,7 +8,8 @@ use Rattle.move_core.specs.declared.account.Account.{Account}
 use Rattle.move_core.specs.declared.account.Stage.{Stage}
 use Rattle.move_core.specs.declared.account.Stage.TheVariants.{Idle}
 use Rattle.move_core.specs.declared.events.Word.TheVariants as word
-use Rattle.move_core.specs.State.{Setup, Readings, times, nets_of, blank}
+use Rattle.hg_defs.specs.Incidence.{nets_of}
+use Rattle.move_core.specs.State.{Setup, Readings, times, blank}
 use Rattle.move_core.specs.Balance.{Claims, Rest, InBalance, IsSetup, IsGain, IsMove, IsStageMove, IsInStep, IsOwing, IsBetween, IsBookedWithin, carried, stage_vertices, weights_of}
 use Rattle.move_core.proofs.Words.{Writes}
 use Rattle.move_core.proofs.TimesLaws.{all_changed, all_at}

@@ -12,7 +12,8 @@ use Rattle.move_core.specs.declared.account.Owed.TheVariants.{Nothing, Up, Down}
 use Rattle.move_core.specs.declared.account.Stage.{Stage}
 use Rattle.move_core.specs.declared.account.Stage.TheVariants.{Idle, Moving}
 use Rattle.move_core.specs.declared.events.Word.TheVariants as word
-use Rattle.move_core.specs.State.{Setup, Readings, times, nets_of, blank}
+use Rattle.hg_defs.specs.Incidence.{nets_of}
+use Rattle.move_core.specs.State.{Setup, Readings, times, blank}
 use Rattle.move_core.specs.Balance.{Counts, Spreads, Bounds, InBalance, IsSetup, IsMove, IsStageMove, IsInStep, IsBetween, IsBookedWithin, lowers, weights_of}
 use Rattle.move_core.proofs.Words.{Writes}
 use Rattle.move_core.proofs.TimesLaws.{all_at}

@@ -11,7 +11,8 @@ use Rattle.hg_defs.proofs.SumLaws.{weight_if, weight_if-same, weight_if-other, t
 use Rattle.move_core.specs.declared.account.Account.{Account}
 use Rattle.move_core.specs.declared.account.Stage.{Stage}
 use Rattle.move_core.specs.declared.account.Stage.TheVariants.{Idle, Refused, Granted, Moving}
-use Rattle.move_core.specs.State.{Setup, Readings, times, nets_of, blank}
+use Rattle.hg_defs.specs.Incidence.{nets_of}
+use Rattle.move_core.specs.State.{Setup, Readings, times, blank}
 use Rattle.move_core.specs.Events.{moved}
 use Rattle.move_core.specs.Balance.{Claims, Moves, Counts, IsMove, IsStageMove, IsInStep, carried, stage_vertices, raises, lowers, stage_raises, stage_lowers}
 use Rattle.move_core.proofs.TimesLaws.{total_changed, total_unchanged, all_changed, pick_two, times_at, total-weight_if, total_strict}

@@ -3,7 +3,8 @@ use Rattle.std.proofs.Common.{◌≡◌, ℕ, ◌<◌, ◌≤◌, ◌^◌, Bool,
 use Rattle.std.specs.List.{range_with_len}
 use Rattle.std.proofs.lemmas.List.FromFn.{length-map-range_with_len, get_or-map-range_with_len, length-range_with_len}
 use Rattle.hg_defs.specs.Hypergraph.{Hyper, IsWithinLimits, vertices, vertex_count, net_count, net_of}
-use Rattle.move_core.specs.State.{times, nets_of}
+use Rattle.hg_defs.specs.Incidence.{is_on, nets_of}
+use Rattle.move_core.specs.State.{times}
 
 length-filter-le : {A : Type 0} (p : A → Bool) (xs : List A) → length (filter p xs) ≤ length xs
 length-filter-le p [] = omega arith
@@ -16,7 +17,7 @@ length-filter-le {A} p (x ∷ xs) = by (p x) (length-filter-le p xs)
 -- a vertex has no more nets than there are
 pub nets_of-le : (h : Hyper) (v : ℕ) → length (nets_of h v) ≤ net_count h
 nets_of-le h v =
-    let e = length-filter-le (λ e. nat_lt 0 (times v (net_of h e).pins)) (range_with_len 0 (net_count h)) in
+    let e = length-filter-le (is_on h v) (range_with_len 0 (net_count h)) in
     let l = length-range_with_len 0 (net_count h) in
     omega arith
 

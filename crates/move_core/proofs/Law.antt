@@ -14,7 +14,8 @@ use Rattle.move_core.specs.declared.events.Event.{Event}
 use Rattle.move_core.specs.declared.events.Event.TheVariants.{Claim, Unclaim, Reserve, TakeBack, Draw, Name, Raise, Widen, Lower, Narrow, GiveBack, Seed, Peek, Split, Join}
 use Rattle.move_core.specs.declared.events.Word.{Word}
 use Rattle.move_core.specs.declared.events.Word.TheVariants as word
-use Rattle.move_core.specs.State.{Setup, State, Readings, read, readings, written, account, blank, times, nets_of}
+use Rattle.hg_defs.specs.Incidence.{nets_of}
+use Rattle.move_core.specs.State.{Setup, State, Readings, read, readings, written, account, blank, times}
 use Rattle.move_core.specs.Events.{pass_of, word_of, write_of, account_after, may_step, others_agree, is_enabled, after, is_word, first_word, joined_with, widen_gain, narrow_gain}
 use Rattle.move_core.specs.Stages.{is_idle}
 use Rattle.move_core.specs.Balance.{InBalance, IsSetup, IsBooks, IsStageMove, IsInStep, IsOwing}

@@ -1,12 +1,18 @@
 -- The nets of a vertex: each of its nets once, in rising number.
-use Rattle.std.proofs.Common.{◌≡◌, ℕ, ◌+◌, ◌<◌, ◌≤◌, inl, inr, Bool, true, false, if◌then◌else◌, nat_lt, [], length, slice_index, take, refl, sym, ap, ◌∙◌, subst, arith}
+use Rattle.std.proofs.Common.{◌≡◌, ℕ, ◌+◌, ◌<◌, ◌≤◌, inl, inr, Bool, true, false, if◌then◌else◌, nat_lt, [], filter, length, slice_index, take, refl, sym, ap, ◌∙◌, subst, arith}
 use Rattle.std.specs.List.{range_with_len}
+use Rattle.std.proofs.lemmas.List.Elements.{filter_agree}
 use Rattle.std.proofs.lemmas.Bool.{ltb-true, lt-ltb, cases_lt}
 use Rattle.hg_defs.specs.Hypergraph.{Hyper, IsHypergraph, vertex_count, net_count, net_of}
 use Rattle.hg_defs.proofs.SumLaws.{total-filter, total-range, sum_below-only, sum_below-zero, weight_if, weight_if-same, weight_if-other, total-take_more, total_more-le}
-use Rattle.hg_defs.proofs.DistinctLaws.{times_of-once, Contains-from_times}
-use Rattle.move_core.specs.State.{times, nets_of}
+use Rattle.hg_defs.proofs.DistinctLaws.{member_times, times_of-once, Contains-from_times}
+use Rattle.hg_defs.specs.Incidence.{is_on, nets_of}
+use Rattle.move_core.specs.State.{times}
 use Rattle.move_core.proofs.TimesLaws.{All_at_times}
+
+-- the nets of a vertex, told by how often it stands among the pins
+pub on_by_times : (h : Hyper) (v : ℕ) → nets_of h v ≡ filter (λ e. nat_lt 0 (times v (net_of h e).pins)) (range_with_len 0 (net_count h))
+on_by_times h v = filter_agree (is_on h v) (λ e. nat_lt 0 (times v (net_of h e).pins)) (λ e. member_times (net_of h e).pins v) (range_with_len 0 (net_count h))
 
 -- 1 where a net has the vertex as a pin
 abbrev pub has_pin : Hyper → ℕ → ℕ → ℕ
@@ -20,7 +26,8 @@ module _ (h : Hyper) (v : ℕ) where
   pub times-nets_of : (e : ℕ) → e < net_count h → times e (nets_of h v) ≡ has_pin h v e
   unfolding counted
   times-nets_of e l =
-      total-filter (λ x. weight_if x e 1) (λ x. nat_lt 0 (times v (net_of h x).pins)) (range_with_len 0 (net_count h))
+      ap (times e) (on_by_times h v)
+      ∙ total-filter (λ x. weight_if x e 1) (λ x. nat_lt 0 (times v (net_of h x).pins)) (range_with_len 0 (net_count h))
       ∙ total-range (counted e) (net_count h)
       ∙ sum_below-only (counted e) (net_count h) e l (λ j m q. by j (nat_lt 0 (times v (net_of h j).pins)) (weight_if-other j e 1 q))
       ∙ ap (λ n. if nat_lt 0 (times v (net_of h e).pins) then n else 0) (weight_if-same e e 1 refl)
@@ -32,7 +39,8 @@ module _ (h : Hyper) (v : ℕ) where
   pub times-nets_of_past : (e : ℕ) → net_count h ≤ e → times e (nets_of h v) ≡ 0
   unfolding counted
   times-nets_of_past e l =
-      total-filter (λ x. weight_if x e 1) (λ x. nat_lt 0 (times v (net_of h x).pins)) (range_with_len 0 (net_count h))
+      ap (times e) (on_by_times h v)
+      ∙ total-filter (λ x. weight_if x e 1) (λ x. nat_lt 0 (times v (net_of h x).pins)) (range_with_len 0 (net_count h))
       ∙ total-range (counted e) (net_count h)
       ∙ sum_below-zero (counted e) (net_count h) (λ j m. by j (nat_lt 0 (times v (net_of h j).pins)) (weight_if-other j e 1 (λ q. absurd (omega arith))))
     where

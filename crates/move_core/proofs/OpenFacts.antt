@@ -12,8 +12,10 @@ use Rattle.hg_defs.specs.Hypergraph.{Hyper, net_count, net_of}
 use Rattle.hg_defs.specs.Partition.{block_of, weight_in, load, Fits}
 use Rattle.hg_defs.specs.Pins.{pins_in}
 use Rattle.hg_defs.proofs.SumLaws.{weight_in-take_more, weight_if, weight_if-same, weight_if-other, weight_if-le, total-le, total-ones, total-take_more, total_more-le}
+use Rattle.move_core.proofs.NetLaws.{on_by_times}
 use Rattle.move_core.proofs.WriteLaws.{place-below}
-use Rattle.move_core.specs.State.{Setup, State, times, nets_of, count_place, setup_of, opened, opening_pins, present_below, blank}
+use Rattle.hg_defs.specs.Incidence.{nets_of}
+use Rattle.move_core.specs.State.{Setup, State, times, count_place, setup_of, opened, opening_pins, present_below, blank}
 use Rattle.move_core.specs.declared.account.Account.{Account}
 use Rattle.hg_defs.specs.Pins.{present}
 use Rattle.hg_defs.proofs.SumLaws.{sum_below-same}
@@ -68,7 +70,7 @@ map-same [] = refl
 map-same (x ∷ xs) = ap (λ ys. x ∷ ys) (map-same xs)
 
 pub nets_below_all : (h : Hyper) (v : ℕ) → nets_below h v (net_count h) ≡ nets_of h v
-nets_below_all h v = ap (filter (λ x. nat_lt 0 (times v (net_of h x).pins))) (map-same (range_with_len 0 (net_count h)))
+nets_below_all h v = ap (filter (λ x. nat_lt 0 (times v (net_of h x).pins))) (map-same (range_with_len 0 (net_count h))) ∙ sym (on_by_times h v)
 
 pub index_more : (h : Hyper) (index : List (List ℕ)) (e n j v : ℕ) (pins : List ℕ) (old new : List ℕ) → length index ≡ n → j < length pins → v ≡ slice_index pins j → v < n → times v pins ≤ 1 → ((u : ℕ) (d : List ℕ) → u < n → get_or index u d ≡ nets_with h u e (take j pins)) → old ≡ get_or index v old → new ≡ old ++ e ∷ [] → (u : ℕ) (d : List ℕ) → u < n → get_or (set index v new) u d ≡ nets_with h u e (take (j + 1) pins)
 index_more h index e n j v pins old new w lj ev lv once each eo en u d lu =

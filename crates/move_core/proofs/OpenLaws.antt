@@ -16,7 +16,8 @@ use Rattle.hg_defs.specs.Cost.{net_cost, price, connectivity}
 use Rattle.hg_defs.proofs.SumLaws.{total-replicate, total-zero, total-same_each, total-by_index, sum_below-same, total_z-zero}
 use Rattle.hg_defs.proofs.DistinctLaws.{connectivity-sum}
 use Rattle.move_core.specs.declared.account.Account.{Account}
-use Rattle.move_core.specs.State.{Setup, Readings, readings, blank, times, nets_of, opened, opening_pins, present_below}
+use Rattle.hg_defs.specs.Incidence.{nets_of}
+use Rattle.move_core.specs.State.{Setup, Readings, readings, blank, times, opened, opening_pins, present_below}
 use Rattle.move_core.specs.Events.{price_at}
 use Rattle.move_core.specs.Balance.{InBalance, IsSetup, IsBooks, IsGain, IsNamed, IsInStep, IsMove, IsStageMove, IsOwing, IsBetween, IsBookedWithin, carried, drawn, raises, lowers, departed, arrived, reserved_weight, owed_up, owed_down, weights_of}
 use Rattle.move_core.proofs.RestLaws.{seed_room}

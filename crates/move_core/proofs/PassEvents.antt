@@ -9,7 +9,8 @@ use Rattle.hg_defs.specs.Partition.{block_of}
 use Rattle.hg_defs.proofs.SumLaws.{weight_if, total-append, total-same_each}
 use Rattle.move_core.specs.declared.account.Account.{Account}
 use Rattle.move_core.specs.declared.account.Stage.TheVariants.{Idle}
-use Rattle.move_core.specs.State.{Setup, Readings, times, nets_of, blank}
+use Rattle.hg_defs.specs.Incidence.{nets_of}
+use Rattle.move_core.specs.State.{Setup, Readings, times, blank}
 use Rattle.move_core.specs.Balance.{InBalance, IsGain, IsMove, IsStageMove, IsInStep, IsOwing, IsBetween, IsBookedWithin, carried, drawn, lowers, reserved_weight, refused_weight, weights_of}
 use Rattle.move_core.proofs.TimesLaws.{all_at}
 use Rattle.move_core.proofs.StageEvents.{staged}

@@ -13,7 +13,8 @@ use Rattle.move_core.specs.declared.account.Owed.TheVariants.{Nothing, Up, Down}
 use Rattle.move_core.specs.declared.account.Stage.{Stage}
 use Rattle.move_core.specs.declared.account.Stage.TheVariants.{Idle, Refused, Granted, Moving}
 use Rattle.move_core.specs.declared.events.Word.TheVariants as word
-use Rattle.move_core.specs.State.{Setup, Readings, times, nets_of, blank}
+use Rattle.hg_defs.specs.Incidence.{nets_of}
+use Rattle.move_core.specs.State.{Setup, Readings, times, blank}
 use Rattle.move_core.specs.Stages.{number_at}
 use Rattle.move_core.specs.Balance.{Loads, Names, Counts, Moves, Spreads, Bounds, InBalance, IsSetup, IsGain, IsMove, IsStageMove, IsInStep, IsOwing, IsBetween, IsBookedWithin, carried, stage_vertices, weights_of}
 use Rattle.move_core.specs.Stages.{booked_at}

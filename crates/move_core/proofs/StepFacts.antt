@@ -20,7 +20,8 @@ use Rattle.move_core.specs.declared.events.Event.{Event}
 use Rattle.move_core.specs.declared.events.Event.TheVariants.{Reserve, Raise, Widen, Lower, Narrow}
 use Rattle.move_core.specs.declared.events.Word.{Word}
 use Rattle.move_core.specs.declared.events.Word.TheVariants as word
-use Rattle.move_core.specs.State.{Setup, State, Readings, read, readings, written, account, blank, nets_of, count_place}
+use Rattle.hg_defs.specs.Incidence.{nets_of}
+use Rattle.move_core.specs.State.{Setup, State, Readings, read, readings, written, account, blank, count_place}
 use Rattle.move_core.specs.Stages.{vertex_at, from_at, to_at, raised_at, lowered_at, booked_at, booked_stage, is_idle, is_reserved, is_moving, owes_nothing, owes_up, owes_down}
 use Rattle.move_core.specs.Events.{pass_of, word_of, write_of, accounts_after, may_step, is_enabled, found_of, after, at_stage, holds_unmoved, widen_gain, narrow_gain}
 use Rattle.move_core.specs.Run.{Leads}

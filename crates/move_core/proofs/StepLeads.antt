@@ -6,7 +6,8 @@ use Rattle.move_core.specs.declared.account.Stage.{Stage}
 use Rattle.move_core.specs.declared.account.Stage.TheVariants.{Idle, Refused, Granted}
 use Rattle.move_core.specs.declared.events.Event.TheVariants.{Reserve, TakeBack, Name, Raise, Widen, Lower, Narrow, GiveBack}
 use Rattle.move_core.specs.declared.events.Word.TheVariants as word
-use Rattle.move_core.specs.State.{State, account, nets_of, count_place}
+use Rattle.hg_defs.specs.Incidence.{nets_of}
+use Rattle.move_core.specs.State.{State, account, count_place}
 use Rattle.move_core.specs.Stages.{vertex_at, from_at, to_at, raised_at, lowered_at, named_stage, raised_stage, lowered_stage}
 use Rattle.move_core.specs.Events.{is_enabled, found_of, at_stage, booked, given_back, widen_gain, narrow_gain}
 use Rattle.move_core.specs.Run.{Leads}

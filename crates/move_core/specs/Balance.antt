@@ -9,7 +9,8 @@ use Rattle.move_core.specs.declared.account.Account.{Account}
 use Rattle.move_core.specs.declared.account.Owed.TheVariants.{Nothing, Up, Down}
 use Rattle.move_core.specs.declared.account.Stage.{Stage}
 use Rattle.move_core.specs.declared.account.Stage.TheVariants.{Idle, Refused, Granted, Moving}
-use Rattle.move_core.specs.State.{Setup, Readings, State, readings, times, nets_of, blank, present_below}
+use Rattle.hg_defs.specs.Incidence.{nets_of}
+use Rattle.move_core.specs.State.{Setup, Readings, State, readings, times, blank, present_below}
 use Rattle.move_core.specs.Events.{moved, price_at}
 use Rattle.move_core.specs.Stages.{number_at, booked_at}
 

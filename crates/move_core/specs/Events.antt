@@ -14,7 +14,8 @@ use Rattle.move_core.specs.declared.events.Event.TheVariants.{Claim, Unclaim, Re
 use Rattle.move_core.specs.declared.events.Word.{Word}
 use Rattle.move_core.specs.declared.events.Word.TheVariants as word
 use Rattle.move_core.specs.Stages.{vertex_at, to_at, from_at, raised_at, lowered_at, is_idle, is_reserved, is_granted, owes_nothing, owes_up, owes_down, is_moving, drawn_stage, named_stage, raised_stage, lowered_stage, booked_stage, move_at, number_at}
-use Rattle.move_core.specs.State.{Setup, State, times, nets_of, blank, account, read, readings, written}
+use Rattle.hg_defs.specs.Incidence.{nets_of}
+use Rattle.move_core.specs.State.{Setup, State, times, blank, account, read, readings, written}
 
 -- the pass that makes an event
 abbrev pub pass_of : Event → ℕ

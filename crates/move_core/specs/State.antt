@@ -43,10 +43,6 @@ pub record State : Type 0 where
 abbrev pub times : ℕ → List ℕ → ℕ
 times v xs = total (λ x. if nat_eq x v then 1 else 0) xs
 
--- the nets of a vertex, in rising number
-abbrev pub nets_of : Hyper → ℕ → List ℕ
-nets_of h v = filter (λ e. nat_lt 0 (times v (net_of h e).pins)) (range_with_len 0 (net_count h))
-
 -- where the count of a net in a block stands
 abbrev pub count_place : ℕ → ℕ → ℕ → ℕ
 count_place blocks e b = e * blocks + b

@@ -1,6 +1,7 @@
 ghost use Rattle.std.specs.Prelude.{◌≡◌, ◌<◌, ◌≤◌, ◌^◌, ◌==◌, All, true, slice_index, IsTrue, length, ℕ};
 ghost use Rattle.hg_defs.specs.Hypergraph.{vertex_count, net_count};
-ghost use Rattle.move_core.specs.State.{readings, account, nets_of, count_place};
+ghost use Rattle.hg_defs.specs.Incidence.{nets_of};
+ghost use Rattle.move_core.specs.State.{readings, account, count_place};
 ghost use Rattle.move_core.specs.Stages.{is_idle};
 ghost use Rattle.move_core.specs.Events.{holds_unmoved};
 ghost use Rattle.move_core.specs.Balance.{IsBooks};
@@ -34,7 +35,8 @@ pub struct Books {
 impl Model for Books {
     ghost use Rattle.std.specs.Prelude.{◌≡◌, map};
     ghost use Rattle.hg_defs.specs.Hypergraph.{vertices};
-    ghost use Rattle.move_core.specs.State.{State, nets_of};
+    ghost use Rattle.hg_defs.specs.Incidence.{nets_of};
+    ghost use Rattle.move_core.specs.State.{State};
     ghost use Rattle.move_core.specs.Balance.{IsBooks};
 
     ghost Value = { State };

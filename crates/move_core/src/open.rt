@@ -3,7 +3,8 @@ ghost use Rattle.std.specs.List.{range_with_len, flat_map};
 ghost use Rattle.hg_defs.specs.Hypergraph.{vertices, net_count, net_of, IsFixedWithin};
 ghost use Rattle.hg_defs.specs.Pins.{pins_in};
 ghost use Rattle.hg_defs.specs.Partition.{load, IsPartition, Fits};
-ghost use Rattle.move_core.specs.State.{nets_of, opened, present_below, count_place, blank, setup_of};
+ghost use Rattle.hg_defs.specs.Incidence.{nets_of};
+ghost use Rattle.move_core.specs.State.{opened, present_below, count_place, blank, setup_of};
 
 use crate::books::Books;
 use crate::pass::Pass;

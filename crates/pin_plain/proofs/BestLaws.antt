@@ -10,7 +10,7 @@ use Rattle.hg_defs.specs.Moves.{IsAllowed, IsSettled, moved, gain, best_block}
 use Rattle.hg_defs.proofs.MoveLaws.{best_block_is, only_best_block, no_best_block}
 use Rattle.hg_defs.proofs.SumLaws.{total-zero, weight_in-le}
 use Rattle.std.proofs.lemmas.List.{get_or_default}
-use Rattle.incidence.specs.Incidence.{nets_of}
+use Rattle.hg_defs.specs.Incidence.{nets_of}
 use Rattle.incidence.proofs.IndexLaws.{nets_of-below}
 use Rattle.pin_plain.specs.Savings.{net_saved, net_lost}
 use Rattle.pin_plain.specs.Parted.{IsTold, IsLoaded}

@@ -9,7 +9,7 @@ use Rattle.hg_defs.specs.Moves.{moved}
 use Rattle.std.specs.Set.{is_member}
 use Rattle.std.specs.List.{range_with_len}
 use Rattle.std.specs.List.Sorted.{IsStrictlyIncreasing}
-use Rattle.incidence.specs.Incidence.{is_on, nets_of}
+use Rattle.hg_defs.specs.Incidence.{is_on, nets_of}
 use Rattle.hg_defs.proofs.SumLaws.{sum_below_more, sum_below-le, sum_below-constant, weight_if}
 use Rattle.hg_defs.proofs.DistinctLaws.{times_of-once, pins_in-set, pins_in-set_old, pins_in-set_apart, pins_in-sum, blocks_of_pins}
 use Rattle.std.proofs.Math.Bool.{or-false, or-true}

@@ -20,7 +20,7 @@ use Rattle.hg_defs.proofs.SumLaws.{sum_below-only, sum_below-change, sum_below-z
 use Rattle.hg_defs.proofs.DistinctLaws.{present-zero, present-positive, pins_in-sum, connectivity-sum, pins_in-set_new, connectivity-set, blocks_of_pins, pins_in-times, times_of-positive, Contains-map, connectivity-positive}
 use Rattle.hg_defs.proofs.SortLaws.{Contains-nil}
 use Rattle.hg_defs.proofs.MoveLaws.{gain_is_local}
-use Rattle.incidence.specs.Incidence.{is_on, nets_of}
+use Rattle.hg_defs.specs.Incidence.{is_on, nets_of}
 use Rattle.incidence.proofs.IndexLaws.{nets_of-below}
 use Rattle.pin_plain.specs.Savings.{saved, lost, net_saved, net_lost}
 

@@ -10,7 +10,7 @@ use Rattle.hg_defs.specs.Pins.{pins_in}
 use Rattle.hg_defs.proofs.SumLaws.{total-filter, total-le, total-scale, total-range, total-by_index, total_more-le}
 use Rattle.hg_defs.specs.Partition.{block_of}
 use Rattle.hg_defs.proofs.DistinctLaws.{present-le, blocks_of_pins}
-use Rattle.incidence.specs.Incidence.{is_on, nets_of}
+use Rattle.hg_defs.specs.Incidence.{is_on, nets_of}
 use Rattle.pin_plain.specs.Counts.{count_at, net_bits, net_words, net_start, counts_of}
 use Rattle.pin_plain.specs.Savings.{saved, lost, net_saved, net_lost}
 use Rattle.pin_plain.specs.Parted.{IsTold}

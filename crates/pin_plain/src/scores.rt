@@ -8,7 +8,7 @@ ghost use Rattle.hg_defs.specs.Pins.{pins_in};
 ghost use Rattle.hg_defs.specs.Sums.{total};
 ghost use Rattle.hg_defs.specs.Hypergraph.{vertex_count, net_count};
 ghost use Rattle.hg_defs.specs.Partition.{block_of};
-ghost use Rattle.incidence.specs.Incidence.{nets_of};
+ghost use Rattle.hg_defs.specs.Incidence.{nets_of};
 ghost use Rattle.pin_plain.specs.Counts.{count_at};
 ghost use Rattle.pin_plain.specs.Savings.{net_saved, net_lost};
 ghost use Rattle.pin_plain.specs.Parted.{IsTold, IsLoaded};

@@ -1,2 +1,1 @@
-pub mod PenLemmas
 pub mod LoadLemmas

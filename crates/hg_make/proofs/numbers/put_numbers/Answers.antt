@@ -1,7 +1,7 @@
 use Rattle.std.proofs.Common.{ℕ, List, ◌+◌, ◌++◌, [], ◌∷◌, drop, get_or, ap, sym, arith, le_trans, length-drop}
 use Rattle.std.specs.Fmt.{decimal}
 use Rattle.part_text.specs.NumberLines.{separator, numbers_line}
-use Rattle.hg_make.proofs.PenLemmas.{wrote, cut, exit, spelt}
+use Rattle.hg_io.proofs.PenLemmas.{wrote, cut, exit, spelt}
 use Rattle.hg_make.proofs.TextLemmas.{one_more, numbers_line-next}
 use Rattle.hg_make.proofs.numbers.put_numbers.Goals as goal
 

@@ -1,7 +1,7 @@
 use Rattle.std.proofs.Common.{ℕ, List, ◌+◌, ◌++◌, [], ◌∷◌, get_or, ap, sym, ◌∙◌, arith, le_trans}
 use Rattle.std.specs.Fmt.{decimal}
 use Rattle.part_text.specs.NumberLines.{separator, numbers_line}
-use Rattle.hg_make.proofs.PenLemmas.{wrote, cut, exit, spelt}
+use Rattle.hg_io.proofs.PenLemmas.{wrote, cut, exit, spelt}
 use Rattle.hg_make.proofs.TextLemmas.{numbers_from, length-numbers_from, one_more, pins_line-next}
 use Rattle.hg_make.proofs.numbers.put_pins.Goals as goal
 

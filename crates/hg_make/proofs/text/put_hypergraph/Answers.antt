@@ -4,7 +4,7 @@ use Rattle.std.specs.List.{flat_map}
 use Rattle.hg_defs.specs.Hypergraph.{Hyper, net_count, vertex_count}
 use Rattle.part_text.specs.NumberLines.{numbers_line}
 use Rattle.hg_make.specs.Text.{are_nets_weighted, are_vertices_weighted, format, net_numbers}
-use Rattle.hg_make.proofs.PenLemmas.{wrote, cut, ended, unfinished, spelt}
+use Rattle.hg_io.proofs.PenLemmas.{wrote, cut, ended, unfinished, spelt}
 use Rattle.hg_make.proofs.TextLemmas.{lines-parts}
 use Rattle.hg_make.proofs.text.put_hypergraph.Goals as goal
 

@@ -1,7 +1,7 @@
 use Rattle.std.proofs.Common.{◌≡◌, ℕ, ◌++◌, [], ◌∷◌, ap, length, arith}
 use Rattle.std.specs.Fmt.{decimal}
 use Rattle.part_text.specs.NumberLines.{numbers_line}
-use Rattle.hg_make.proofs.PenLemmas.{wrote, cut, exit, spelt}
+use Rattle.hg_io.proofs.PenLemmas.{wrote, cut, exit, spelt}
 use Rattle.hg_make.proofs.TextLemmas.{numbers_from, length-numbers_from, net_line-weighted}
 use Rattle.hg_make.proofs.text.put_net.Goals as goal
 

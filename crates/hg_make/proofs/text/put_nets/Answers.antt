@@ -3,7 +3,7 @@ use Rattle.std.specs.List.{flat_map}
 use Rattle.hg_defs.specs.Hypergraph.{net_of}
 use Rattle.part_text.specs.NumberLines.{numbers_line}
 use Rattle.hg_make.specs.Text.{net_numbers}
-use Rattle.hg_make.proofs.PenLemmas.{wrote, cut, exit, spelt}
+use Rattle.hg_io.proofs.PenLemmas.{wrote, cut, exit, spelt}
 use Rattle.hg_make.proofs.TextLemmas.{one_more, nets_lines-next, net_written}
 use Rattle.hg_make.proofs.text.put_nets.Goals as goal
 

@@ -3,7 +3,7 @@ use Rattle.std.specs.Prelude.{if◌then◌else◌}
 use Rattle.std.specs.Fmt.{decimal}
 use Rattle.std.specs.List.{flat_map}
 use Rattle.part_text.specs.NumberLines.{numbers_line}
-use Rattle.hg_make.proofs.PenLemmas.{wrote, cut, exit, spelt}
+use Rattle.hg_io.proofs.PenLemmas.{wrote, cut, exit, spelt}
 use Rattle.hg_make.proofs.TextLemmas.{one_more, weights_lines-next}
 use Rattle.hg_make.proofs.text.put_weights.Goals as goal
 

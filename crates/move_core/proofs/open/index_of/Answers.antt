@@ -4,7 +4,8 @@ use Rattle.std.proofs.lemmas.Bool.{cases_lt}
 use Rattle.std.proofs.lemmas.List.{take_all, get_or_append_left, get_or_push}
 use Rattle.std.proofs.lemmas.List.FromFn.{fill_by_all}
 use Rattle.hg_defs.specs.Hypergraph.{vertex_count, net_count, net_of}
-use Rattle.move_core.specs.State.{nets_of, times}
+use Rattle.hg_defs.specs.Incidence.{nets_of}
+use Rattle.move_core.specs.State.{times}
 use Rattle.move_core.proofs.TimesLaws.{times_at}
 use Rattle.move_core.proofs.NetLaws.{times_pin}
 use Rattle.move_core.proofs.OpenFacts.{nets_below, nets_with, index_more, nets_below_more, nets_below_all}

@@ -1,4 +1,4 @@
-use Rattle.trace_text.proofs.PenLemmas.{ended, unfinished}
+use Rattle.hg_io.proofs.PenLemmas.{ended, unfinished}
 use Rattle.part_run.proofs.status.put_line.Goals as goal
 
 pub returns-in_err-write_line-clause-bytes : goal.returns-in_err-write_line-clause-bytes

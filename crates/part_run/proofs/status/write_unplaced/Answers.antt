@@ -1,6 +1,6 @@
 use Rattle.std.proofs.Common.{codes}
 use Rattle.std.specs.Fmt.{decimal}
-use Rattle.trace_text.proofs.PenLemmas.{wrote, cut, exit}
+use Rattle.hg_io.proofs.PenLemmas.{wrote, cut, exit}
 use Rattle.part_run.proofs.status.write_unplaced.Goals as goal
 
 pub returns-in_err-write-clause-bytes : goal.returns-in_err-write-clause-bytes

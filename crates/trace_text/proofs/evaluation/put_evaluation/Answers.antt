@@ -5,7 +5,7 @@ use Rattle.hg_defs.specs.Hypergraph.{Hyper, total_weight}
 use Rattle.hg_defs.specs.Partition.{limit, is_fitting}
 use Rattle.hg_defs.specs.Cost.{cost}
 use Rattle.trace_text.specs.Lines.{number_line, sizes_text, objective_text, loads_text, loads_of, fits_text}
-use Rattle.trace_text.proofs.PenLemmas.{wrote, cut, ended, unfinished, spelt}
+use Rattle.hg_io.proofs.PenLemmas.{wrote, cut, ended, unfinished, spelt}
 use Rattle.trace_text.proofs.LoadLemmas.{loads_of-take, fits-loads}
 use Rattle.trace_text.proofs.evaluation.put_evaluation.Goals as goal
 

@@ -1,4 +1,4 @@
-use Rattle.trace_text.proofs.PenLemmas.{wrote, cut, exit}
+use Rattle.hg_io.proofs.PenLemmas.{wrote, cut, exit}
 use Rattle.trace_text.proofs.lines.put_line.Goals as goal
 
 pub returns-in_err-write-clause-bytes : goal.returns-in_err-write-clause-bytes

@@ -1,7 +1,7 @@
 use Rattle.std.proofs.Common.{codes}
 use Rattle.std.specs.Fmt.{decimal}
 use Rattle.trace_text.specs.Lines.{number_line}
-use Rattle.trace_text.proofs.PenLemmas.{wrote, cut, exit}
+use Rattle.hg_io.proofs.PenLemmas.{wrote, cut, exit}
 use Rattle.trace_text.proofs.lines.put_load.Goals as goal
 
 pub returns-in_err-write-clause-bytes : goal.returns-in_err-write-clause-bytes

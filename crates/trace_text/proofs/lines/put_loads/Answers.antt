@@ -1,7 +1,7 @@
 use Rattle.std.proofs.Common.{◌≡◌, ℕ, List, ◌+◌, ◌++◌, drop, get_or, ap, sym, ◌∙◌, append_assoc, arith, le_trans}
 use Rattle.std.specs.List.{flat_map, enumerate_from}
 use Rattle.trace_text.specs.Lines.{load_line, loads_text}
-use Rattle.trace_text.proofs.PenLemmas.{wrote, cut, exit, spelt}
+use Rattle.hg_io.proofs.PenLemmas.{wrote, cut, exit, spelt}
 use Rattle.trace_text.proofs.LoadLemmas.{loads-next}
 use Rattle.trace_text.proofs.lines.put_loads.Goals as goal
 

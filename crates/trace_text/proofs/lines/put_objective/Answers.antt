@@ -1,6 +1,6 @@
 use Rattle.std.proofs.Common.{ap, sym}
 use Rattle.trace_text.specs.Lines.{objective_text}
-use Rattle.trace_text.proofs.PenLemmas.{spelt}
+use Rattle.hg_io.proofs.PenLemmas.{spelt}
 use Rattle.trace_text.proofs.lines.put_objective.Goals as goal
 
 pub returns-in-ExternalDegree-clause-bytes : goal.returns-in-ExternalDegree-clause-bytes

@@ -1,7 +1,7 @@
 use Rattle.std.proofs.Common.{ℕ, List, ◌∙◌, ap, codes}
 use Rattle.hg_defs.specs.Hypergraph.{net_count, total_weight}
 use Rattle.trace_text.specs.Lines.{number_line}
-use Rattle.trace_text.proofs.PenLemmas.{wrote, cut, exit, spelt}
+use Rattle.hg_io.proofs.PenLemmas.{wrote, cut, exit, spelt}
 use Rattle.trace_text.proofs.lines.put_sizes.Goals as goal
 
 abbrev vertices_line : ℕ → List ℕ

@@ -4,7 +4,7 @@ use Rattle.hg_defs.specs.Cost.{cost}
 use Rattle.hg_defs.specs.LeastLoaded.{greedy}
 use Rattle.trace_text.specs.Lines.{number_line}
 use Rattle.trace_text.specs.Summary.{outcome_text}
-use Rattle.trace_text.proofs.PenLemmas.{wrote, cut, ended, unfinished, spelt}
+use Rattle.hg_io.proofs.PenLemmas.{wrote, cut, ended, unfinished, spelt}
 use Rattle.trace_text.proofs.summary.put_summary.Goals as goal
 
 abbrev vertices_line : ℕ → List ℕ

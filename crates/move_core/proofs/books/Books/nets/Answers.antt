@@ -2,7 +2,8 @@
 use Rattle.std.proofs.Common.{◌≡◌, ◌<◌, All, length, ap, sym, subst, arith, ◌∙◌}
 use Rattle.std.proofs.lemmas.Grind.{get_or_default_zero}
 use Rattle.hg_defs.specs.Hypergraph.{vertex_count, net_count}
-use Rattle.move_core.specs.State.{State, nets_of}
+use Rattle.hg_defs.specs.Incidence.{nets_of}
+use Rattle.move_core.specs.State.{State}
 use Rattle.move_core.proofs.IndexLaws.{index-length, index-at, nets_of-small}
 use Rattle.move_core.proofs.NetLaws.{net_at-below}
 use Rattle.move_core.proofs.books.Books.nets.Goals as goal

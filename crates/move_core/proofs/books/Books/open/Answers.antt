@@ -1,7 +1,8 @@
 -- Each word reads as it must at the opening, where the books are in balance.
 use Rattle.std.proofs.Common.{rules, ◌≡◌, ◌*◌, length, map, replicate, ap, ◌∙◌, subst, sym, arith}
 use Rattle.hg_defs.specs.Hypergraph.{Hyper, vertices}
-use Rattle.move_core.specs.State.{Setup, nets_of, setup_of}
+use Rattle.hg_defs.specs.Incidence.{nets_of}
+use Rattle.move_core.specs.State.{Setup, setup_of}
 use Rattle.move_core.specs.Balance.{IsBooks, IsSetup}
 use Rattle.move_core.proofs.OpenLaws.{length-opened_counts, opened_books}
 use Rattle.move_core.proofs.OpenFacts.{spreads_all, opened_from}

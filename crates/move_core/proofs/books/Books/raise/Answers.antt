@@ -2,7 +2,8 @@
 use Rattle.std.proofs.Common.{◌≡◌, ◌<◌, true, length, slice_index, ap, ◌∙◌, subst, sym, arith}
 use Rattle.move_core.specs.declared.events.Event.TheVariants.{Raise}
 use Rattle.hg_defs.specs.Hypergraph.{vertex_count}
-use Rattle.move_core.specs.State.{State, account, nets_of, count_place}
+use Rattle.hg_defs.specs.Incidence.{nets_of}
+use Rattle.move_core.specs.State.{State, account, count_place}
 use Rattle.move_core.specs.Stages.{vertex_at, to_at, raised_at}
 use Rattle.move_core.specs.Events.{is_enabled}
 use Rattle.move_core.specs.contracts.books.Books.{the_view}

@@ -3,7 +3,8 @@ use Rattle.std.proofs.Common.{rules, ◌≡◌, ◌+◌, ◌-◌, true, length, 
 use Rattle.move_core.specs.declared.account.Account.{Account}
 use Rattle.move_core.specs.declared.events.Event.TheVariants.{Widen}
 use Rattle.hg_defs.specs.Hypergraph.{vertex_count, net_count}
-use Rattle.move_core.specs.State.{State, account, nets_of}
+use Rattle.hg_defs.specs.Incidence.{nets_of}
+use Rattle.move_core.specs.State.{State, account}
 use Rattle.move_core.specs.Stages.{vertex_at, raised_at, booked_at}
 use Rattle.move_core.specs.Events.{is_enabled, found_of, booked, widen_gain}
 use Rattle.move_core.specs.Run.{Leads}

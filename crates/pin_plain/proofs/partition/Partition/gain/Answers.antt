@@ -3,7 +3,7 @@ use Rattle.hg_defs.specs.Sums.{total}
 use Rattle.hg_defs.specs.Hypergraph.{Hyper, IsHypergraph}
 use Rattle.hg_defs.specs.Partition.{IsPartition, block_of}
 use Rattle.hg_defs.specs.Moves.{gain}
-use Rattle.incidence.specs.Incidence.{nets_of}
+use Rattle.hg_defs.specs.Incidence.{nets_of}
 use Rattle.pin_plain.specs.Parted.{Parted}
 use Rattle.pin_plain.specs.Savings.{net_saved}
 use Rattle.pin_plain.proofs.GainLaws.{gain_counted}
