@@ -1,10 +1,9 @@
 -- The index of the nets of each vertex.
-use Rattle.std.proofs.Common.{◌≡◌, ℕ, ◌<◌, ◌≤◌, ◌^◌, Bool, true, false, cond, List, [], ◌∷◌, map, filter, length, get_or, nat_lt, ap, ◌∙◌, arith}
+use Rattle.std.proofs.Common.{◌≡◌, ℕ, ◌<◌, ◌≤◌, ◌^◌, Bool, true, false, cond, List, [], ◌∷◌, map, filter, length, get_or, ap, ◌∙◌, arith}
 use Rattle.std.specs.List.{range_with_len}
 use Rattle.std.proofs.lemmas.List.FromFn.{length-map-range_with_len, get_or-map-range_with_len, length-range_with_len}
-use Rattle.hg_defs.specs.Hypergraph.{Hyper, IsWithinLimits, vertices, vertex_count, net_count, net_of}
+use Rattle.hg_defs.specs.Hypergraph.{Hyper, IsWithinLimits, vertices, vertex_count, net_count}
 use Rattle.hg_defs.specs.Incidence.{is_on, nets_of}
-use Rattle.move_core.specs.State.{times}
 
 length-filter-le : {A : Type 0} (p : A → Bool) (xs : List A) → length (filter p xs) ≤ length xs
 length-filter-le p [] = omega arith
