@@ -5,3 +5,4 @@ pub mod Flushed
 pub mod Unplaced
 pub mod Nonempty
 pub mod Swept
+pub mod WordLaws

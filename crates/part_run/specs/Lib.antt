@@ -4,3 +4,4 @@ pub mod Places
 pub mod StatusText
 pub mod Reads
 pub mod Answers
+pub mod WordLaws

@@ -4,6 +4,7 @@
 mod ended;
 mod evaluate;
 mod generate;
+pub mod laws;
 mod naming;
 mod partition;
 mod places;

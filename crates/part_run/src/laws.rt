@@ -1,0 +1,12 @@
+//! The laws over the words of a command line. Each is the contract of a function that does nothing.
+
+ghost use Rattle.part_run.specs.WordLaws.{TakenWordsAreSettings, TakenWordsStandOnce, TakenWordsAreSpelled, SettingsAreTaken};
+
+/// The words behind the imbalance are taken exactly where each is a setting and no key stands twice;
+/// each setting is then what the word with its key spells, wherever that word stands.
+pub fn settings_of_words()
+    ensures settings { TakenWordsAreSettings }
+    ensures once { TakenWordsStandOnce }
+    ensures spelled { TakenWordsAreSpelled }
+    ensures taken { SettingsAreTaken }
+{}
