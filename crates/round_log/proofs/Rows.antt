@@ -25,20 +25,20 @@ move v a b gain = record { vertex = v; from = a; to = b; worker = 0; booked = po
 
 -- ---- a minimum cut in a row of four vertices
 
-abbrev row : Hyper
-row = unit Connectivity (free 4) (net 1 (0 ∷ 1 ∷ []) ∷ net 5 (1 ∷ 2 ∷ []) ∷ net 1 (2 ∷ 3 ∷ []) ∷ [])
+abbrev line : Hyper
+line = unit Connectivity (free 4) (net 1 (0 ∷ 1 ∷ []) ∷ net 5 (1 ∷ 2 ∷ []) ∷ net 1 (2 ∷ 3 ∷ []) ∷ [])
 
-row-region : region row 3 (0 ∷ 0 ∷ 1 ∷ 1 ∷ []) 0 1 ≡ 1 ∷ 2 ∷ []
-row-region = refl
+line-region : region line 3 (0 ∷ 0 ∷ 1 ∷ 1 ∷ []) 0 1 ≡ 1 ∷ 2 ∷ []
+line-region = refl
 
-row-costs : map (cost row) ((0 ∷ 0 ∷ 1 ∷ 1 ∷ []) ∷ (0 ∷ 0 ∷ 0 ∷ 1 ∷ []) ∷ (0 ∷ 1 ∷ 1 ∷ 1 ∷ []) ∷ (0 ∷ 1 ∷ 0 ∷ 1 ∷ []) ∷ []) ≡ 5 ∷ 1 ∷ 1 ∷ 7 ∷ []
-row-costs = refl
+line-costs : map (cost line) ((0 ∷ 0 ∷ 1 ∷ 1 ∷ []) ∷ (0 ∷ 0 ∷ 0 ∷ 1 ∷ []) ∷ (0 ∷ 1 ∷ 1 ∷ 1 ∷ []) ∷ (0 ∷ 1 ∷ 0 ∷ 1 ∷ []) ∷ []) ≡ 5 ∷ 1 ∷ 1 ∷ 7 ∷ []
+line-costs = refl
 
-row-value : pair_cost row (0 ∷ 0 ∷ 0 ∷ 1 ∷ []) 0 1 ≡ 1
-row-value = refl
+line-value : pair_cost line (0 ∷ 0 ∷ 0 ∷ 1 ∷ []) 0 1 ≡ 1
+line-value = refl
 
-row-moves : changes row (0 ∷ 0 ∷ 1 ∷ 1 ∷ []) (0 ∷ 0 ∷ 0 ∷ 1 ∷ []) (vertices row) ≡ move 2 1 0 4 ∷ []
-row-moves = refl
+line-moves : changes line (0 ∷ 0 ∷ 1 ∷ 1 ∷ []) (0 ∷ 0 ∷ 0 ∷ 1 ∷ []) (vertices line) ≡ move 2 1 0 4 ∷ []
+line-moves = refl
 
 -- ---- a pair whose blocks are full: the region is empty, and the value is what the cut net costs
 
@@ -91,8 +91,8 @@ thirds-joined = refl
 
 -- ---- two pairs of four blocks
 
-abbrev rows : Objective → Hyper
-rows o = unit
+abbrev lines : Objective → Hyper
+lines o = unit
     o
     (free 8)
     (net 1 (0 ∷ 1 ∷ []) ∷ net 5 (1 ∷ 2 ∷ []) ∷ net 1 (2 ∷ 3 ∷ []) ∷ net 1 (4 ∷ 5 ∷ []) ∷ net 5 (5 ∷ 6 ∷ []) ∷ net 1 (6 ∷ 7 ∷ []) ∷ [])
@@ -109,26 +109,26 @@ both_joined = 0 ∷ 0 ∷ 0 ∷ 3 ∷ 1 ∷ 1 ∷ 1 ∷ 2 ∷ []
 four-pairs : block_pairs 4 ≡ (0, 1) ∷ (0, 2) ∷ (0, 3) ∷ (1, 2) ∷ (1, 3) ∷ (2, 3) ∷ []
 four-pairs = refl
 
-rows-touched : map (λ (pair : ℕ × ℕ). length (touching (rows Connectivity) halves pair.0 pair.1)) (block_pairs 4) ≡ 0 ∷ 0 ∷ 1 ∷ 1 ∷ 0 ∷ 0 ∷ []
-rows-touched = refl
+lines-touched : map (λ (pair : ℕ × ℕ). length (touching (lines Connectivity) halves pair.0 pair.1)) (block_pairs 4) ≡ 0 ∷ 0 ∷ 1 ∷ 1 ∷ 0 ∷ 0 ∷ []
+lines-touched = refl
 
-rows-first : region (rows Connectivity) 3 halves 0 3 ≡ 1 ∷ 2 ∷ []
-rows-first = refl
+lines-first : region (lines Connectivity) 3 halves 0 3 ≡ 1 ∷ 2 ∷ []
+lines-first = refl
 
-rows-second : region (rows Connectivity) 3 first_joined 1 2 ≡ 5 ∷ 6 ∷ []
-rows-second = refl
+lines-second : region (lines Connectivity) 3 first_joined 1 2 ≡ 5 ∷ 6 ∷ []
+lines-second = refl
 
-rows-costs : map (cost (rows Connectivity)) (halves ∷ first_joined ∷ both_joined ∷ []) ≡ 10 ∷ 6 ∷ 2 ∷ []
-rows-costs = refl
+lines-costs : map (cost (lines Connectivity)) (halves ∷ first_joined ∷ both_joined ∷ []) ≡ 10 ∷ 6 ∷ 2 ∷ []
+lines-costs = refl
 
-rows-degrees : map (cost (rows ExternalDegree)) (halves ∷ first_joined ∷ both_joined ∷ []) ≡ 20 ∷ 12 ∷ 4 ∷ []
-rows-degrees = refl
+lines-degrees : map (cost (lines ExternalDegree)) (halves ∷ first_joined ∷ both_joined ∷ []) ≡ 20 ∷ 12 ∷ 4 ∷ []
+lines-degrees = refl
 
-rows-values : pair_cost (rows Connectivity) first_joined 0 3 ∷ pair_cost (rows Connectivity) both_joined 1 2 ∷ [] ≡ 1 ∷ 1 ∷ []
-rows-values = refl
+lines-values : pair_cost (lines Connectivity) first_joined 0 3 ∷ pair_cost (lines Connectivity) both_joined 1 2 ∷ [] ≡ 1 ∷ 1 ∷ []
+lines-values = refl
 
-rows-degree_values : pair_cost (rows ExternalDegree) first_joined 0 3 ∷ pair_cost (rows ExternalDegree) both_joined 1 2 ∷ [] ≡ 2 ∷ 2 ∷ []
-rows-degree_values = refl
+lines-degree_values : pair_cost (lines ExternalDegree) first_joined 0 3 ∷ pair_cost (lines ExternalDegree) both_joined 1 2 ∷ [] ≡ 2 ∷ 2 ∷ []
+lines-degree_values = refl
 
 -- ---- a sweep of a path of six vertices, and the next one
 
