@@ -14,7 +14,7 @@ use crate::evaluate::write_evaluation;
 use crate::reading::{read_fixes, read_graph};
 use crate::words::Partitioning;
 use crate::{Outcome, Status};
-use hg_base::{Blocks, FREE, FlatHyper, GreedyEnd, NoMemory, greedy, limit_of};
+use hg_base::{Blocks, FREE, FlatHyper, GreedyEnd, greedy, limit_of};
 use hg_io::{Failed, Sink, Source};
 use incidence::Hypergraph;
 use part_text::put_part;
@@ -127,19 +127,11 @@ fn settle(
     ensures blocks { IfOk result (λ q. q.k ≡ p.now.k) }
 {
     let _vertices = h.vertices();
-    let blocks = match place(alloc, p, h.flat(), limit) {
-        Ok(blocks) => blocks,
-        Err(status) => return Err(status),
-    };
-    let mut partition = match Partition::of(alloc, h, p.k, limit, blocks) {
-        Ok(partition) => partition,
-        Err(NoMemory) => return Err(Status::NoMemory),
-    };
+    let blocks = place(alloc, p, h.flat(), limit)?;
+    let mut partition = Partition::of(alloc, h, p.k, limit, blocks)?;
     let mut sweeps = RoundList::new(alloc);
-    match partition.settle(alloc, h, &mut sweeps) {
-        Ok(_) => Ok(partition),
-        Err(NoMemory) => Err(Status::NoMemory),
-    }
+    partition.settle(alloc, h, &mut sweeps)?;
+    Ok(partition)
 }
 
 /// Writes the partition, and then its report.
@@ -241,25 +233,14 @@ pub(crate) fn partition<S: Source, X: Source, K: Sink, R: Sink>(
     ensures out_later { K.faults out.old ≤ K.faults out.new }
     ensures report_later { R.faults report.old ≤ R.faults report.new }
 {
-    let flat = match accept(alloc, p, graph, extra) {
-        Ok(flat) => flat,
-        Err(status) => return Err(status),
-    };
+    let flat = accept(alloc, p, graph, extra)?;
     let limit = limit_of(flat.total_weight(), p.k, p.eps);
-    let h = match Hypergraph::build(alloc, flat) {
-        Ok(h) => h,
-        Err(NoMemory) => return Err(Status::NoMemory),
-    };
-    let partition = match settle(alloc, p, &h, limit) {
-        Ok(partition) => partition,
-        Err(status) => return Err(status),
-    };
-    match deliver(p, h.flat(), partition.blocks(), out, report) {
-        Ok(()) => {
-            let cost = partition.cost(&h);
-            let blocks = partition.into_blocks();
-            Ok(Outcome { blocks, cost })
-        }
-        Err(status) => Err(status),
-    }
+    let h = Hypergraph::build(alloc, flat)?;
+    let partition = settle(alloc, p, &h, limit)?;
+    deliver(p, h.flat(), partition.blocks(), out, report)?;
+    let cost = partition.cost(&h);
+    Ok(Outcome {
+        blocks: partition.into_blocks(),
+        cost,
+    })
 }

@@ -5,6 +5,7 @@ ghost use Rattle.hg_io.specs.Faults.{HasCause};
 ghost use Rattle.hg_io.specs.Transfers.{PutsAll, Writes};
 ghost use Rattle.part_run.specs.StatusText.{code_of, line_kind_text, what_text, part_kind_text, line_text, status_text};
 
+use hg_base::NoMemory;
 use hg_io::{Failed, Pen, Sink, put_all};
 use hg_text::put_number;
 use hmetis_read::{LineKind, What};
@@ -56,6 +57,16 @@ pub enum Status {
         /// What is wrong with it.
         kind: PartKind,
     },
+}
+
+impl From<NoMemory> for Status {
+    ghost use Rattle.part_run.specs.declared.status.Status.TheVariants.{NoMemory as no_memory};
+
+    ghost from_gives = { λ _ status. status ≡ no_memory };
+
+    fn from(_error: NoMemory) -> Self {
+        Status::NoMemory
+    }
 }
 
 impl Status {
