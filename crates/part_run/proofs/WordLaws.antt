@@ -1,14 +1,14 @@
 -- The laws over the words of settings.
-use Rattle.std.proofs.Common.{◌≡◌, ℕ, ◌+◌, ◌-◌, ◌^◌, ◌<◌, ◌≤◌, ◌⊎◌, inl, inr, Bool, true, false, if◌then◌else◌, List, [], ◌∷◌, length, All, Option, Some, None, refl, sym, ap, subst, ◌∙◌, arith}
+use Rattle.std.proofs.Common.{◌≡◌, ℕ, ◌+◌, ◌<◌, ◌≤◌, ◌⊎◌, inl, inr, Bool, true, false, if◌then◌else◌, List, [], ◌∷◌, length, All, Option, Some, None, refl, sym, ap, subst, ◌∙◌, arith}
 use Rattle.std.specs.Prelude.{IsSome, option_map, option_and_then, codes, bytes_eq, nat_le}
-use Rattle.std.specs.List.{position_or_len, before_first, after_first}
+use Rattle.std.specs.List.{position_or_len}
 use Rattle.std.proofs.lemmas.Bool.{leb-false, lt-leb}
 use Rattle.std.proofs.lemmas.Option.{option_and_then_some}
 use Rattle.std.proofs.lemmas.Slice.Eq.{bytes_eq-Decides}
 use Rattle.std.proofs.lemmas.List.Elements.{All-nil, All-cons, All-head, All-tail}
 use Rattle.hg_defs.specs.declared.objective.Objective.{Objective}
-use Rattle.part_run.specs.Wanted.{Settings, no_settings, with_word, with_words, if_unset, is_equals, number_within, file_name, plain_name, objective_of}
-use Rattle.part_run.specs.WordLaws.{key_of, value_of, value_for, words_with, seed_in, workers_in, IsSetting, StandOnce, AreSpelled, TakenWordsAreSettings, TakenWordsStandOnce, TakenWordsAreSpelled, SettingsAreTaken}
+use Rattle.part_run.specs.Wanted.{Settings, no_settings, with_word, with_words, if_unset, is_equals, file_name, plain_name, objective_of}
+use Rattle.part_run.specs.WordLaws.{key_of, value_of, value_for, words_with, seed_in, workers_in, IsSetting, TakenWordsAreSettings, TakenWordsStandOnce, TakenWordsAreSpelled, SettingsAreTaken}
 
 -- ---- one word
 
