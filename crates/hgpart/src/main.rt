@@ -6,13 +6,16 @@ use hg_defs::NoMemory;
 use hg_io::{AnySink, AnySource, Place, StdSink};
 use part_run::{Status, names, put_status, run};
 use std::env;
+use std::io::ErrorKind;
 use std::process::ExitCode;
 
-/// The words of the command line behind the program's name, or `None` where one isn't text.
+/// The words of the command line behind the program's name. They are at fault where one isn't text.
 fn words(rt: &HostRuntime) -> Result<Vec<String>, Status> {
     let mut words = Vec::new(rt.alloc());
-    let Ok(arguments) = env::args(rt) else {
-        return Err(Status::Usage);
+    let arguments = match env::args(rt) {
+        Ok(arguments) => arguments,
+        Err(error) if error.kind() == ErrorKind::OutOfMemory => return Err(Status::NoMemory),
+        Err(_) => return Err(Status::Usage),
     };
     for word in arguments.skip(1) {
         if words.push(word).is_err() {
