@@ -1,11 +1,10 @@
 -- Laws of counts packed into words: a change of one field leaves the others, where the field neither runs over nor falls below 0.
-use Rattle.std.proofs.Common.{◌≡◌, ◌≢◌, ℕ, Bool, true, false, nat_le, if◌then◌else◌, ◌+◌, ◌-◌, ◌*◌, ◌/◌, ◌%◌, ◌^◌, ◌<◌, ◌≤◌, inl, inr, List, length, replicate, slice_index, slice_set, get_or-set_same, get_or-set_other, refl, sym, ap, ap₂, ◌∙◌, subst, ⊎_elim, arith}
-use Rattle.std.proofs.lemmas.Bool.{cases_eq, cases_lt}
+use Rattle.std.proofs.Common.{◌≡◌, ◌≢◌, ℕ, nat_eq, if◌then◌else◌, add-zero, ◌+◌, ◌-◌, ◌*◌, ◌/◌, ◌%◌, ◌^◌, ◌<◌, ◌≤◌, inl, inr, replicate, slice_index, refl, sym, ap, ap₂, ◌∙◌, subst, ⊎_elim, arith}
+use Rattle.std.proofs.lemmas.Bool.{cases_eq, cases_lt, eq-eqb, ne_eqb}
 use Rattle.std.proofs.lemmas.List.{get_or-replicate, get_or_past, length-replicate}
 use Rattle.std.proofs.lemmas.Nat.{pow_pos, pow-add, div-mul-add, mod-mul-add, mod_below, div_below, div-add-mod'}
 use Rattle.std.proofs.Math.Nat.{add-mul-div_left, add-mul-div_right, add-mul-mod_self_left, div-div-eq-div-mul, div-lt_iff_lt-mul, div-mul-le_self, mul-le-mul_right, mod-le, zero-div, zero-mod}
-use Rattle.hg_base.specs.Packed.{field, unit, fields_of, count_at, IsWidth, bits_of, words_of}
-use Rattle.hg_defs.specs.Partition.{divided_up}
+use Rattle.hg_base.specs.Packed.{field, unit, fields_of, count_at, IsWidth}
 
 -- ---- a number in a base, of which one digit changes
 
@@ -110,74 +109,69 @@ module _ (bits p w n : ℕ) (some : n ≤ field w bits p) where
       let same = field-sub_same in
       sym (field-add_other bits p (w - n * unit bits p) n (omega arith) q other) ∙ ap (λ x. field x bits q) less
 
--- ---- the counts of a net
+place_within : (bits p : ℕ) → IsWidth bits → p < fields_of bits → (p + 1) * bits ≤ 64
+place_within bits p (inl e) = subst (λ b. p < fields_of b → (p + 1) * b ≤ 64) (sym e) (λ l. omega arith)
+place_within bits p (inr e) = subst (λ b. p < fields_of b → (p + 1) * b ≤ 64) (sym e) (λ l. omega arith)
+
+-- ---- one field raised or lowered by one
+
+pub raised_field : (w bits p q : ℕ) → field w bits p + 1 < 2 ^ bits → field (w + unit bits p) bits q ≡ field w bits q + (if nat_eq q p then 1 else 0)
+raised_field w bits p q most =
+    let one : w + unit bits p ≡ w + 1 * unit bits p = omega arith in
+    ap (λ x. field x bits q) one
+    ∙ ⊎_elim
+    (λ (e : q ≡ p).
+    ap (λ i. field (w + 1 * unit bits p) bits i) e ∙ field-add_same bits p w 1 most
+    ∙ sym (ap (λ i. field w bits i + (if nat_eq i p then 1 else 0)) e ∙ ap (λ t. field w bits p + (if t then 1 else 0)) (eq-eqb p p refl)))
+    (λ (e : q ≢ p).
+    field-add_other bits p w 1 most q e ∙ sym (add-zero (field w bits q)) ∙ ap (λ t. field w bits q + (if t then 1 else 0)) (sym (ne_eqb q p e)))
+    (cases_eq q p)
+
+pub lowered_field : (w bits p q : ℕ) → 0 < field w bits p → field (w - unit bits p) bits q + (if nat_eq q p then 1 else 0) ≡ field w bits q
+lowered_field w bits p q some =
+    let one : w - unit bits p ≡ w - 1 * unit bits p = omega arith in
+    ap (λ x. field x bits q + (if nat_eq q p then 1 else 0)) one
+    ∙ ⊎_elim
+    (λ (e : q ≡ p).
+    ap (λ i. field (w - 1 * unit bits p) bits i + (if nat_eq i p then 1 else 0)) e
+    ∙ ap (λ t. field (w - 1 * unit bits p) bits p + (if t then 1 else 0)) (eq-eqb p p refl)
+    ∙ (let same = field-sub_same bits p w 1 some in omega arith)
+    ∙ ap (field w bits) (sym e))
+    (λ (e : q ≢ p).
+    ap (λ t. field (w - 1 * unit bits p) bits q + (if t then 1 else 0)) (ne_eqb q p e)
+    ∙ add-zero (field (w - 1 * unit bits p) bits q)
+    ∙ field-sub_other bits p w 1 some q e)
+    (cases_eq q p)
+
+pub raised_field_fits : (w bits p : ℕ) → IsWidth bits → p < fields_of bits → w < 2 ^ 64 → field w bits p + 1 < 2 ^ bits → w + unit bits p < 2 ^ 64
+raised_field_fits w bits p width place small most =
+    let one : w + unit bits p ≡ w + 1 * unit bits p = omega arith in
+    subst (λ x. x < 2 ^ 64) (sym one) (field-add_fits bits p w 1 most small (place_within bits p width place))
+
+pub lowered_field_within : (w bits p : ℕ) → 0 < field w bits p → unit bits p ≤ w
+lowered_field_within w bits p some = let h = field-sub_within bits p w 1 some in omega arith
+
+-- ---- the places of fields
+
+pub fields_positive : (bits : ℕ) → IsWidth bits → 0 < fields_of bits
+fields_positive bits (inl e) = subst (λ b. 0 < fields_of b) (sym e) (omega arith)
+fields_positive bits (inr e) = subst (λ b. 0 < fields_of b) (sym e) (omega arith)
+
+pub place_below : (bits b : ℕ) → IsWidth bits → b % fields_of bits < fields_of bits
+place_below bits b width = mod_below b (fields_of bits) (fields_positive bits width)
 
 -- a block has a field of its own
-same_block : (f a b : ℕ) → a / f ≡ b / f → a % f ≡ b % f → a ≡ b
+pub same_block : (f a b : ℕ) → a / f ≡ b / f → a % f ≡ b % f → a ≡ b
 same_block f a b e g = sym (div-add-mod' a f) ∙ ap₂ (λ x y. x * f + y) e g ∙ div-add-mod' b f
 
-module _ (bits : ℕ) (words : List ℕ) (b word : ℕ) (inside : b / fields_of bits < length words) where
-  read_same : slice_index (slice_set words (b / fields_of bits) word) (b / fields_of bits) ≡ word
-  read_same = get_or-set_same words (b / fields_of bits) word 0 inside
-
-  -- the counts after a write of the word of block b, which leaves the other fields of that word
-  count_at-set_other : ((q : ℕ) → q ≢ b % fields_of bits → field word bits q ≡ field (slice_index words (b / fields_of bits)) bits q)
-      → (c : ℕ) → c ≢ b → count_at bits (slice_set words (b / fields_of bits) word) c ≡ count_at bits words c
-  count_at-set_other keeps c other =
-      ⊎_elim
-      (λ (e : c / fields_of bits ≡ b / fields_of bits).
-      ap (λ i. field (slice_index (slice_set words (b / fields_of bits) word) i) bits (c % fields_of bits)) e
-      ∙ ap (λ w. field w bits (c % fields_of bits)) read_same
-      ∙ keeps (c % fields_of bits) (λ g. other (same_block (fields_of bits) c b e g))
-      ∙ ap (λ i. field (slice_index words i) bits (c % fields_of bits)) (sym e))
-      (λ (e : c / fields_of bits ≢ b / fields_of bits).
-      ap (λ w. field w bits (c % fields_of bits)) (get_or-set_other words (b / fields_of bits) (c / fields_of bits) word 0 e))
-      (cases_eq (c / fields_of bits) (b / fields_of bits))
-
--- n more in block b
-module _ (bits : ℕ) (words : List ℕ) (b n : ℕ) (inside : b / fields_of bits < length words) (most : count_at bits words b + n < 2 ^ bits) where
-  pub count_at-add_same : count_at bits (slice_set words (b / fields_of bits) (slice_index words (b / fields_of bits) + n * unit bits (b % fields_of bits))) b ≡ count_at bits words b + n
-  count_at-add_same =
-      ap (λ w. field w bits (b % fields_of bits)) (read_same bits words b (slice_index words (b / fields_of bits) + n * unit bits (b % fields_of bits)) inside)
-      ∙ field-add_same bits (b % fields_of bits) (slice_index words (b / fields_of bits)) n most
-
-  pub count_at-add_other : (c : ℕ) → c ≢ b → count_at bits (slice_set words (b / fields_of bits) (slice_index words (b / fields_of bits) + n * unit bits (b % fields_of bits))) c ≡ count_at bits words c
-  count_at-add_other =
-      count_at-set_other bits words b (slice_index words (b / fields_of bits) + n * unit bits (b % fields_of bits)) inside
-      (field-add_other bits (b % fields_of bits) (slice_index words (b / fields_of bits)) n most)
-
--- n less in block b
-module _ (bits : ℕ) (words : List ℕ) (b n : ℕ) (inside : b / fields_of bits < length words) (some : n ≤ count_at bits words b) where
-  pub count_at-sub_same : count_at bits (slice_set words (b / fields_of bits) (slice_index words (b / fields_of bits) - n * unit bits (b % fields_of bits))) b ≡ count_at bits words b - n
-  count_at-sub_same =
-      ap (λ w. field w bits (b % fields_of bits)) (read_same bits words b (slice_index words (b / fields_of bits) - n * unit bits (b % fields_of bits)) inside)
-      ∙ field-sub_same bits (b % fields_of bits) (slice_index words (b / fields_of bits)) n some
-
-  pub count_at-sub_other : (c : ℕ) → c ≢ b → count_at bits (slice_set words (b / fields_of bits) (slice_index words (b / fields_of bits) - n * unit bits (b % fields_of bits))) c ≡ count_at bits words c
-  count_at-sub_other =
-      count_at-set_other bits words b (slice_index words (b / fields_of bits) - n * unit bits (b % fields_of bits)) inside
-      (field-sub_other bits (b % fields_of bits) (slice_index words (b / fields_of bits)) n some)
-
 -- words of 0 count nothing
-pub count_at-zeros : (bits m b : ℕ) → count_at bits (replicate m 0) b ≡ 0
-count_at-zeros bits m b =
+pub count_at-zeros : (start bits m b : ℕ) → count_at (replicate m 0) start bits b ≡ 0
+count_at-zeros start bits m b =
     ap (λ w. field w bits (b % fields_of bits)) zeros ∙ ap (λ x. x % 2 ^ bits) (zero-div (unit bits (b % fields_of bits))) ∙ zero-mod (2 ^ bits)
   where
-    zeros : slice_index (replicate m 0) (b / fields_of bits) ≡ 0
+    zeros : slice_index (replicate m 0) (start + b / fields_of bits) ≡ 0
     zeros =
         ⊎_elim
-        (λ (l : b / fields_of bits < m). get_or-replicate m (b / fields_of bits) 0 0 l)
-        (λ (l : m ≤ b / fields_of bits). get_or_past (replicate m 0) (b / fields_of bits) 0 (let n = length-replicate {A = ℕ} m 0 in omega arith))
-        (cases_lt (b / fields_of bits) m)
-
--- a field has its place in a word, and a block its word
-pub place_within : (bits b : ℕ) → IsWidth bits → b % fields_of bits < fields_of bits
-place_within bits b (inl e) = subst (λ w. b % fields_of w < fields_of w) (sym e) (mod_below b 4 (omega arith))
-place_within bits b (inr e) = subst (λ w. b % fields_of w < fields_of w) (sym e) (mod_below b 2 (omega arith))
-
-pub word_within : (pins k b : ℕ) → b < k → b / fields_of (bits_of pins) < words_of pins k
-word_within pins k b l = by (nat_le pins 65535)
-  where
-    by : (t : Bool) → b / fields_of (if t then 16 else 32) < divided_up (k * (if t then 16 else 32)) 64
-    by true = omega arith
-    by false = omega arith
+        (λ (l : start + b / fields_of bits < m). get_or-replicate m (start + b / fields_of bits) 0 0 l)
+        (λ (l : m ≤ start + b / fields_of bits). get_or_past (replicate m 0) (start + b / fields_of bits) 0 (let n = length-replicate {A = ℕ} m 0 in omega arith))
+        (cases_lt (start + b / fields_of bits) m)

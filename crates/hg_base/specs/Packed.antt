@@ -1,5 +1,5 @@
 -- Counts packed into words of 64 bits: fields of 16 or 32 bits, the first in the lowest bits.
-use Rattle.std.specs.Prelude.{◌≡◌, ◌⊎◌, ℕ, ◌*◌, ◌/◌, ◌%◌, ◌^◌, List, slice_index, nat_le, if◌then◌else◌}
+use Rattle.std.specs.Prelude.{◌≡◌, ◌⊎◌, ℕ, ◌+◌, ◌*◌, ◌/◌, ◌%◌, ◌^◌, List, slice_index, nat_le, if◌then◌else◌}
 use Rattle.hg_defs.specs.Partition.{divided_up}
 
 -- how many bits the counts of a net of this many pins take
@@ -26,6 +26,6 @@ field word bits place = word / 2 ^ (place * bits) % 2 ^ bits
 abbrev pub unit : ℕ → ℕ → ℕ
 unit bits place = 2 ^ (place * bits)
 
--- the count of block b in the words of a net: block b has the field at place b % fields_of bits of word b / fields_of bits
-abbrev pub count_at : ℕ → List ℕ → ℕ → ℕ
-count_at bits words b = field (slice_index words (b / fields_of bits)) bits (b % fields_of bits)
+-- the count of block b, where the counts of its net start at a word and take so many bits: the field at place b % fields_of bits of word b / fields_of bits from there on
+abbrev pub count_at : List ℕ → ℕ → ℕ → ℕ → ℕ
+count_at words start bits b = field (slice_index words (start + b / fields_of bits)) bits (b % fields_of bits)

@@ -17,5 +17,5 @@ pub use hg_defs::{FREE, Move, NoMemory, Objective};
 pub use hyper::FlatHyper;
 pub use limit::limit_of;
 pub use list::{Blocks, Flags, Gains, Items, MapList, MapStack, TryClone, Verts};
-pub use packed::{bits_of, field, unit, words_of};
+pub use packed::{bits_of, field, lower_field, raise_field, unit, words_of};
 pub use placement::{GreedyEnd, greedy, least_loaded};

@@ -1,7 +1,7 @@
 //! Counts packed into words of 64 bits. The count of block `b` stands in the field at place
 //! `b % (64 / bits)` of word `b / (64 / bits)` of its net.
 
-ghost use Rattle.std.specs.Prelude.{◌≡◌, ◌<◌, ◌≤◌, ◌^◌};
+ghost use Rattle.std.specs.Prelude.{◌≡◌, ℕ, ◌+◌, ◌-◌, ◌<◌, ◌≤◌, ◌^◌, nat_eq, if◌then◌else◌};
 ghost use Rattle.hg_base.specs.Packed as packed;
 ghost use Rattle.hg_base.specs.Packed.{IsWidth, fields_of};
 
@@ -38,4 +38,28 @@ pub fn unit(bits: u32, place: u32) -> u64
     ensures { result ≡ packed.unit bits place }
 {
     1 << (place * bits)
+}
+
+/// The word with one more in the field at a place, below `64 / bits`, which must have room for it.
+#[tactic(auto, using(crate::proofs::PackedLaws::raised_field_fits))]
+pub fn raise_field(word: u64, bits: u32, place: u32) -> u64
+    requires width { IsWidth bits }
+    requires place { place < fields_of bits }
+    requires room { packed.field word bits place + 1 < 2 ^ bits }
+    ensures word { result ≡ word + packed.unit bits place }
+    ensures fields { (q : ℕ) → packed.field result bits q ≡ packed.field word bits q + (if nat_eq q place then 1 else 0) }
+{
+    word + unit(bits, place)
+}
+
+/// The word with one less in the field at a place, below `64 / bits`, which must hold one at least.
+#[tactic(auto, using(crate::proofs::PackedLaws::lowered_field_within))]
+pub fn lower_field(word: u64, bits: u32, place: u32) -> u64
+    requires width { IsWidth bits }
+    requires place { place < fields_of bits }
+    requires some { 0 < packed.field word bits place }
+    ensures word { result ≡ word - packed.unit bits place }
+    ensures fields { (q : ℕ) → packed.field result bits q + (if nat_eq q place then 1 else 0) ≡ packed.field word bits q }
+{
+    word - unit(bits, place)
 }

@@ -140,6 +140,8 @@ fn packed_counts(rt: HostRuntime) {
     assert_eq!(rt; field(0x0004_0003_0002_0001, 16, 2), 3);
     assert_eq!(rt; field(0x0004_0003_0002_0001, 32, 1), 0x0004_0003);
     assert_eq!(rt; (unit(16, 3), unit(32, 1)), (1 << 48, 1 << 32));
+    assert_eq!(rt; raise_field(0xfffe_0000_ffff, 16, 2), 0xffff_0000_ffff);
+    assert_eq!(rt; lower_field(0x0001_0000_0000, 32, 1), 0);
 }
 
 #[test]

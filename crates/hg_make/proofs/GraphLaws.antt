@@ -15,7 +15,7 @@ use Rattle.hg_defs.specs.Hypergraph.{Net, Hyper, IsNet, vertex_count, net_count}
 use Rattle.hg_text.specs.Kept.{Line, Reading, lines, kept_from}
 use Rattle.hmetis_read.specs.declared.fault.GraphFault.TheVariants.{Bad}
 use Rattle.hmetis_read.specs.declared.fault.LineKind.TheVariants.{MissingLine}
-use Rattle.hmetis_read.specs.Graph.{Read, ◌>>=◌, each, guarded, first_in, after, nets_in, vertex_in, vertex_lines, weights_in, ended, body_in, shape_of}
+use Rattle.hmetis_read.specs.Graph.{Read, ◌>>=◌, each, guarded, first_in, read_on, nets_in, vertex_in, vertex_lines, weights_in, ended, body_in, shape_of}
 use Rattle.part_text.proofs.LineLemmas.{AreLines, numbers_kept, kept_from-numbers}
 use Rattle.hg_make.specs.Text.{needs_weight, are_nets_weighted, are_vertices_weighted, format, net_numbers, hypergraph_text}
 use Rattle.hg_make.specs.Laws.{IsWritable, HypergraphIsReadBack}
@@ -115,7 +115,7 @@ made_of n nets ws = record { weights = ws; nets = nets; objective = Connectivity
 -- the part of the body behind the nets
 abbrev tail_in : ℕ → ℕ → Bool → Bool → ℕ → List Net → List Line → Read Hyper
 tail_in m n net_weights vertex_weights count nets rest =
-    weights_in (record { nets = m; vertices = n; net_weights = net_weights; vertex_weights = vertex_weights }) (record { kept = rest; count = count }) >>= (λ ws. ended (after (vertex_lines (record { nets = m; vertices = n; net_weights = net_weights; vertex_weights = vertex_weights })) (record { kept = rest; count = count })).kept (made_of n nets ws))
+    weights_in (record { nets = m; vertices = n; net_weights = net_weights; vertex_weights = vertex_weights }) (record { kept = rest; count = count }) >>= (λ ws. ended (read_on (vertex_lines (record { nets = m; vertices = n; net_weights = net_weights; vertex_weights = vertex_weights })) (record { kept = rest; count = count })).kept (made_of n nets ws))
 
 tail-read : (m count start : ℕ) (net_weights vertex_weights : Bool) (nets : List Net) (ws : List ℕ) → All (λ w. w < 2 ^ 32) ws → (vertex_weights ≡ false → All (λ w. not (eqb w 1) ≡ false) ws) → tail_in m (length ws) net_weights vertex_weights count nets (map numbers_kept (enumerate_from start (weight_lines vertex_weights ws))) ≡ Ok (made_of (length ws) nets ws)
 tail-read m count start net_weights true nets ws small ones =
@@ -170,7 +170,7 @@ hypergraph_is_read_back h is =
     let kept : kept_from 1 bytes ≡ numbers_kept (1, header) ∷ map numbers_kept (enumerate_from 2 behind) = kept_from-numbers 1 (header ∷ behind) are in
     let fixes : replicate (vertex_count h) FREE ≡ h.fixes = sym (ext_get_or FREE h.fixes (replicate (vertex_count h) FREE) (is.sound.fixes ∙ sym (length-replicate (vertex_count h) FREE)) (λ v low. is.free v (subst (λ (n : ℕ). v < n) is.sound.fixes low) ∙ sym (get_or-replicate (vertex_count h) v FREE FREE (subst (λ (n : ℕ). v < n) is.sound.fixes low)))) in
     let same : made_of (vertex_count h) h.nets h.weights ≡ h = ap₂ (λ (o : Objective) (fs : List ℕ). record { weights = h.weights; nets = h.nets; objective = o; fixes = fs }) (sym is.objective) fixes in
-    ap (λ (ls : List Line). shape_of (record { kept = ls; count = count }) >>= (λ s. body_in s (after 1 (record { kept = ls; count = count })))) kept
+    ap (λ (ls : List Line). shape_of (record { kept = ls; count = count }) >>= (λ s. body_in s (read_on 1 (record { kept = ls; count = count })))) kept
     ∙ first (shape_of (record { kept = numbers_kept (1, header) ∷ map numbers_kept (enumerate_from 2 behind); count = count })) (λ s. body_in s (record { kept = map numbers_kept (enumerate_from 2 behind); count = count })) (record { nets = net_count h; vertices = vertex_count h; net_weights = nw; vertex_weights = vw }) (header-read 1 (net_count h) (vertex_count h) nw vw few_nets few)
     ∙ body-read count 2 nw vw h.nets h.weights few (readable nw (vertex_count h) 0 h.nets nets (let p = bounds.pins in omega arith)) is.weights (none_passes (λ w. not (eqb w 1)) h.weights)
     ∙ ap Ok same

@@ -4,7 +4,7 @@ use Rattle.std.proofs.lemmas.Bool.{leb-true}
 use Rattle.std.proofs.lemmas.List.{length-drop, length-take-le, length-replicate}
 use Rattle.hg_defs.specs.Hypergraph.{Hyper, net_count, vertex_count}
 use Rattle.hg_text.specs.Kept.{Line, Reading, reading}
-use Rattle.hmetis_read.specs.Graph.{Read, ◌>>=◌, each, guarded, header_in, net_in, nets_in, with_pins_before, pin_numbers, vertex_in, first_in, after, weights_in, vertex_lines, ended, body_in, first_line, shape_of, graph}
+use Rattle.hmetis_read.specs.Graph.{Read, ◌>>=◌, each, guarded, header_in, net_in, nets_in, with_pins_before, pin_numbers, vertex_in, first_in, read_on, weights_in, vertex_lines, ended, body_in, first_line, shape_of, graph}
 use Rattle.hmetis_read.specs.Laws.{HasLines}
 use Rattle.hmetis_read.specs.declared.fault.GraphFault.{GraphFault}
 use Rattle.hmetis_read.specs.declared.header.Shape.{Shape}
@@ -67,11 +67,11 @@ first_line_ok count (first ∷ ls) line e = omega arith
 body_lines : (shape : Shape) (text : Reading) (h : Hyper) → body_in shape text ≡ Ok h → (length text.kept ≡ net_count h) ⊎ (length text.kept ≡ net_count h + vertex_count h)
 body_lines shape text h e =
     let nets = bind_ok (first_in shape.nets (nets_in shape) text) _ h e in
-    let weights = bind_ok (weights_in shape (after shape.nets text)) _ h nets.2 in
-    let end = ended_ok (after (vertex_lines shape) (after shape.nets text)).kept _ h weights.2 in
+    let weights = bind_ok (weights_in shape (read_on shape.nets text)) _ h nets.2 in
+    let end = ended_ok (read_on (vertex_lines shape) (read_on shape.nets text)).kept _ h weights.2 in
     let some = first_ok shape.nets (nets_in shape) text nets.0
     (λ ls zs r. each_length (net_in shape) (with_pins_before shape 0 ls) zs r ∙ nets_length shape 0 ls) nets.1 in
-    let vertices = weights_ok shape (after shape.nets text) weights.0 weights.1 in
+    let vertices = weights_ok shape (read_on shape.nets text) weights.0 weights.1 in
     let all_nets : net_count h ≡ shape.nets = sym (ap (λ (g : Hyper). length g.nets) end.1) ∙ some.0 in
     let all_vertices : vertex_count h ≡ shape.vertices = sym (ap (λ (g : Hyper). length g.weights) end.1) ∙ vertices.0 in
     let rest : length (drop shape.nets text.kept) ≡ length text.kept - shape.nets = length-drop shape.nets text.kept in
@@ -86,4 +86,4 @@ lines_counted bytes h e =
     let shape = bind_ok (shape_of (reading bytes)) _ h e in
     let header = bind_ok (first_line (reading bytes).count (reading bytes).kept) header_in shape.0 shape.1 in
     let one : length (reading bytes).kept ≡ 1 + length (drop 1 (reading bytes).kept) = first_line_ok (reading bytes).count (reading bytes).kept header.0 header.1 in
-    elim (body_lines shape.0 (after 1 (reading bytes)) h shape.2) [ inl n ↦ inl (omega arith) | inr n ↦ inr (omega arith) ]
+    elim (body_lines shape.0 (read_on 1 (reading bytes)) h shape.2) [ inl n ↦ inl (omega arith) | inr n ↦ inr (omega arith) ]

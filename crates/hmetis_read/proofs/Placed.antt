@@ -4,8 +4,8 @@ use Rattle.std.specs.List.{enumerate_from, slice_index}
 use Rattle.hg_text.specs.Kept.{Line, Reading, reading, number_of}
 use Rattle.hg_text.specs.declared.numeral.BadNumber.{BadNumber}
 use Rattle.hg_text.specs.declared.numeral.BadNumber.TheVariants.{NotDigits, TooBig}
-use Rattle.hmetis_read.specs.Graph.{Read, ◌>>=◌, each, guarded, value_in, weight_in, pin_in, shape_in, header_in, first_number, net_weight_in, pin_numbers, net_in, nets_in, with_pins_before, vertex_in, first_in, after, vertex_lines, weights_in, ended, body_in, first_line, shape_of, graph}
-use Rattle.hmetis_read.specs.Laws.{IsNumbered, IsFaultOf, IsPlaced}
+use Rattle.hmetis_read.specs.Graph.{Read, ◌>>=◌, each, guarded, value_in, weight_in, pin_in, shape_in, header_in, first_number, net_weight_in, pin_numbers, net_in, nets_in, with_pins_before, vertex_in, first_in, read_on, vertex_lines, weights_in, ended, body_in, first_line, shape_of, graph}
+use Rattle.hmetis_read.specs.Laws.{IsNumbered, IsFaultOf, IsAtPlace}
 use Rattle.hmetis_read.specs.declared.fault.GraphFault.{GraphFault}
 use Rattle.hmetis_read.specs.declared.fault.GraphFault.TheVariants.{Bad, TooLarge}
 use Rattle.hmetis_read.specs.declared.fault.LineKind.{LineKind}
@@ -118,22 +118,22 @@ module _ (P : GraphFault → Type 0) where
 
   body_holds : (shape : Shape) (text : Reading) → P (Bad (text.count + 1) MissingLine) → FaultsAtEach P text.kept → Holds P (body_in shape text)
   body_holds shape text end at =
-      let later : FaultsAtEach P (after shape.nets text).kept = at_drop shape.nets text.kept at in
+      let later : FaultsAtEach P (read_on shape.nets text).kept = at_drop shape.nets text.kept at in
       bind_holds (first_in shape.nets (nets_in shape) text) _
       (first_holds shape.nets (nets_in shape) text end (nets_hold shape 0 (take shape.nets text.kept) (at_take shape.nets text.kept at)))
-      (λ nets. bind_holds (weights_in shape (after shape.nets text)) _
-      (choice_holds shape.vertex_weights (first_in shape.vertices (each vertex_in) (after shape.nets text)) (Ok (replicate shape.vertices 1))
-      (first_holds shape.vertices (each vertex_in) (after shape.nets text) end (vertices_hold (take shape.vertices (after shape.nets text).kept) (at_take shape.vertices (after shape.nets text).kept later))) tt)
-      (λ weights. ended_holds (after (vertex_lines shape) (after shape.nets text)).kept _ (at_drop (vertex_lines shape) (after shape.nets text).kept later)))
+      (λ nets. bind_holds (weights_in shape (read_on shape.nets text)) _
+      (choice_holds shape.vertex_weights (first_in shape.vertices (each vertex_in) (read_on shape.nets text)) (Ok (replicate shape.vertices 1))
+      (first_holds shape.vertices (each vertex_in) (read_on shape.nets text) end (vertices_hold (take shape.vertices (read_on shape.nets text).kept) (at_take shape.vertices (read_on shape.nets text).kept later))) tt)
+      (λ weights. ended_holds (read_on (vertex_lines shape) (read_on shape.nets text)).kept _ (at_drop (vertex_lines shape) (read_on shape.nets text).kept later)))
 
   opening_holds : (count : ℕ) (lines : List Line) → P (Bad (count + 1) NoHeader) → FaultsAtEach P lines → Holds P (first_line count lines >>= header_in)
   opening_holds count [] none at = none
   opening_holds count (line ∷ lines) none at = header_holds line at.0
 
-  text_holds : (text : Reading) → ((kind : LineKind) → P (Bad (text.count + 1) kind)) → FaultsAtEach P text.kept → Holds P (shape_of text >>= λ shape. body_in shape (after 1 text))
+  text_holds : (text : Reading) → ((kind : LineKind) → P (Bad (text.count + 1) kind)) → FaultsAtEach P text.kept → Holds P (shape_of text >>= λ shape. body_in shape (read_on 1 text))
   text_holds text end at =
-      bind_holds (shape_of text) (λ shape. body_in shape (after 1 text)) (opening_holds text.count text.kept (end NoHeader) at)
-      (λ shape. body_holds shape (after 1 text) (end MissingLine) (at_drop 1 text.kept at))
+      bind_holds (shape_of text) (λ shape. body_in shape (read_on 1 text)) (opening_holds text.count text.kept (end NoHeader) at)
+      (λ shape. body_holds shape (read_on 1 text) (end MissingLine) (at_drop 1 text.kept at))
 
 -- each kept line may have faults
 at_each : (text : Reading) (lines : List Line) → ((line : ℕ) → IsNumbered line lines → IsNumbered line text.kept) → FaultsAtEach (IsFaultOf text) lines
@@ -141,11 +141,11 @@ at_each text [] among = tt
 at_each text (line ∷ lines) among =
     (record { bad = λ kind. inr (among line.number (inl refl)); large = λ what. among line.number (inl refl) }, at_each text lines (λ n h. among n (inr h)))
 
-placed : {A : Type 0} (text : Reading) (r : Read A) → Holds (IsFaultOf text) r → IsPlaced text r
+placed : {A : Type 0} (text : Reading) (r : Read A) → Holds (IsFaultOf text) r → IsAtPlace text r
 placed text (Ok value) h = tt
 placed text (Err fault) h = h
 
-pub faults_placed : (bytes : List ℕ) → IsPlaced (reading bytes) (graph bytes)
+pub faults_placed : (bytes : List ℕ) → IsAtPlace (reading bytes) (graph bytes)
 faults_placed bytes =
     placed (reading bytes) (graph bytes)
     (text_holds (IsFaultOf (reading bytes)) (reading bytes) (λ kind. inl refl) (at_each (reading bytes) (reading bytes).kept (λ n h. h)))

@@ -113,8 +113,8 @@ first_in count read text = do
   guarded (nat_le count (length text.kept)) (Bad (text.count + 1) MissingLine) values
 
 -- the text behind its first lines
-abbrev pub after : ℕ → Reading → Reading
-after count text = record text { kept = drop count text.kept }
+abbrev pub read_on : ℕ → Reading → Reading
+read_on count text = record text { kept = drop count text.kept }
 
 -- how many lines have vertices' weights; where they aren't given, all are 1
 abbrev pub vertex_lines : Shape → ℕ
@@ -133,8 +133,8 @@ ended (line ∷ lines) value = Err (Bad line.number ExtraLine)
 abbrev pub body_in : Shape → Reading → Read Hyper
 body_in shape text = do
   nets ← first_in shape.nets (nets_in shape) text
-  weights ← weights_in shape (after shape.nets text)
-  ended (after (vertex_lines shape) (after shape.nets text)).kept (record {
+  weights ← weights_in shape (read_on shape.nets text)
+  ended (read_on (vertex_lines shape) (read_on shape.nets text)).kept (record {
     weights = weights;
     nets = nets;
     objective = Connectivity;
@@ -153,4 +153,4 @@ shape_of text = first_line text.count text.kept >>= header_in
 abbrev pub graph : List ℕ → Read Hyper
 graph bytes = do
   shape ← shape_of (reading bytes)
-  body_in shape (after 1 (reading bytes))
+  body_in shape (read_on 1 (reading bytes))

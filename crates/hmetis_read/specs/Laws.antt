@@ -18,9 +18,9 @@ IsFaultOf text (TooLarge line what) = IsNumbered line text.kept
 IsFaultOf text NoMemory = ⊥
 
 -- a value, or a fault of the text
-abbrev pub IsPlaced : {A : Type 0} → Reading → Read A → Type 0
-IsPlaced text (Ok value) = Unit {0}
-IsPlaced text (Err fault) = IsFaultOf text fault
+abbrev pub IsAtPlace : {A : Type 0} → Reading → Read A → Type 0
+IsAtPlace text (Ok value) = Unit {0}
+IsAtPlace text (Err fault) = IsFaultOf text fault
 
 -- the kept lines are the header, one for each net, and one for each vertex or none
 abbrev pub HasLines : Reading → Hyper → Type 0

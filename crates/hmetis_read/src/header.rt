@@ -1,6 +1,6 @@
 ghost use Rattle.std.specs.Prelude.{◌≡◌, ℕ, ◌^◌, ◌<◌, ◌≤◌, length, List, ◌∷◌, OnOk, IfOk, Result};
 ghost use Rattle.hg_text.specs.Kept.{number_of};
-ghost use Rattle.hmetis_read.specs.Graph.{value_in, shape_in, shape_of, header_in, after};
+ghost use Rattle.hmetis_read.specs.Graph.{value_in, shape_in, shape_of, header_in, read_on};
 
 use crate::{GraphFault, LineKind, What};
 use hg_text::{BadNumber, Kept, Lines};
@@ -80,7 +80,7 @@ fn shape_at(line: u32, nets: u64, vertices: u64, format: u64) -> Result<Shape, G
 pub(crate) fn read_header(lines: &mut Lines) -> Result<Shape, GraphFault>
     ensures value { result ≡ shape_of lines.old }
     ensures bounds { IfOk result (λ shape. (shape.nets ≤ 2 ^ 22) × (shape.vertices ≤ 2 ^ 22)) }
-    ensures rest { OnOk result (lines.new ≡ after 1 lines.old) }
+    ensures rest { OnOk result (lines.new ≡ read_on 1 lines.old) }
 {
     let Some(mut header) = lines.next_kept() else {
         return Err(GraphFault::Bad {

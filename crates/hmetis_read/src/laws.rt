@@ -2,12 +2,12 @@ ghost use Rattle.std.specs.Prelude.{◌≡◌, ℕ, List, Ok};
 ghost use Rattle.hg_defs.specs.Hypergraph.{Hyper};
 ghost use Rattle.hg_text.specs.Kept.{reading};
 ghost use Rattle.hmetis_read.specs.Graph.{graph};
-ghost use Rattle.hmetis_read.specs.Laws.{IsPlaced, HasLines};
+ghost use Rattle.hmetis_read.specs.Laws.{IsAtPlace, HasLines};
 
 /// Each text spells a hypergraph or has a first fault, which stands at a kept line or behind the
 /// last line. Where it spells one, its kept lines are those of the header, the nets and the
 /// vertices alone.
 pub fn text_laws()
-    ensures placed { (bytes : List ℕ) → IsPlaced (reading bytes) (graph bytes) }
+    ensures placed { (bytes : List ℕ) → IsAtPlace (reading bytes) (graph bytes) }
     ensures lines { (bytes : List ℕ) (h : Hyper) → graph bytes ≡ Ok h → HasLines (reading bytes) h }
 {}

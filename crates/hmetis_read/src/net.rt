@@ -4,7 +4,7 @@ ghost use Rattle.std.specs.Ordering.{nat_cmp};
 ghost use Rattle.hg_defs.specs.Hypergraph.{Hyper, Net, vertex_count};
 ghost use Rattle.hg_defs.specs.Sorting.{set_of};
 ghost use Rattle.hg_text.specs.Kept.{number_of};
-ghost use Rattle.hmetis_read.specs.Graph.{weight_in, pin_in, pin_numbers, each, first_number, net_in, nets_in, first_in, after};
+ghost use Rattle.hmetis_read.specs.Graph.{weight_in, pin_in, pin_numbers, each, first_number, net_in, nets_in, first_in, read_on};
 ghost use Rattle.hmetis_read.specs.Reads.{Reads};
 ghost use Rattle.hmetis_read.specs.declared.fault.GraphFault.TheVariants.{NoMemory, Bad};
 ghost use Rattle.hmetis_read.specs.declared.fault.LineKind.TheVariants.{MissingLine};
@@ -136,7 +136,7 @@ pub(crate) fn read_nets(
     requires empty { hyper.old.nets ≡ [] }
     ensures nets { Reads result hyper.new.nets (first_in shape.now.nets (nets_in shape.now) lines.old) }
     ensures others { OnOk result (hyper.new ≡ record hyper.old { nets = hyper.new.nets }) }
-    ensures rest { OnOk result (lines.new ≡ after shape.now.nets lines.old) }
+    ensures rest { OnOk result (lines.new ≡ read_on shape.now.nets lines.old) }
 {
     let mut pins = Vec::new(alloc);
     let mut before = 0;

@@ -1,6 +1,6 @@
 ghost use Rattle.std.specs.Prelude.{◌≡◌, ◌^◌, ◌<◌, length, All, IfOk, OnOk};
 ghost use Rattle.hg_defs.specs.Hypergraph.{vertex_count};
-ghost use Rattle.hmetis_read.specs.Graph.{vertex_in, each, first_in, after};
+ghost use Rattle.hmetis_read.specs.Graph.{vertex_in, each, first_in, read_on};
 ghost use Rattle.hmetis_read.specs.Reads.{Reads};
 
 use crate::net::{missing, read_weight};
@@ -29,7 +29,7 @@ pub(crate) fn read_vertices(lines: &mut Lines, hyper: &mut FlatHyper) -> Result<
     requires { All (λ weight. weight < 2 ^ 32) hyper.old.weights }
     ensures weights { Reads result hyper.new.weights (first_in (vertex_count hyper.old) (each vertex_in) lines.old) }
     ensures others { hyper.new ≡ record hyper.old { weights = hyper.new.weights } }
-    ensures rest { OnOk result (lines.new ≡ after (vertex_count hyper.old) lines.old) }
+    ensures rest { OnOk result (lines.new ≡ read_on (vertex_count hyper.old) lines.old) }
 {
     for vertex in 0..hyper.vertices() {
         let Some(mut line) = lines.next_kept() else {

@@ -5,7 +5,7 @@ use Rattle.hg_defs.specs.declared.objective.TheConstants.{FREE}
 use Rattle.hg_defs.specs.declared.objective.Objective.TheVariants.{Connectivity}
 use Rattle.hg_defs.specs.Hypergraph.{Hyper, Net, IsFree}
 use Rattle.hg_text.specs.Kept.{Line, reading}
-use Rattle.hmetis_read.specs.Graph.{Read, ◌>>=◌, first_in, nets_in, weights_in, after, ended, shape_of, graph}
+use Rattle.hmetis_read.specs.Graph.{Read, ◌>>=◌, first_in, nets_in, weights_in, read_on, ended, shape_of, graph}
 
 abbrev AllFree : Hyper → Type 0
 AllFree h = (v : ℕ) → IsFree h v
@@ -28,6 +28,6 @@ pub free_graph : (bytes : List ℕ) (h : Hyper) → graph bytes ≡ Ok h → (v 
 free_graph bytes h spelled =
     subst (λ (r : Read Hyper). IfOk r AllFree) spelled
     (bound AllFree (shape_of (reading bytes)) _
-    (λ shape. bound AllFree (first_in shape.nets (nets_in shape) (after 1 (reading bytes))) _
-    (λ nets. bound AllFree (weights_in shape (after shape.nets (after 1 (reading bytes)))) _
+    (λ shape. bound AllFree (first_in shape.nets (nets_in shape) (read_on 1 (reading bytes))) _
+    (λ nets. bound AllFree (weights_in shape (read_on shape.nets (read_on 1 (reading bytes)))) _
     (λ weights. free_end _ shape.vertices nets weights))))

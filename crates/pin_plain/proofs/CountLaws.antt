@@ -1,7 +1,7 @@
 -- Laws of the counts of all nets: where they stand, and what a change of one net's words leaves.
 use Rattle.std.proofs.Common.{◌≡◌, ◌≢◌, ◌⊎◌, inl, inr, ℕ, ◌+◌, ◌*◌, ◌/◌, ◌%◌, ◌^◌, ◌<◌, ◌≤◌, Bool, true, false, ◌||◌, cond, if◌then◌else◌, nat_eq, nat_lt, nat_le, List, [], ◌∷◌, length, filter, take, All, Contains, slice_index, get_or, slice_set, refl, sym, ap, ◌∙◌, subst, arith, true≢false}
 use Rattle.std.proofs.lemmas.Bool.{eqb-true, eqb-false, ne_eqb, eq-eqb, ltb-true, ltb-false, lt-ltb, leb-true, cases_eq, cases_lt}
-use Rattle.hg_base.specs.Packed.{IsWidth, fields_of, bits_of, words_of, field}
+use Rattle.hg_base.specs.Packed.{count_at, IsWidth, fields_of, bits_of, words_of, field}
 use Rattle.hg_defs.specs.Hypergraph.{Hyper, IsHypergraph, vertex_count, net_count, net_of, Suits}
 use Rattle.hg_defs.specs.Partition.{IsPartition, block_of}
 use Rattle.hg_defs.specs.Pins.{pins_in}
@@ -19,7 +19,7 @@ use Rattle.std.proofs.lemmas.List.Folds.{list_any_at}
 use Rattle.std.proofs.lemmas.List.FromFn.{length-range_with_len, get_or-range_with_len}
 use Rattle.incidence.proofs.IndexLaws.{sum_below_upto-le, nets_of-below, nets_of-rising, is_pin_new, is_pin_more}
 use Rattle.pin_plain.proofs.GainLaws.{nets_of-hold, two_within}
-use Rattle.pin_plain.specs.Counts.{count_at, net_bits, net_words, net_start, IsLaidOut, HoldsCounts, counts_of, counts_before, counts_between}
+use Rattle.pin_plain.specs.Counts.{net_bits, net_words, net_start, HasLayout, HoldsCounts, counts_of, counts_before, counts_between}
 
 -- ---- the width of a net's counts
 
@@ -106,7 +106,7 @@ eq_flip a b = by (nat_eq b a) refl
 pub one_flip : (a b : ℕ) → weight_if a b 1 ≡ weight_if b a 1
 one_flip a b = ap (λ t. if t then 1 else 0) (eq_flip a b)
 
-pub part_inside : (h : Hyper) (k : ℕ) (starts words : List ℕ) (e b start bits : ℕ) → IsLaidOut h k starts words → e < net_count h → b < k → start ≡ net_start h k e → bits ≡ net_bits h e → start + b / fields_of bits < length words
+pub part_inside : (h : Hyper) (k : ℕ) (starts words : List ℕ) (e b start bits : ℕ) → HasLayout h k starts words → e < net_count h → b < k → start ≡ net_start h k e → bits ≡ net_bits h e → start + b / fields_of bits < length words
 part_inside h k starts words e b start bits laid l low es eb =
     let enough = fields_enough (length (net_of h e).pins) k in
     let inside = word_below (net_bits h e) (net_words h k e) b (bits_width (length (net_of h e).pins)) (omega arith) in

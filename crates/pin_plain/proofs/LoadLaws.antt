@@ -14,7 +14,7 @@ use Rattle.std.proofs.lemmas.List.FromFn.{length-map-range_with_len}
 use Rattle.hg_defs.specs.Moves.{moved}
 use Rattle.hg_defs.proofs.SumLaws.{weight_in-take_more, weight_if-same, weight_if-other}
 use Rattle.hg_defs.proofs.MoveLaws.{load-moved_new, load-moved_old, load-moved_other}
-use Rattle.pin_plain.specs.Parted.{IsLoaded, IsKept, KeepsCost, loads_after}
+use Rattle.pin_plain.specs.Parted.{IsLoaded, IsTallied, KeepsCost, loads_after}
 use Rattle.pin_plain.specs.Counts.{HoldsCounts, counts_of}
 use Rattle.incidence.proofs.IndexLaws.{written_back}
 use Rattle.std.proofs.lemmas.List.Elements.{All-set, All-map}
@@ -101,13 +101,13 @@ weight_within h k p loads v to loaded long vertex from other =
 -- what a partition keeps, after a move whose loads and counts were written back through slices
 pub kept_shifted :
     (h : Hyper) (k : ℕ) (p q loads starts widths words : List ℕ) (v to n m : ℕ) (new_loads old_loads new_words old_words : List ℕ)
-    → IsKept h k p loads starts widths words → to < k → q ≡ moved p v to
+    → IsTallied h k p loads starts widths words → to < k → q ≡ moved p v to
     → IsLoaded h k (moved p v to) new_loads → HoldsCounts h k new_words (counts_of h (moved p v to)) → length new_words ≡ length words → length new_loads ≡ n → length new_words ≡ m
-    → IsKept h k q (take n (new_loads ++ drop (length new_loads) old_loads)) starts widths (take m (new_words ++ drop (length new_words) old_words))
+    → IsTallied h k q (take n (new_loads ++ drop (length new_loads) old_loads)) starts widths (take m (new_words ++ drop (length new_words) old_words))
 kept_shifted h k p q loads starts widths words v to n m new_loads old_loads new_words old_words kept low same loaded counted long ln lm =
-    subst (λ ls. IsKept h k q ls starts widths (take m (new_words ++ drop (length new_words) old_words))) (sym (written_back n new_loads old_loads ln))
-    (subst (λ ws. IsKept h k q new_loads starts widths ws) (sym (written_back m new_words old_words lm))
-    (subst (λ r. IsKept h k r new_loads starts widths new_words) (sym same)
+    subst (λ ls. IsTallied h k q ls starts widths (take m (new_words ++ drop (length new_words) old_words))) (sym (written_back n new_loads old_loads ln))
+    (subst (λ ws. IsTallied h k q new_loads starts widths ws) (sym (written_back m new_words old_words lm))
+    (subst (λ r. IsTallied h k r new_loads starts widths new_words) (sym same)
     (record {
       parted = record {
         sound = kept.parted.sound;

@@ -1,7 +1,7 @@
 -- Laws of what nets save and lose: by the counts that are read, and their bounds.
 use Rattle.std.proofs.Common.{◌≡◌, ◌≢◌, ◌⊎◌, inl, inr, ℕ, zero, suc, ◌+◌, ◌-◌, ◌*◌, ◌/◌, ◌%◌, ◌<◌, ◌≤◌, ◌^◌, Bool, true, false, cond, not, ◌&&◌, if◌then◌else◌, nat_eq, nat_lt, List, [], ◌∷◌, length, filter, All, take, drop, get_or, slice_index, sym, ap, subst, ◌∙◌, arith}
 use Rattle.std.specs.List.{range_with_len}
-use Rattle.hg_base.specs.Packed.{fields_of, bits_of, words_of, field}
+use Rattle.hg_base.specs.Packed.{count_at, fields_of, bits_of, words_of, field}
 use Rattle.hg_defs.specs.declared.objective.Objective.{Objective}
 use Rattle.hg_defs.specs.declared.objective.Objective.TheVariants.{Connectivity, CutNet, ExternalDegree}
 use Rattle.hg_defs.specs.Sums.{total}
@@ -11,7 +11,7 @@ use Rattle.hg_defs.proofs.SumLaws.{total-filter, total-le, total-scale, total-ra
 use Rattle.hg_defs.specs.Partition.{block_of}
 use Rattle.hg_defs.proofs.DistinctLaws.{present-le, blocks_of_pins}
 use Rattle.hg_defs.specs.Incidence.{is_on, nets_of}
-use Rattle.pin_plain.specs.Counts.{count_at, net_bits, net_words, net_start, counts_of}
+use Rattle.pin_plain.specs.Counts.{net_bits, net_words, net_start, counts_of}
 use Rattle.pin_plain.specs.Savings.{saved, lost, net_saved, net_lost}
 use Rattle.pin_plain.specs.Parted.{IsTold}
 use Rattle.pin_plain.proofs.CountLaws.{fields_enough, all_words-le, part_inside, count_same, net_part, pins_in-two}

@@ -1,14 +1,10 @@
 -- The pin counts of all nets, packed into words: the words of each net stand after those of the nets before it.
-use Rattle.std.specs.Prelude.{◌≡◌, ℕ, ◌+◌, ◌*◌, ◌/◌, ◌%◌, ◌<◌, List, length, slice_index, nat_eq, nat_lt, if◌then◌else◌}
+use Rattle.std.specs.Prelude.{◌≡◌, ℕ, ◌*◌, ◌<◌, List, length, slice_index, nat_eq, nat_lt, if◌then◌else◌}
 use Rattle.std.specs.Set.{is_member}
 use Rattle.hg_defs.specs.Sums.{sum_below}
 use Rattle.hg_defs.specs.Hypergraph.{Hyper, net_count, net_of}
 use Rattle.hg_defs.specs.Pins.{pins_in}
-use Rattle.hg_base.specs.Packed.{bits_of, fields_of, words_of, field}
-
--- the count of block b, where the counts of its net start at a word and take so many bits
-abbrev pub count_at : List ℕ → ℕ → ℕ → ℕ → ℕ
-count_at words start bits b = field (slice_index words (start + b / fields_of bits)) bits (b % fields_of bits)
+use Rattle.hg_base.specs.Packed.{bits_of, fields_of, words_of, count_at}
 
 -- the bits, words and start of a net's counts
 abbrev pub net_bits : Hyper → ℕ → ℕ
@@ -31,7 +27,7 @@ pub record HasWidths (h : Hyper) (widths : List ℕ) : Type 0 where
   pub width_of : (e : ℕ) → e < net_count h → slice_index widths e ≡ net_bits h e
 
 -- each net has a part of the words
-pub record IsLaidOut (h : Hyper) (k : ℕ) (starts words : List ℕ) : Type 0 where
+pub record HasLayout (h : Hyper) (k : ℕ) (starts words : List ℕ) : Type 0 where
   pub nets : length starts ≡ net_count h
   pub starts_at : (e : ℕ) → e < net_count h → slice_index starts e ≡ net_start h k e
   pub all : length words ≡ net_start h k (net_count h)

@@ -5,7 +5,7 @@ use Rattle.hg_defs.specs.Partition.{IsPartition, load}
 use Rattle.hg_defs.specs.Cost.{cost}
 use Rattle.hg_defs.specs.Contraction.{contract}
 use Rattle.hg_defs.specs.ContractionLaws.{IsContractible}
-use Rattle.pin_plain.specs.Counts.{IsLaidOut, HasWidths, HoldsCounts, counts_of}
+use Rattle.pin_plain.specs.Counts.{HasLayout, HasWidths, HoldsCounts, counts_of}
 
 -- the hypergraph, the number of blocks, the limit on a load, and the block of each vertex
 pub record Parted : Type 0 where
@@ -38,14 +38,14 @@ pub record IsParted (h : Hyper) (k : ℕ) (p : List ℕ) : Type 0 where
 -- the pin counts are those of the hypergraph and the blocks
 pub record IsTold (h : Hyper) (k : ℕ) (p starts words : List ℕ) : Type 0 where
   pub parted : IsParted h k p
-  pub laid : IsLaidOut h k starts words
+  pub laid : HasLayout h k starts words
   pub counted : HoldsCounts h k words (counts_of h p)
 
 -- the loads and the pin counts are those of the hypergraph and the blocks
-pub record IsKept (h : Hyper) (k : ℕ) (p loads starts widths words : List ℕ) : Type 0 where
+pub record IsTallied (h : Hyper) (k : ℕ) (p loads starts widths words : List ℕ) : Type 0 where
   pub parted : IsParted h k p
   pub loaded : IsLoaded h k p loads
-  pub laid : IsLaidOut h k starts words
+  pub laid : HasLayout h k starts words
   pub wide : HasWidths h widths
   pub counted : HoldsCounts h k words (counts_of h p)
 

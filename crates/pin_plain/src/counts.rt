@@ -1,15 +1,15 @@
 //! Pin counts packed into words: one count raised or lowered, and the pins of one net counted or moved.
 
 ghost use Rattle.std.specs.Prelude.{◌≡◌, ◌≢◌, ℕ, ◌+◌, ◌*◌, ◌/◌, ◌%◌, ◌^◌, ◌<◌, ◌≤◌, All, length, slice_index, replicate, IfOk, if◌then◌else◌, nat_eq};
-ghost use Rattle.hg_base.specs.Packed.{IsWidth, fields_of};
+ghost use Rattle.hg_base.specs.Packed.{count_at, IsWidth, fields_of};
 ghost use Rattle.hg_defs.specs.Hypergraph.{vertex_count, net_count, Suits};
 ghost use Rattle.hg_defs.specs.Partition.{block_of};
 ghost use Rattle.hg_defs.specs.Moves.{moved};
 ghost use Rattle.hg_defs.specs.Pins.{pins_in};
-ghost use Rattle.pin_plain.specs.Counts.{count_at, net_start, counts_of, IsLaidOut, HasStarts, HasWidths, HoldsCounts};
+ghost use Rattle.pin_plain.specs.Counts.{net_start, counts_of, HasLayout, HasStarts, HasWidths, HoldsCounts};
 ghost use Rattle.pin_plain.specs.Parted.{IsParted};
 
-use hg_base::{NoMemory, bits_of, field, unit, words_of};
+use hg_base::{NoMemory, bits_of, field, lower_field, raise_field, words_of};
 use incidence::Hypergraph;
 use std::alloc::Global;
 
@@ -47,7 +47,8 @@ pub fn raise(words: &mut [u64], start: u32, bits: u32, b: u32)
     ensures others { (i : ℕ) → i ≢ start + b / fields_of bits → slice_index words.new i ≡ slice_index words.old i }
 {
     let (word, place) = split(bits, b);
-    words[(start + word) as usize] += unit(bits, place);
+    let at = (start + word) as usize;
+    words[at] = raise_field(words[at], bits, place);
 }
 
 /// Lowers the count of block `b` by one.
@@ -60,7 +61,8 @@ pub fn lower(words: &mut [u64], start: u32, bits: u32, b: u32)
     ensures others { (i : ℕ) → i ≢ start + b / fields_of bits → slice_index words.new i ≡ slice_index words.old i }
 {
     let (word, place) = split(bits, b);
-    words[(start + word) as usize] -= unit(bits, place);
+    let at = (start + word) as usize;
+    words[at] = lower_field(words[at], bits, place);
 }
 
 /// Counts the pins of one net in the blocks.
@@ -81,7 +83,7 @@ fn count_net(words: &mut [u64], start: u32, bits: u32, pins: &[u32], blocks: &[u
 /// Counts the pins of all nets in `k` blocks, from words of 0.
 pub fn count_nets(h: &Hypergraph, k: u32, blocks: &[u32], starts: &[u32], words: &mut [u64])
     requires parted { IsParted h.now k blocks.now }
-    requires laid { IsLaidOut h.now k starts.now words.old }
+    requires laid { HasLayout h.now k starts.now words.old }
     requires zeros { words.old ≡ replicate (length words.old) 0 }
     ensures { HoldsCounts h.now k words.new (counts_of h.now blocks.now) }
 {
@@ -109,7 +111,7 @@ pub fn move_pin(
     to: u32,
 )
     requires parted { IsParted h.now k blocks.now }
-    requires laid { IsLaidOut h.now k starts.now words.old }
+    requires laid { HasLayout h.now k starts.now words.old }
     requires counted { HoldsCounts h.now k words.old (counts_of h.now blocks.now) }
     requires vertex { v < vertex_count h.now }
     requires block { to < k }

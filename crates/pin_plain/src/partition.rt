@@ -36,13 +36,13 @@ pub struct Partition {
 }
 
 impl Model for Partition {
-    ghost use Rattle.pin_plain.specs.Parted.{Parted, IsKept};
+    ghost use Rattle.pin_plain.specs.Parted.{Parted, IsTallied};
 
     ghost Value = { Parted };
 
     ghost view = { λ p. record { hyper = p.hyper.value; k = p.k; limit = p.limit; blocks = p.blocks } };
 
-    ghost invariant = { λ p. IsKept p.hyper.value p.k p.blocks p.loads.items p.starts.items p.widths.items p.words.items };
+    ghost invariant = { λ p. IsTallied p.hyper.value p.k p.blocks p.loads.items p.starts.items p.widths.items p.words.items };
 }
 
 /// Adds the weight of each vertex to the load of its block.

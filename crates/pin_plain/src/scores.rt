@@ -3,13 +3,12 @@
 ghost use Rattle.std.specs.Prelude.{◌≡◌, ◌≢◌, ℕ, ◌+◌, ◌*◌, ◌/◌, ◌<◌, ◌≤◌, ◌^◌, All, length, slice_index, slice_set, replicate, if◌then◌else◌, IsTrue, ◌↔◌, ◌-◌, pos, IfSome, option_map};
 ghost use Rattle.std.specs.Option.{ForSome};
 ghost use Rattle.hg_base.specs.Packed as packed;
-ghost use Rattle.hg_base.specs.Packed.{IsWidth, fields_of};
+ghost use Rattle.hg_base.specs.Packed.{count_at, IsWidth, fields_of};
 ghost use Rattle.hg_defs.specs.Pins.{pins_in};
 ghost use Rattle.hg_defs.specs.Sums.{total};
 ghost use Rattle.hg_defs.specs.Hypergraph.{vertex_count, net_count};
 ghost use Rattle.hg_defs.specs.Partition.{block_of};
 ghost use Rattle.hg_defs.specs.Incidence.{nets_of};
-ghost use Rattle.pin_plain.specs.Counts.{count_at};
 ghost use Rattle.pin_plain.specs.Savings.{net_saved, net_lost};
 ghost use Rattle.pin_plain.specs.Parted.{IsTold, IsLoaded};
 ghost use Rattle.hg_defs.specs.Moves.{best_block, gain};

@@ -1,7 +1,6 @@
 use Rattle.std.proofs.Common.{◌≡◌, ◌≢◌, ℕ, ◌+◌, ◌/◌, All, take, slice_index}
-use Rattle.hg_base.specs.Packed.{fields_of}
+use Rattle.hg_base.specs.Packed.{count_at, fields_of}
 use Rattle.hg_defs.specs.Pins.{pins_in}
-use Rattle.pin_plain.specs.Counts.{count_at}
 use Rattle.pin_plain.proofs.counts.count_net.Given as goal
 
 abbrev pub invariant-loop-v : goal.invariant-loop-v
