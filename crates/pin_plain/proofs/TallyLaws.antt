@@ -11,7 +11,7 @@ use Rattle.hg_defs.specs.Partition.{block_of}
 use Rattle.hg_defs.specs.Pins.{pins_in, present}
 use Rattle.hg_defs.proofs.SumLaws.{total-set, total-zero, total-le, total-ones, total-take_more, weight_if, weight_if-same, weight_if-other}
 use Rattle.hg_defs.proofs.DistinctLaws.{present-le, present-zero, present-positive}
-use Rattle.pin_plain.specs.Scores.{IsTracked, IsBefore, IsClear, IsReady, IsTarget, IsHigher, IsTopAmong, amount_for, is_between}
+use Rattle.pin_plain.specs.Scores.{IsTracked, IsBefore, IsClear, IsTarget, IsHigher, IsTopAmong, amount_for, is_between}
 use Rattle.pin_plain.specs.Savings.{saved}
 use Rattle.hg_defs.specs.declared.objective.Objective.{Objective}
 use Rattle.hg_defs.specs.declared.objective.Objective.TheVariants.{Connectivity, CutNet, ExternalDegree}
@@ -198,22 +198,6 @@ sums_step p pins i block from o w amount sums first l is inside same new known b
         get_or-set_other sums block b (slice_index sums block + amount) 0 r
         ∙ known b q
         ∙ ap (λ t. slice_index first b + (if t then amount_for o w p pins b else 0)) (sym (touched_kept p pins i b l (λ e. absurd (r (sym e ∙ sym is)))))
-
--- the marks after it
-pub marks_step :
-    (p pins : List ℕ) (i block from : ℕ) (seen : List ℕ) (stamp : ℕ) → i < length pins → block ≡ block_of p (slice_index pins i) → IsBefore seen (stamp + 1) → block < 256
-    → ((b : ℕ) → b < 256 → b ≢ from → nat_eq (slice_index seen b) stamp ≡ nat_lt 0 (pins_in p (take i pins) b))
-    → (b : ℕ) → b < 256 → b ≢ from → nat_eq (slice_index (slice_set seen block stamp) b) stamp ≡ nat_lt 0 (pins_in p (take (i + 1) pins) b)
-marks_step p pins i block from seen stamp l is before low known b m q = by (cases_eq b block)
-  where
-    by : (b ≡ block) ⊎ (b ≢ block) → nat_eq (slice_index (slice_set seen block stamp) b) stamp ≡ nat_lt 0 (pins_in p (take (i + 1) pins) b)
-    by (inl e) =
-        eq-eqb (slice_index (slice_set seen block stamp) b) stamp (ap (slice_index (slice_set seen block stamp)) e ∙ get_or-set_same seen block stamp 0 (let s = before.size in omega arith))
-        ∙ sym (touched_now p pins i b l (sym is ∙ sym e))
-    by (inr r) =
-        ap (λ x. nat_eq x stamp) (get_or-set_other seen block b stamp 0 r)
-        ∙ known b m q
-        ∙ sym (touched_kept p pins i b l (λ e. absurd (r (sym e ∙ sym is))))
 
 -- ---- ranges of blocks
 
@@ -455,20 +439,25 @@ target_block sums touched loads count i tracked l past = by (cases_lt (slice_ind
 
 -- ---- the beginning
 
-zeros : (n b : ℕ) → slice_index (replicate n 0) b ≡ 0
+pub zeros : (n b : ℕ) → slice_index (replicate n 0) b ≡ 0
 zeros n b = by (cases_lt b n)
   where
     by : (b < n) ⊎ (n ≤ b) → slice_index (replicate n 0) b ≡ 0
     by (inl l) = get_or-replicate n b 0 0 l
     by (inr g) = get_or_past (replicate n 0) b 0 (subst (λ m. m ≤ b) (sym (length-replicate n 0)) g)
 
-pub ready_zeros : (n : ℕ) → n ≡ 256 → IsReady (replicate n 0) (replicate n 0) 0 (replicate n 0) 1 1
-ready_zeros n e = record {
-  clear = zeros n;
-  tracked = tracked_none (replicate n 0) (replicate n 0) (length-replicate n 0 ∙ e) (length-replicate n 0 ∙ e) (zeros n);
-  fresh = record { size = length-replicate n 0 ∙ e; all = λ b l. let z = zeros n b in omega arith };
-  within = omega arith;
-}
+pub tracked_zeros : (n : ℕ) → n ≡ 256 → IsTracked (replicate n 0) (replicate n 0) 0
+tracked_zeros n e = tracked_none (replicate n 0) (replicate n 0) (length-replicate n 0 ∙ e) (length-replicate n 0 ∙ e) (zeros n)
+
+pub before_zeros : (n stamp : ℕ) → n ≡ 256 → IsBefore (replicate n 0) (stamp + 1)
+before_zeros n stamp e = record { size = length-replicate n 0 ∙ e; all = λ b l. let z = zeros n b in omega arith }
+
+pub before_more : (seen : List ℕ) (stamp : ℕ) → IsBefore seen stamp → IsBefore seen (stamp + 1)
+before_more seen stamp before = record { size = before.size; all = λ b l. let m = before.all b l in omega arith }
+
+-- no block is marked with a number past all
+pub none_marked : (seen : List ℕ) (stamp b : ℕ) → IsBefore seen stamp → b < 256 → nat_eq (slice_index seen b) stamp ≡ false
+none_marked seen stamp b before l = ne_eqb (slice_index seen b) stamp (let m = before.all b l in λ e. absurd (omega arith))
 
 pub sum_inside : (sums : List ℕ) (b loss : ℕ) → length sums ≡ 256 → loss < slice_index sums b → b < 256
 sum_inside sums b loss size h = by (cases_lt b 256)

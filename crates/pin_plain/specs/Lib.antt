@@ -2,4 +2,5 @@ pub mod Counts
 pub mod Savings
 pub mod Parted
 pub mod Scores
+pub mod ScoredNets
 pub mod Settling

@@ -15,6 +15,15 @@ pub record IsTracked (sums touched : List ℕ) (count : ℕ) : Type 0 where
   pub real : (i : ℕ) → i < count → 0 < slice_index sums (slice_index touched i)
   pub listed : (b : ℕ) → 0 < slice_index sums b → is_member nat_eq (take count touched) b ≡ true
 
+-- the number of the net that last touched each block, and that of the present net
+pub record Stamps : Type 0 where
+  pub last : List ℕ
+  pub net : ℕ
+
+-- the present net has touched the block
+abbrev pub is_seen : Stamps → ℕ → Bool
+is_seen s b = nat_eq (slice_index s.last b) s.net
+
 -- the number of the last net that touched each block, all below a number
 pub record IsBefore (seen : List ℕ) (stamp : ℕ) : Type 0 where
   pub size : length seen ≡ 256
@@ -23,13 +32,6 @@ pub record IsBefore (seen : List ℕ) (stamp : ℕ) : Type 0 where
 -- no block has a sum
 abbrev pub IsClear : List ℕ → Type 0
 IsClear sums = (b : ℕ) → slice_index sums b ≡ 0
-
--- nothing is scored, and fewer nets than the bound were scored before
-pub record IsReady (sums touched : List ℕ) (count : ℕ) (seen : List ℕ) (stamp bound : ℕ) : Type 0 where
-  pub clear : IsClear sums
-  pub tracked : IsTracked sums touched count
-  pub fresh : IsBefore seen stamp
-  pub within : stamp ≤ bound
 
 -- the block is another one than `from`, and has room for the weight
 pub record IsTarget (loads : List ℕ) (limit weight from b : ℕ) : Type 0 where

@@ -3,8 +3,11 @@
 
 mod counts;
 mod gains;
+mod lent;
 mod partition;
 mod scores;
+mod seen;
+mod sums;
 
 pub use hg_base::NoMemory;
 pub use partition::Partition;

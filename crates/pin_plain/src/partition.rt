@@ -13,6 +13,7 @@ mod sweep;
 
 use crate::counts::{count, count_nets, lay_out, move_pin};
 use crate::gains::saved_and_lost;
+use crate::lent::Lent;
 use hg_base::{Blocks, Items, NoMemory, bits_of, cost_of};
 use incidence::Hypergraph;
 use std::alloc::Global;
@@ -210,6 +211,25 @@ impl Partition {
         self.blocks.set(v as usize, to);
     }
 
+    /// What is lent to those who score moves.
+    fn lend<'a>(&'a self, h: &'a Hypergraph) -> Lent<'a>
+        requires { self.now.hyper ≡ h.now }
+        ensures hyper { result.h.now ≡ h.now }
+        ensures k { result.k ≡ self.now.k }
+        ensures limit { result.limit ≡ self.now.limit }
+        ensures blocks { result.blocks.now ≡ self.now.blocks }
+    {
+        Lent {
+            h,
+            k: self.k,
+            limit: self.limit,
+            blocks: self.blocks.slice(),
+            loads: self.loads.as_slice(),
+            starts: self.starts.as_slice(),
+            words: self.words.as_slice(),
+        }
+    }
+
     /// How much lower the cost becomes where a vertex goes to a block.
     pub fn gain(&self, h: &Hypergraph, v: u32, to: u32) -> i64
         requires belongs { self.now.hyper ≡ h.now }
@@ -217,19 +237,10 @@ impl Partition {
         requires block { to < self.now.k }
         ensures { result ≡ gain h.now self.now.blocks v to }
     {
-        let blocks = self.blocks.slice();
-        if blocks[v as usize] == to {
+        if self.blocks()[v as usize] == to {
             return 0;
         }
-        let (saved, lost) = saved_and_lost(
-            h,
-            self.k,
-            blocks,
-            self.starts.as_slice(),
-            self.words.as_slice(),
-            v,
-            to,
-        );
+        let (saved, lost) = saved_and_lost(&self.lend(h), v, to);
         saved as i64 - lost as i64
     }
 

@@ -6,11 +6,11 @@ ghost use Rattle.hg_defs.specs.Hypergraph.{vertex_count};
 ghost use Rattle.hg_defs.specs.Replay.{replay};
 ghost use Rattle.hg_defs.specs.Moves as sweeps;
 ghost use Rattle.hg_defs.specs.Moves.{IsSettled, best_block, gain, move_of};
-ghost use Rattle.pin_plain.specs.Scores.{IsReady};
+ghost use Rattle.pin_plain.specs.Scores.{IsClear};
 ghost use Rattle.pin_plain.specs.Settling.{Settles, BreaksOff};
 
 use crate::partition::Partition;
-use crate::scores::{Lent, Scores};
+use crate::scores::Scores;
 use hg_base::{Gains, Move, NoMemory, Verts};
 use incidence::Hypergraph;
 use round_log::{Kind, LoggedRound, Moves, RoundList};
@@ -22,20 +22,13 @@ impl Partition {
     fn best_move(&self, h: &Hypergraph, v: u32, scores: &mut Scores) -> Option<(u32, u64)>
         requires belongs { self.now.hyper ≡ h.now }
         requires vertex { v < vertex_count h.now }
-        requires ready { IsReady scores.old.sums scores.old.touched scores.old.count scores.old.seen scores.old.stamp (2 ^ 22 * v + 1) }
+        requires clear { IsClear scores.old.sums }
         ensures best { option_map (λ m. m.0) result ≡ best_block h.now self.now.limit self.now.blocks v self.now.k }
         ensures gain { IfSome result (λ m. pos m.1 ≡ gain h.now self.now.blocks v m.0) }
         ensures bound { IfSome result (λ m. m.1 < 2 ^ 55) }
-        ensures ready { IsReady scores.new.sums scores.new.touched scores.new.count scores.new.seen scores.new.stamp (2 ^ 22 * (v + 1) + 1) }
+        ensures clear { IsClear scores.new.sums }
     {
-        let lent = Lent {
-            h,
-            k: self.k,
-            blocks: self.blocks.slice(),
-            starts: self.starts.as_slice(),
-            words: self.words.as_slice(),
-        };
-        scores.best_move(&lent, self.loads.as_slice(), self.limit, v)
+        scores.best_move(&self.lend(h), v)
     }
 
     /// Whether no single allowed move makes the partition cheaper.
@@ -56,10 +49,10 @@ impl Partition {
     fn visit(&mut self, h: &Hypergraph, v: u32, scores: &mut Scores) -> Option<Move>
         requires belongs { self.old.hyper ≡ h.now }
         requires vertex { v < vertex_count h.now }
-        requires ready { IsReady scores.old.sums scores.old.touched scores.old.count scores.old.seen scores.old.stamp (2 ^ 22 * v + 1) }
+        requires clear { IsClear scores.old.sums }
         ensures made { result ≡ option_map (move_of h.now self.old.blocks v) (best_block h.now self.old.limit self.old.blocks v self.old.k) }
         ensures after { self.new ≡ record self.old { blocks = replay self.old.blocks (option_to_list result) } }
-        ensures ready { IsReady scores.new.sums scores.new.touched scores.new.count scores.new.seen scores.new.stamp (2 ^ 22 * (v + 1) + 1) }
+        ensures clear { IsClear scores.new.sums }
     {
         let (to, gain) = self.best_move(h, v, scores)?;
         let from = self.blocks()[v as usize];

@@ -6,6 +6,6 @@ use Rattle.pin_plain.proofs.gains.saved_and_lost.Given as goal
 
 abbrev pub invariant-loop-e : goal.invariant-loop-e
 invariant-loop-e l = record {
-  up : l.up ≡ total (net_saved l.h l.blocks l.to) (take l.e-index l.e-items);
-  down : l.down ≡ total (net_lost l.h l.blocks (block_of l.blocks l.v)) (take l.e-index l.e-items);
+  up : l.up ≡ total (net_saved l.lent.h.now l.lent.blocks.now l.to) (take l.e-index l.e-items);
+  down : l.down ≡ total (net_lost l.lent.h.now l.lent.blocks.now (block_of l.lent.blocks.now l.v)) (take l.e-index l.e-items);
 }

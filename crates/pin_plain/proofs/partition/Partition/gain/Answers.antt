@@ -1,10 +1,9 @@
-use Rattle.std.proofs.Common.{◌≡◌, ◌≢◌, ◌<◌, ◌∙◌, ℕ, List, pos, ◌-ℤ◌, sym, ap, subst, arith}
+use Rattle.std.proofs.Common.{◌≢◌, ◌<◌, ◌∙◌, ℕ, List, slice_index, pos, ◌-ℤ◌, sym, ap, subst}
 use Rattle.hg_defs.specs.Sums.{total}
-use Rattle.hg_defs.specs.Hypergraph.{Hyper, IsHypergraph}
-use Rattle.hg_defs.specs.Partition.{IsPartition, block_of}
+use Rattle.hg_defs.specs.Hypergraph.{Hyper, vertex_count}
+use Rattle.hg_defs.specs.Partition.{block_of}
 use Rattle.hg_defs.specs.Moves.{gain}
 use Rattle.hg_defs.specs.Incidence.{nets_of}
-use Rattle.pin_plain.specs.Parted.{Parted}
 use Rattle.pin_plain.specs.Savings.{net_saved}
 use Rattle.pin_plain.proofs.GainLaws.{gain_counted}
 use Rattle.pin_plain.proofs.LoadLaws.{signed_difference}
@@ -12,20 +11,20 @@ use Rattle.pin_plain.proofs.partition.Partition.gain.Goals as goal
 
 pub returns : goal.returns
 returns c =
-    let h = c.args.h.now in
-    let p = c.slice-blocks.result.now in
-    let k = c.self.inside.k in
-    let hyper : c.self.inside.hyper.value ≡ h = ap (λ (x : Parted). x.hyper) c.self.view_is ∙ c.requires.belongs in
-    let ks = ap (λ (x : Parted). x.k) c.self.view_is in
-    let blocks = ap (λ (x : Parted). x.blocks) c.self.view_is in
-    let good = subst IsHypergraph hyper c.self.invariant.parted.sound in
-    let whole : IsPartition h k p = subst (λ (x : Hyper). IsPartition x k p) hyper (subst (IsPartition c.self.inside.hyper.value k) (sym c.slice-blocks.ensures) c.self.invariant.parted.partition) in
-    let other : c.args.to ≢ block_of p c.args.v = λ e. c.if-blocks-v.false (sym e) in
-    let low : c.args.to < k = let b = c.requires.block in omega arith in
+    let l = c.lend.result in
+    let h = l.h.now in
+    let p = l.blocks.now in
+    let parted = l.told.parted in
+    let same = c.lend.ensures in
+    let vertex : c.args.v < vertex_count h = subst (λ (x : Hyper). c.args.v < vertex_count x) (sym same.hyper) c.requires.vertex in
+    let low : c.args.to < l.k = subst (λ (x : ℕ). c.args.to < x) (sym same.k) c.requires.block in
+    let other : c.args.to ≢ block_of p c.args.v =
+    λ e. c.if-blocks-v.false (ap (λ (q : List ℕ). slice_index q c.args.v) (c.blocks-2.ensures.value ∙ sym same.blocks) ∙ sym e) in
     let a = c.saved_and_lost-saved.result.0 in
     let b = c.saved_and_lost-saved.result.1 in
     signed_difference a b c.saved_and_lost-saved.ensures.saved_bound c.saved_and_lost-saved.ensures.lost_bound
     ∙ ap (λ (x : ℕ). pos x -ℤ pos b) c.saved_and_lost-saved.ensures.saved
     ∙ ap (λ (x : ℕ). pos (total (net_saved h p c.args.to) (nets_of h c.args.v)) -ℤ pos x) c.saved_and_lost-saved.ensures.lost
-    ∙ sym (gain_counted h k p c.args.v c.args.to good whole c.requires.vertex low other)
-    ∙ ap (λ (q : List ℕ). gain h q c.args.v c.args.to) (c.slice-blocks.ensures ∙ blocks)
+    ∙ sym (gain_counted h l.k p c.args.v c.args.to parted.sound parted.partition vertex low other)
+    ∙ ap (λ (x : Hyper). gain x p c.args.v c.args.to) same.hyper
+    ∙ ap (λ (q : List ℕ). gain c.args.h.now q c.args.v c.args.to) same.blocks

@@ -1,10 +1,10 @@
-use Rattle.std.proofs.Common.{◌≡◌, ℕ, ◌+◌, ◌*◌, ◌^◌, ◌<◌, None}
+use Rattle.std.proofs.Common.{◌≡◌, ℕ, ◌<◌, None}
 use Rattle.hg_defs.specs.Moves.{best_block}
-use Rattle.pin_plain.specs.Scores.{IsReady}
+use Rattle.pin_plain.specs.Scores.{IsClear}
 use Rattle.pin_plain.proofs.partition.Partition.settled.Given as goal
 
 abbrev pub invariant-loop-v : goal.invariant-loop-v
 invariant-loop-v l = record {
-  ready : IsReady l.scores.sums l.scores.touched l.scores.count l.scores.seen l.scores.stamp (2 ^ 22 * l.v + 1);
+  clear : IsClear l.scores.sums;
   none : (u : ℕ) → u < l.v → best_block l.h l.self.limit l.self.blocks u l.self.k ≡ None;
 }

@@ -15,7 +15,7 @@ loop-v-preserved-in_default c =
       sweeping =
           visit_more c.args.h.now c.args.self.now now c.visit.new.self c.loop-v.v c.reserve.new.self.items c.loop-v.moves.items c.loop-v.moves.items c.visit.result c.loop-v.invariant.same (omega arith) c.visit.ensures.made
           c.visit.ensures.after (sym (append-nil c.loop-v.moves.items) ∙ ap (λ o. c.loop-v.moves.items ++ option_to_list o) (sym c.in_default.is)) c.loop-v.invariant.sweeping;
-      ready = c.visit.ensures.ready;
+      clear = c.visit.ensures.clear;
       room = let was = c.loop-v.invariant.room in omega arith;
     }
 
@@ -29,7 +29,7 @@ loop-v-preserved c =
       sweeping =
           visit_more c.args.h.now c.args.self.now now c.visit.new.self c.loop-v.v c.reserve.new.self.items c.loop-v.moves.items c.push.new.self.items c.visit.result c.loop-v.invariant.same (omega arith) c.visit.ensures.made
           c.visit.ensures.after (c.in_ok-push.ensures.items ∙ ap (λ o. c.loop-v.moves.items ++ option_to_list o) (sym c.in-Some.is)) c.loop-v.invariant.sweeping;
-      ready = c.visit.ensures.ready;
+      clear = c.visit.ensures.clear;
       room = let was = c.loop-v.invariant.room in let len = c.in_ok-push.ensures.len in let capacity = c.in_ok-push.ensures.capacity in omega arith;
     }
 

@@ -12,17 +12,14 @@ loop-i-preserved-then-word-eq0 c =
     let f = fields_of net.bits in
     let i = c.loop-i.i in
     record {
-      tracked = c.loop-i.invariant.tracked;
       sums = λ b q.
           let was = c.loop-i.invariant.sums b q in
-          let more = words_more net.objective net.weight c.args.blocks.now net.pins.now i f b in
+          let more = words_more net.objective net.weight c.args.net.now.blocks.now net.pins.now i f b in
           let none =
-          words_none net.objective net.weight c.args.blocks.now net.pins.now i f b
+          words_none net.objective net.weight c.args.net.now.blocks.now net.pins.now i f b
           (λ place l. sym (c.requires.counts i place c.loop-i-test.true l) ∙ ap (λ w. field w net.bits place) c.if-word-eq0.true ∙ field_zero net.bits place) in
           omega arith;
       own = c.loop-i.invariant.own;
-      seen = c.loop-i.invariant.seen;
-      stamp = c.loop-i.invariant.stamp;
     }
 
 pub loop-i-preserved : goal.loop-i-preserved
@@ -31,13 +28,10 @@ loop-i-preserved c =
     let f = fields_of net.bits in
     let i = c.loop-i.i in
     record {
-      tracked = c.add_word.ensures.tracked;
       sums = λ b q.
           let was = c.loop-i.invariant.sums b q in
-          let more = words_more net.objective net.weight c.args.blocks.now net.pins.now i f b in
+          let more = words_more net.objective net.weight c.args.net.now.blocks.now net.pins.now i f b in
           let step = c.add_word.ensures.sums b q in
           omega arith;
       own = c.add_word.ensures.own ∙ c.loop-i.invariant.own;
-      seen = c.add_word.ensures.seen ∙ c.loop-i.invariant.seen;
-      stamp = c.add_word.ensures.stamp ∙ c.loop-i.invariant.stamp;
     }

@@ -1,14 +1,11 @@
 use Rattle.std.proofs.Common.{◌≡◌, ◌≢◌, ℕ, ◌+◌, ◌*◌, slice_index, if◌then◌else◌}
 use Rattle.hg_base.specs.Packed.{fields_of}
-use Rattle.pin_plain.specs.Scores.{IsTracked, amount_for, is_between}
+use Rattle.pin_plain.specs.Scores.{amount_for, is_between}
 use Rattle.pin_plain.proofs.scores.Scores.add_by_words.Given as goal
 
 abbrev pub invariant-loop-i : goal.invariant-loop-i
 invariant-loop-i l = record {
-  tracked : IsTracked l.self.sums l.self.touched l.self.count;
   sums : (b : ℕ) → b ≢ l.from
-      → slice_index l.self.sums b ≡ slice_index l.initial.self.sums b + (if is_between 0 (l.i * fields_of l.net.bits) b then amount_for l.net.objective l.net.weight l.blocks l.net.pins.now b else 0);
+      → slice_index l.self.sums b ≡ slice_index l.initial.self.sums b + (if is_between 0 (l.i * fields_of l.net.bits) b then amount_for l.net.objective l.net.weight l.net.blocks.now l.net.pins.now b else 0);
   own : slice_index l.self.sums l.from ≡ slice_index l.initial.self.sums l.from;
-  seen : l.self.seen ≡ l.initial.self.seen;
-  stamp : l.self.stamp ≡ l.initial.self.stamp;
 }

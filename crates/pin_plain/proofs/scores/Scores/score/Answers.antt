@@ -1,22 +1,22 @@
-use Rattle.std.proofs.Common.{◌∙◌, length, ap, arith}
+use Rattle.std.proofs.Common.{◌∙◌, ap, arith}
 use Rattle.std.proofs.lemmas.List.{take_all}
 use Rattle.hg_defs.specs.Sums.{total}
 use Rattle.hg_defs.specs.Partition.{block_of}
 use Rattle.hg_defs.proofs.SumLaws.{total-take_more}
 use Rattle.pin_plain.specs.Savings.{net_saved, net_lost}
-use Rattle.pin_plain.proofs.ScoreLaws.{lost_so_far, lost_bound, nets_few, room_for}
+use Rattle.pin_plain.proofs.ScoreLaws.{lost_so_far, lost_bound, room_for}
 use Rattle.pin_plain.proofs.scores.Scores.score.Goals as goal
 
 pub add_net-loss-requires-clause-room : goal.add_net-loss-requires-clause-room
 add_net-loss-requires-clause-room c b =
     let l = c.args.lent.now in
-    room_for l.h.now l.blocks.now b (block_of l.blocks.now c.args.v) c.args.v c.loop-e.e-index c.nets_of-e-items.result.now c.loop-e.self.sums c.requires.told.parted.bounds c.nets_of-e-items.ensures.value c.loop-e-test.true
+    room_for l.h.now l.blocks.now b (block_of l.blocks.now c.args.v) c.args.v c.loop-e.e-index c.nets_of-e-items.result.now c.loop-e.self.sums c.args.lent.now.told.parted.bounds c.nets_of-e-items.ensures.value c.loop-e-test.true
     c.loop-e.invariant.own c.loop-e.invariant.sums
 
 pub overflow_add-loss : goal.overflow_add-loss
 overflow_add-loss c =
     let l = c.args.lent.now in
-    let bound = lost_so_far l.h.now l.blocks.now (block_of l.blocks.now c.args.v) c.args.v c.loop-e.e-index c.nets_of-e-items.result.now c.requires.told.parted.bounds c.nets_of-e-items.ensures.value c.loop-e-test.true in
+    let bound = lost_so_far l.h.now l.blocks.now (block_of l.blocks.now c.args.v) c.args.v c.loop-e.e-index c.nets_of-e-items.result.now c.args.lent.now.told.parted.bounds c.nets_of-e-items.ensures.value c.loop-e-test.true in
     let now = c.loop-e.invariant.lost in
     let one = c.add_net-loss.ensures.lost in
     omega arith
@@ -31,15 +31,12 @@ loop-e-preserved c =
           let now = c.loop-e.invariant.lost in
           let one = c.add_net-loss.ensures.lost in
           omega arith;
-      tracked = c.add_net-loss.ensures.tracked;
       sums = λ b q.
           let more = total-take_more (net_saved l.h.now l.blocks.now b) c.nets_of-e-items.result.now c.loop-e.e-index 0 c.loop-e-test.true in
           let now = c.loop-e.invariant.sums b q in
           let one = c.add_net-loss.ensures.sums b q in
           omega arith;
       own = c.add_net-loss.ensures.own ∙ c.loop-e.invariant.own;
-      seen = c.add_net-loss.ensures.seen;
-      stamp = let was = c.loop-e.invariant.stamp in let step = c.add_net-loss.ensures.stamp in omega arith;
     }
 
 pub returns-clause-bound : goal.returns-clause-bound
@@ -47,15 +44,6 @@ returns-clause-bound c =
     let l = c.args.lent.now in
     let from = block_of l.blocks.now c.args.v in
     let all = ap (total (net_lost l.h.now l.blocks.now from)) (take_all c.loop-e.e-index c.nets_of-e-items.result.now (omega arith) ∙ c.nets_of-e-items.ensures.value) in
-    let bound = lost_bound l.h.now l.blocks.now from c.args.v c.requires.told.parted.bounds in
+    let bound = lost_bound l.h.now l.blocks.now from c.args.v c.args.lent.now.told.parted.bounds in
     let now = c.loop-e.invariant.lost in
-    omega arith
-
-pub returns-clause-stamp : goal.returns-clause-stamp
-returns-clause-stamp c =
-    let l = c.args.lent.now in
-    let few = nets_few l.h.now c.args.v in
-    let len = ap length c.nets_of-e-items.ensures.value in
-    let nets = c.requires.told.parted.bounds.nets in
-    let now = c.loop-e.invariant.stamp in
     omega arith

@@ -1,31 +1,31 @@
-use Rattle.std.proofs.Common.{◌+◌, ◌<◌, ◌∙◌, length, take, slice_index, sym, subst, arith, true≢false}
+use Rattle.std.proofs.Common.{◌+◌, ◌<◌, ◌∙◌, length, take, slice_index, ap, sym, subst, arith, true≢false}
 use Rattle.pin_plain.specs.Scores.{IsTarget, IsTopAmong}
 use Rattle.pin_plain.proofs.TallyLaws.{tracked_count, target_block, top_kept, top_taken}
-use Rattle.pin_plain.proofs.scores.Scores.top.Goals as goal
-use Rattle.pin_plain.proofs.scores.Scores.top.Goals.{then-is_higher, else-is_higher}
+use Rattle.pin_plain.proofs.sums.Sums.top.Goals as goal
+use Rattle.pin_plain.proofs.sums.Sums.top.Goals.{then-is_higher, else-is_higher}
 
-pub offset_bounds-self-i : goal.offset_bounds-self-i
-offset_bounds-self-i c = let s = c.args.self.now in let few = tracked_count s.sums s.touched s.count c.requires.tracked in omega arith
+pub offset_bounds-self-inside-i : goal.offset_bounds-self-inside-i
+offset_bounds-self-inside-i c = let s = c.self.inside in let few = tracked_count s.sums s.touched s.count c.self.invariant in omega arith
 
-pub bounds-self-i : goal.bounds-self-i
-bounds-self-i c = let s = c.args.self.now in let few = tracked_count s.sums s.touched s.count c.requires.tracked in omega arith
+pub bounds-self-inside-i : goal.bounds-self-inside-i
+bounds-self-inside-i c = let s = c.self.inside in let few = tracked_count s.sums s.touched s.count c.self.invariant in omega arith
 
 pub loop-i-preserved-then-loads-block : goal.loop-i-preserved-then-loads-block
 loop-i-preserved-then-loads-block c =
-    let s = c.args.self.now in
-    let few = tracked_count s.sums s.touched s.count c.requires.tracked in
-    let places = c.requires.tracked.places in
+    let s = c.self.inside in
+    let few = tracked_count s.sums s.touched s.count c.self.invariant in
+    let places = c.self.invariant.places in
     top_kept s.sums c.args.loads.now c.args.limit c.args.weight c.args.from c.args.loss s.touched c.loop-i.i (omega arith) c.loop-i.best
     (λ t higher. let room = t.room in let past = c.if-loads-block.true in omega arith) c.loop-i.invariant
 
 pub loop-i-preserved : goal.loop-i-preserved
 loop-i-preserved c =
-    let s = c.args.self.now in
+    let s = c.self.inside in
     let i = c.loop-i.i in
-    let few = tracked_count s.sums s.touched s.count c.requires.tracked in
-    let inside : i < length s.touched = let places = c.requires.tracked.places in omega arith in
+    let few = tracked_count s.sums s.touched s.count c.self.invariant in
+    let inside : i < length s.touched = let places = c.self.invariant.places in omega arith in
     let target : IsTarget c.args.loads.now c.args.limit c.args.weight c.args.from (slice_index s.touched i) =
-    record { block = target_block s.sums s.touched c.args.loads.now s.count i c.requires.tracked c.loop-i-test.true c.requires.past; other = c.if-block-from.false; room = c.if-loads-block.false } in
+    record { block = target_block s.sums s.touched c.args.loads.now s.count i c.self.invariant c.loop-i-test.true (λ b m. ap (λ xs. slice_index xs b) c.self.view_is ∙ c.requires.past b m); other = c.if-block-from.false; room = c.if-loads-block.false } in
     elim c.if-is_higher.branch [
       | then-is_higher w ↦
           subst (IsTopAmong s.sums c.args.loads.now c.args.limit c.args.weight c.args.from c.args.loss (take (i + 1) s.touched)) (sym w.best-is)
