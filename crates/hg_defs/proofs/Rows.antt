@@ -11,14 +11,14 @@ use Rattle.hg_defs.specs.Moves.{gain, sweep}
 use Rattle.hg_defs.specs.Replay.{replay, best_prefix}
 use Rattle.hg_defs.specs.Contraction.{contract}
 
-abbrev net : ℕ → List ℕ → Net
+abbrev pub net : ℕ → List ℕ → Net
 net w ps = record { weight = w; pins = ps }
 
-abbrev free : ℕ → List ℕ
+abbrev pub free : ℕ → List ℕ
 free n = replicate n 256
 
 -- seven vertices and four nets of weights 2, 3, 8 and 7
-abbrev four_nets : Objective → List ℕ → Hyper
+abbrev pub four_nets : Objective → List ℕ → Hyper
 four_nets o fixes = record {
   weights = replicate 7 1;
   nets = net 2 (0 ∷ 1 ∷ []) ∷ net 3 (0 ∷ 4 ∷ 5 ∷ 6 ∷ []) ∷ net 8 (3 ∷ 4 ∷ 5 ∷ []) ∷ net 7 (1 ∷ 2 ∷ 3 ∷ []) ∷ [];
@@ -26,7 +26,7 @@ four_nets o fixes = record {
   fixes = fixes;
 }
 
-abbrev plain : Hyper
+abbrev pub plain : Hyper
 plain = four_nets Connectivity (free 7)
 
 -- cost, loads and limit of a partition

@@ -1,7 +1,8 @@
 -- Clusterings: maps whose clusters are light enough, and those to which no pair of single vertices can be added.
-use Rattle.std.specs.Prelude.{◌≡◌, ◌≢◌, ℕ, suc, ◌+◌, ◌-◌, ◌*◌, ◌<◌, ◌≤◌, List, [], ◌∷◌, length, All, Contains, max, slice_index}
-use Rattle.hg_defs.specs.Hypergraph.{Net, Hyper, vertex_count, weight_of, IsFree}
-use Rattle.hg_defs.specs.Partition.{weight_in, divided_up}
+use Rattle.std.specs.Prelude.{◌≡◌, ◌≢◌, ℕ, suc, ◌+◌, ◌-◌, ◌*◌, ◌<◌, ◌≤◌, List, [], ◌∷◌, length, All, Contains, max, slice_index, Bool, not, ◌&&◌, ◌||◌, nat_eq, nat_le}
+use Rattle.std.specs.List.{list_all}
+use Rattle.hg_defs.specs.Hypergraph.{Net, Hyper, vertex_count, vertices, weight_of, is_free, IsFree}
+use Rattle.hg_defs.specs.Partition.{block_of, weight_in, divided_up}
 use Rattle.hg_defs.specs.Contraction.{IsFull}
 
 -- one more than the largest number of a map: the count of clusters of a full one
@@ -32,6 +33,15 @@ pub record IsSingleton (h : Hyper) (clusters : List ℕ) (v : ℕ) : Type 0 wher
   pub free : IsFree h v
   pub alone : (u : ℕ) → u < vertex_count h → slice_index clusters u ≡ slice_index clusters v → u ≡ v
 
+-- the test for it
+abbrev pub is_single : Hyper → List ℕ → ℕ → Bool
+is_single h clusters v =
+    is_free h v && list_all (λ u. nat_eq u v || not (nat_eq (slice_index clusters u) (slice_index clusters v))) (vertices h)
+
+-- whether a net has at most 1,000 pins: larger ones aren't looked at by clusterings
+abbrev pub is_small : Net → Bool
+is_small e = nat_le (length e.pins) 1000
+
 -- two different singletons on one net of at most 1,000 pins
 pub record AreNeighbours (h : Hyper) (clusters : List ℕ) (e : Net) (u v : ℕ) : Type 0 where
   pub small : length e.pins ≤ 1000
@@ -46,13 +56,22 @@ abbrev pub IsMaximal : Hyper → ℕ → List ℕ → Type 0
 IsMaximal h cap clusters =
     All (λ e. (u v : ℕ) → AreNeighbours h clusters e u v → cap < weight_of h u + weight_of h v) h.nets
 
--- the same for singletons of one block of a partition, where no cluster has vertices of two blocks
+-- no two neighbouring singletons of one block of a partition are
+abbrev pub IsMaximalInside : Hyper → ℕ → List ℕ → List ℕ → Type 0
+IsMaximalInside h cap p clusters =
+    All
+    (λ e. (u v : ℕ) → AreNeighbours h clusters e u v → block_of p u ≡ block_of p v → cap < weight_of h u + weight_of h v)
+    h.nets
+
+-- no cluster has vertices of two blocks of a partition
+abbrev pub IsWithinBlocks : Hyper → List ℕ → List ℕ → Type 0
+IsWithinBlocks h p clusters = (u v : ℕ) → AreTogether h clusters u v → block_of p u ≡ block_of p v
+
+-- a clustering inside the blocks of a partition, to which no pair of single vertices of one block can be added
 pub record IsInside (h : Hyper) (cap : ℕ) (p clusters : List ℕ) : Type 0 where
   pub clustering : IsClustering h cap clusters
-  pub blocks : (u v : ℕ) → AreTogether h clusters u v → slice_index p u ≡ slice_index p v
-  pub maximal : All
-      (λ e. (u v : ℕ) → AreNeighbours h clusters e u v → slice_index p u ≡ slice_index p v → cap < weight_of h u + weight_of h v)
-      h.nets
+  pub blocks : IsWithinBlocks h p clusters
+  pub maximal : IsMaximalInside h cap p clusters
 
 -- the heaviest that a cluster may be: an eighth of an even share, rounded up, and at least 1
 abbrev pub cluster_cap : ℕ → ℕ → ℕ

@@ -3,7 +3,13 @@
 ghost use Rattle.hg_defs.specs.PlacementLaws.{AllWeightsArePlaced, GreedyDoesNotFit, GreedyFits, GreedyIsPartition, GreedyObeys, HeaviestFirstListsFree, HeaviestGoFirst, LeastIsFirstLeast, LeastLoadedIsInTurn, LeastLoadedIsPartition, LeastLoadedObeys, LoadsAreKept, NoneOverfillsWhereItFits, OneOverfillsWhereItDoesNotFit, OnlyLeastLoadedIsInTurn, OverfillingIsFirst};
 ghost use Rattle.hg_defs.specs.ContractionLaws.{ContractionIsHypergraph, ContractionKeepsCost, ContractionKeepsLimits, ContractionKeepsLoads, ContractionKeepsWeight, FittingIsLifted, FittingIsProjected, FixesAreLifted, FixesAreProjected, FixesStayWithin, PartitionIsLifted, PartitionIsProjected};
 ghost use Rattle.hg_defs.specs.MoveLaws.{AllowedMoveFits, AllowedMoveIsPartition, AllowedMoveObeys, AllowedMovesArePartition, AllowedMovesFit, AllowedMovesObey, BestBlockIsBest, ConnectivityCountsBlocks, EmptySweepIsSettled, GainIsLocal, MoveKeepsOtherLoads, MoveLowersLoad, MoveRaisesLoad, NoBestBlockGainsNothing, OnlyBestBlockIsBest, SettledSweepIsEmpty, SweepIsAllowed, SweepLowersCost, SweepMakesBestMoves, SweepRises, SweepSavesWhatItBooks};
-ghost use Rattle.hg_defs.specs.ReplayLaws.{BestPrefixIsBest, FittingIsTested, OnlyBestPrefixIsBest};
+ghost use Rattle.hg_defs.specs.ReplayLaws.{BestPrefixIsBest, FittingIsTested, FreeMovesLeaveFixes, GainsAddUp, MovesAreRedone, MovesAreUndone, MovesLeavePartition, OnlyBestPrefixIsBest};
+ghost use Rattle.hg_defs.specs.SetLaws.{OnlySetHasMembers, SetHasMembers, SetRises};
+ghost use Rattle.hg_defs.specs.NetLaws.{ImageHasClusters, ImageRises, ImagesAreNets, NetsAreImages, NetsRise, NetsWeighTogether};
+ghost use Rattle.hg_defs.specs.NamedLaws.{CheapestIsFirst, NamedArePartitions, NamedObey, NoneIsCheapestWhereNoneFits, OneFitsWhereGreedyDoes, OnlyCheapestIsFirst};
+ghost use Rattle.hg_defs.specs.PairingLaws.{AloneIsRooted, NumberCountsRoots, NumberingKeepsSingles, NumberingKeepsTogether, NumbersAreAsMany, NumbersAreClustering, NumbersRise, NumbersTellRoots, PairedInsideIsInside, PairedIsClustering, PairedIsMaximal, PairingInsideIsMaximal, PairingInsideIsRooted, PairingInsideJoinsSingles, PairingInsideKeepsBlocks, PairingIsMaximal, PairingIsRooted, PairingJoinsSingles, SplitIsRooted, SplitKeepsBlocks};
+ghost use Rattle.hg_defs.specs.SynchronousLaws.{SettledSyncIsSame, SettledSyncMovesNothing, SyncLeavesFixes, SyncLeavesPartition, SyncMovesAreAllowed, SyncMovesAreBooked, SyncMovesAreOfDistinct, SyncMovesAreWishes, SyncMovesComeFrom, SyncMovesSaveWhatTheyBook, SyncRaisesNoCost, SyncStaysWithinLimit, UnsettledSyncLowersCost, UnsettledSyncMoves, WishesAreBestMoves, WishesComeBySaving};
+ghost use Rattle.hg_defs.specs.LevelLaws.{LevelIsAdded, LevelIsContraction, LevelsAreListed, LevelsAreOneMore, LevelsStay, LiftedFollows, LiftedIsProjected, OnlyLiftedIsProjected};
 
 /// Least loaded placement gives each vertex a block and obeys the fixes. It places the vertices in
 /// turn, each free one into the block of least load so far, and nothing else does.
@@ -111,4 +117,117 @@ pub fn projection_of_partition()
     ensures lifted { PartitionIsLifted }
     ensures obeys { FixesAreProjected }
     ensures obeyed { FixesAreLifted }
+{}
+
+/// The gains of replayed moves sum to what the moves save together. Moves to blocks below k leave a
+/// partition, moves of free vertices keep the fixes, and moves of distinct vertices can be undone.
+pub fn replay_of_moves()
+    ensures gains { GainsAddUp }
+    ensures partition { MovesLeavePartition }
+    ensures fixes { FreeMovesLeaveFixes }
+    ensures undone { MovesAreUndone }
+    ensures redone { MovesAreRedone }
+{}
+
+/// The set of a list of numbers is the one rising list with its members.
+pub fn set_of_numbers()
+    ensures rising { SetRises }
+    ensures members { SetHasMembers }
+    ensures only { OnlySetHasMembers }
+{}
+
+/// The nets of a contraction are the images of at least two clusters, each once, in rising order, and
+/// each weighs what the nets with that image weigh together.
+pub fn nets_of_contraction()
+    ensures rising { ImageRises }
+    ensures clusters { ImageHasClusters }
+    ensures images { NetsAreImages }
+    ensures each { ImagesAreNets }
+    ensures once { NetsRise }
+    ensures weights { NetsWeighTogether }
+{}
+
+/// The named placements are partitions that obey the fixes. The cheapest of those that fit, the first
+/// at a tie, is found, and none exactly where none fits.
+pub fn named_placements()
+    ensures partitions { NamedArePartitions }
+    ensures fixes { NamedObey }
+    ensures cheapest { CheapestIsFirst }
+    ensures only { OnlyCheapestIsFirst }
+    ensures none { NoneIsCheapestWhereNoneFits }
+    ensures greedy { OneFitsWhereGreedyDoes }
+{}
+
+/// Clusters that are numbered by rising root are the clusters of the roots: vertices of one root have
+/// one number, a lower root has a lower number, and the numbers are full.
+pub fn numbering_by_root()
+    ensures told { NumbersTellRoots }
+    ensures rising { NumbersRise }
+    ensures count { NumbersAreAsMany }
+    ensures number { NumberCountsRoots }
+    ensures clustering { NumbersAreClustering }
+    ensures together { NumberingKeepsTogether }
+    ensures singles { NumberingKeepsSingles }
+{}
+
+/// The pairing sweep keeps the cap, joins single vertices alone, and leaves no two of them on a small
+/// net that could be joined.
+pub fn pairing_of_vertices()
+    ensures alone { AloneIsRooted }
+    ensures rooted { PairingIsRooted }
+    ensures joined { PairingJoinsSingles }
+    ensures maximal { PairingIsMaximal }
+    ensures paired { PairedIsClustering }
+    ensures most { PairedIsMaximal }
+{}
+
+/// The same holds of the pairing inside the blocks of a partition, which joins vertices of one block
+/// alone. A clustering by roots is brought inside the blocks by giving up the roots in other blocks.
+pub fn pairing_inside_blocks()
+    ensures rooted { PairingInsideIsRooted }
+    ensures joined { PairingInsideJoinsSingles }
+    ensures blocks { PairingInsideKeepsBlocks }
+    ensures maximal { PairingInsideIsMaximal }
+    ensures inside { PairedInsideIsInside }
+    ensures split { SplitIsRooted }
+    ensures apart { SplitKeepsBlocks }
+{}
+
+/// The moves of a synchronous round grant wishes, each for the best move of its vertex at the
+/// beginning, while there is room. They come by what they would save, and are booked as replayed.
+pub fn moves_of_synchronous_round()
+    ensures wishes { WishesAreBestMoves }
+    ensures order { WishesComeBySaving }
+    ensures granted { SyncMovesAreWishes }
+    ensures once { SyncMovesAreOfDistinct }
+    ensures allowed { SyncMovesAreAllowed }
+    ensures booked { SyncMovesAreBooked }
+    ensures from { SyncMovesComeFrom }
+    ensures saved { SyncMovesSaveWhatTheyBook }
+    ensures none { SettledSyncMovesNothing }
+    ensures some { UnsettledSyncMoves }
+{}
+
+/// A synchronous round lowers the cost where the partition isn't settled, and leaves it as it is where
+/// it is settled. It keeps the partition, its fixes and the limit.
+pub fn partition_after_synchronous_round()
+    ensures cheaper { UnsettledSyncLowersCost }
+    ensures same { SettledSyncIsSame }
+    ensures no_dearer { SyncRaisesNoCost }
+    ensures partition { SyncLeavesPartition }
+    ensures fixes { SyncLeavesFixes }
+    ensures within { SyncStaysWithinLimit }
+{}
+
+/// Each level is the contraction of the one below it. A partition that is the same on each cluster is
+/// lifted to the one partition of the clusters that it is the projection of.
+pub fn levels_of_clusterings()
+    ensures count { LevelsAreOneMore }
+    ensures listed { LevelsAreListed }
+    ensures contracted { LevelIsContraction }
+    ensures same { LevelsStay }
+    ensures added { LevelIsAdded }
+    ensures lifted { LiftedIsProjected }
+    ensures only { OnlyLiftedIsProjected }
+    ensures carried { LiftedFollows }
 {}
