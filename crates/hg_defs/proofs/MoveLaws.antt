@@ -29,13 +29,13 @@ use Rattle.hg_defs.proofs.SortLaws.{Contains_head, Contains_later, Contains-cons
 gain_above : (a b : ℕ) → b < a → pos 0 <ℤ (pos a -ℤ pos b)
 gain_above a b l = omega (arith, ints)
 
-above_gain : (a b : ℕ) → pos 0 <ℤ (pos a -ℤ pos b) → b < a
+pub above_gain : (a b : ℕ) → pos 0 <ℤ (pos a -ℤ pos b) → b < a
 above_gain a b l = omega (arith, ints)
 
 gain_none : (a b : ℕ) → a ≤ b → (pos a -ℤ pos b) ≤ℤ pos 0
 gain_none a b l = omega (arith, ints)
 
-none_gain : (a b : ℕ) → (pos a -ℤ pos b) ≤ℤ pos 0 → a ≤ b
+pub none_gain : (a b : ℕ) → (pos a -ℤ pos b) ≤ℤ pos 0 → a ≤ b
 none_gain a b l = omega (arith, ints)
 
 gain_less : (a b c : ℕ) → b ≤ c → (pos a -ℤ pos c) ≤ℤ (pos a -ℤ pos b)
@@ -52,7 +52,7 @@ below_gain a b c l = omega (arith, ints)
 
 -- ---- allowed moves
 
-allowed_is : (h : Hyper) (k l : ℕ) (p : List ℕ) (v b : ℕ) → v < vertex_count h → b < k → is_allowed h l p v b ≡ true → IsAllowed h k l p v b
+pub allowed_is : (h : Hyper) (k l : ℕ) (p : List ℕ) (v b : ℕ) → v < vertex_count h → b < k → is_allowed h l p v b ≡ true → IsAllowed h k l p v b
 allowed_is h k l p v b inside low e =
     let both = and_parts (is_free h v && not (nat_eq b (block_of p v))) (nat_le (load h p b + weight_of h v) l) e in
     let first = and_parts (is_free h v) (not (nat_eq b (block_of p v))) both.0 in
@@ -64,7 +64,7 @@ allowed_is h k l p v b inside low e =
       room = leb-true (load h p b + weight_of h v) l both.1;
     }
 
-is_allowed_from : (h : Hyper) (k l : ℕ) (p : List ℕ) (v b : ℕ) → IsAllowed h k l p v b → is_allowed h l p v b ≡ true
+pub is_allowed_from : (h : Hyper) (k l : ℕ) (p : List ℕ) (v b : ℕ) → IsAllowed h k l p v b → is_allowed h l p v b ≡ true
 is_allowed_from h k l p v b a =
     and_from (is_free h v && not (nat_eq b (block_of p v))) (nat_le (load h p b + weight_of h v) l)
     (and_from (is_free h v) (not (nat_eq b (block_of p v))) (eq-eqb (fix_of h v) FREE a.free) (not_from_false (nat_eq b (block_of p v)) (ne_eqb b (block_of p v) a.other)))

@@ -1,27 +1,27 @@
 -- Laws of least loaded placement.
-use Rattle.std.proofs.Common.{◌≡◌, ◌≢◌, ℕ, zero, suc, ◌+◌, ◌<◌, ◌≤◌, ◌⊎◌, inl, inr, Bool, true, false, not, if◌then◌else◌, nat_eq, nat_le, List, [], ◌∷◌, ◌++◌, map, filter, length, get_or, take, slice_index, slice_set, All, Contains, IsPermutation, IsSorted, Some, None, refl, sym, ap, ap₂, cond, ◌∙◌, subst, subst₂, Ordering, Less, Equal, Greater, is_lt, nat_cmp, arith, append_assoc, append-nil, add-one, length-set, get_or-set_same, get_or-set_other, true≢false, ◌&&◌}
-use Rattle.std.proofs.lemmas.List.{get_or-map, length-map, length-replicate, get_or-replicate, get_or_past, get_or_default, ext_get_or, take_all, get_or-take, length-take, take_more}
-use Rattle.std.proofs.lemmas.List.Elements.{All-map, Contains-get_or, All-head, All-tail, All-set, All-replicate, Contains-push_cases, Contains-append_left}
+use Rattle.std.proofs.Common.{◌≡◌, ◌≢◌, ℕ, zero, suc, ◌+◌, ◌<◌, ◌≤◌, ◌⊎◌, inl, inr, Bool, true, false, not, if◌then◌else◌, nat_eq, nat_le, List, [], ◌∷◌, ◌++◌, map, filter, length, get_or, take, slice_index, slice_set, All, AllPairs, Contains, IsPermutation, IsSorted, Some, None, refl, sym, ap, ap₂, cond, ◌∙◌, subst, arith, append_assoc, append-nil, add-one, length-set, get_or-set_same, get_or-set_other, true≢false, ◌&&◌}
+use Rattle.std.proofs.lemmas.List.{length-replicate, get_or-replicate, get_or_past, get_or_default, ext_get_or, take_all, get_or-take, length-take, take_more}
+use Rattle.std.proofs.lemmas.List.Elements.{Contains-get_or, All-head, All-tail, All-set, All-replicate, Contains-push_cases, Contains-append_left}
 use Rattle.std.proofs.lemmas.List.FromFn.{length-range_with_len, get_or-range_with_len}
-use Rattle.std.proofs.lemmas.List.Sorted.{sorted_far, ranks_by, IsPermutation-trans, IsPermutation-map, IsPermutation-append_right, IsPermutation-filter_both, All-permutation, Contains-permutation}
+use Rattle.std.proofs.lemmas.List.Sorted.{IsPermutation-trans, IsPermutation-append_right, IsPermutation-filter_both, All-permutation, Contains-permutation}
 use Rattle.std.proofs.lemmas.List.Sums.{AllPass-from_list_all}
 use Rattle.std.proofs.lemmas.Bool.{eqb-true, eqb-false, eq-eqb, ne_eqb, leb-true, leb-false, cases_order, cases_lt, cases_eq}
-use Rattle.std.proofs.lemmas.Map.Made.{IsDistinct-from_AllPairs, AllPairs-from_IsDistinct}
+use Rattle.std.proofs.lemmas.Map.Made.{AllPairs-from_IsDistinct}
 use Rattle.std.proofs.lemmas.List.Kept.{AllPairs-filter}
 use Rattle.std.proofs.lemmas.Bool.Decides.{Decides-eqb}
-use Rattle.std.proofs.lemmas.Map.Keys.{apart_from_distinct, IsDistinct-head, IsDistinct-tail, IsDistinct-IsPermutation, IsDistinct-from_apart}
-use Rattle.std.proofs.lemmas.Cmp.{nat_eq_equiv, ranked}
-use Rattle.std.specs.Ordering.{MatchOrdering, ordering_then, ordering_reverse}
+use Rattle.std.proofs.lemmas.Map.Keys.{IsDistinct-head, IsDistinct-tail, IsDistinct-IsPermutation, IsDistinct-from_apart}
+use Rattle.std.proofs.lemmas.Cmp.{nat_eq_equiv}
 use Rattle.std.specs.List.{IsDistinct, AllByRecursion, list_all}
 use Rattle.hg_defs.specs.declared.objective.TheConstants.{FREE}
 use Rattle.hg_defs.specs.Hypergraph.{Hyper, IsHypergraph, IsFixedWithin, vertex_count, vertices, weight_of, fix_of, is_free, IsFree}
 use Rattle.hg_defs.specs.Partition.{IsPartition, block_of, load}
 use Rattle.hg_defs.specs.LeastLoaded.{Placing, placed, placed_one, unplaced, taken_block, placing_order, least, least_loaded, heaviest_first, heavier_first, first_overfilling}
-use Rattle.hg_defs.specs.PlacementLaws.{IsFirstLeast, weight_placed, IsPlacedAt, IsPlacedInTurn, IsFirstOverfilling, ListsFree, GoesFirst, IsPlaceable, LeastLoadedIsPartition, LeastLoadedObeys, LeastLoadedIsInTurn, OnlyLeastLoadedIsInTurn, LeastIsFirstLeast, LoadsAreKept, AllWeightsArePlaced, OverfillingIsFirst, NoneOverfillsWhereItFits, OneOverfillsWhereItDoesNotFit, HeaviestFirstListsFree, HeaviestGoFirst, GreedyIsPartition, GreedyObeys, GreedyFits, GreedyDoesNotFit}
+use Rattle.hg_defs.specs.PlacementLaws.{IsFirstLeast, weight_placed, IsPlacedAt, IsPlacedInTurn, IsFirstOverfilling, ListsFree, IsPlaceable, LeastLoadedIsPartition, LeastLoadedObeys, LeastLoadedIsInTurn, OnlyLeastLoadedIsInTurn, LeastIsFirstLeast, LoadsAreKept, AllWeightsArePlaced, OverfillingIsFirst, NoneOverfillsWhereItFits, OneOverfillsWhereItDoesNotFit, HeaviestFirstListsFree, HeaviestGoFirst, GreedyIsPartition, GreedyObeys, GreedyFits, GreedyDoesNotFit}
+use Rattle.hg_defs.proofs.KeyLaws.{by_key-permutation, by_key-pairs, heavier_goes_first}
 use Rattle.hg_defs.proofs.SumLaws.{weight_if, weight_if-same, weight_if-other, total_push, total-same, total-permutation, total-range, total-take-le, weight_in-by_index}
 use Rattle.hg_defs.specs.Sorting.{sorted}
 use Rattle.std.specs.declared.cmp.Reverse.{Reverse}
-use Rattle.hg_defs.proofs.SortLaws.{heavy_key, heavy_key_cmp, heavy_keys_sorted, sorted_permutation, IsSorted-sorted, heavier_first_total, heavier_first_exact, Contains_head, Contains_later, Contains-cons_cases, Contains-nil}
+use Rattle.hg_defs.proofs.SortLaws.{heavy_key, heavy_key_cmp, heavy_keys_sorted, heavier_first_total, heavier_first_exact, Contains_head, Contains_later, Contains-cons_cases, Contains-nil}
 
 -- ---- the least element
 
@@ -538,80 +538,17 @@ one_overfills h k l order v ready e fits =
 
 -- ---- the heaviest first
 
-seconds : (f : ℕ → ℕ) (vs : List ℕ) → map (λ (a : ℕ × ℕ). a.1) (map (λ v. (f v, v)) vs) ≡ vs
-seconds f [] = refl
-seconds f (v ∷ vs) = ap (λ us. v ∷ us) (seconds f vs)
-
 pub heaviest_first-lists_free : HeaviestFirstListsFree
-heaviest_first-lists_free h =
-    subst (λ vs. IsPermutation vs (heaviest_first h)) (seconds (weight_of h) (filter (is_free h) (vertices h)))
-    (IsPermutation-map (λ (a : ℕ × ℕ). a.1) (map (λ v. (weight_of h v, v)) (filter (is_free h) (vertices h))) (sorted heavier_first (map (λ v. (weight_of h v, v)) (filter (is_free h) (vertices h)))) (sorted_permutation heavier_first (map (λ v. (weight_of h v, v)) (filter (is_free h) (vertices h)))))
+heaviest_first-lists_free h = by_key-permutation heavier_first (weight_of h) (filter (is_free h) (vertices h))
 
-distinct_free : (h : Hyper) → IsDistinct nat_eq (heaviest_first h)
-distinct_free h =
-    IsDistinct-IsPermutation nat_eq nat_eq_equiv.symm (filter (is_free h) (vertices h)) (heaviest_first h) (heaviest_first-lists_free h)
-    (IsDistinct-from_AllPairs Decides-eqb (filter (is_free h) (vertices h))
-    (AllPairs-filter (λ x y. x ≢ y) (is_free h) (vertices h) (AllPairs-from_IsDistinct Decides-eqb (vertices h) (distinct_vertices h))))
-
-heavier_goes_first : (a b : ℕ × ℕ) → heavier_first a b ≡ Less → (b.0 < a.0) ⊎ ((a.0 ≡ b.0) × (a.1 < b.1))
-heavier_goes_first a b e = by (nat_cmp b.0 a.0) (nat_cmp a.1 b.1) (ranked b.0 a.0 (nat_cmp b.0 a.0) refl) (ranked a.1 b.1 (nat_cmp a.1 b.1) refl) e
-  where
-    by : (r s : Ordering) → MatchOrdering r (b.0 < a.0) (b.0 ≡ a.0) (a.0 < b.0) → MatchOrdering s (a.1 < b.1) (a.1 ≡ b.1) (b.1 < a.1) → ordering_then r s ≡ Less → (b.0 < a.0) ⊎ ((a.0 ≡ b.0) × (a.1 < b.1))
-    by Less s x y f = inl x
-    by Equal Less x y f = inr (sym x, y)
-    by Equal Equal x y f = absurd (true≢false (sym (ap is_lt f)))
-    by Equal Greater x y f = absurd (true≢false (sym (ap is_lt f)))
-    by Greater s x y f = absurd (true≢false (sym (ap is_lt f)))
-
-not_below : (r : Ordering) → is_lt (ordering_reverse r) ≡ false → (r ≡ Equal → ⊥) → r ≡ Less
-not_below Less e n = refl
-not_below Equal e n = absurd (n refl)
-not_below Greater e n = absurd (true≢false e)
+-- the vertices that pass a test are distinct
+pub apart_vertices : (h : Hyper) (test : ℕ → Bool) → AllPairs (λ x y. x ≢ y) (filter test (vertices h))
+apart_vertices h test = AllPairs-filter (λ x y. x ≢ y) test (vertices h) (AllPairs-from_IsDistinct Decides-eqb (vertices h) (distinct_vertices h))
 
 pub heaviest_go_first : HeaviestGoFirst
 heaviest_go_first h i j d l m =
-    subst₂ (λ a b. GoesFirst h a b) (sym (second i in_i)) (sym (second j in_j))
-    (subst₂ (λ x y. (y < x) ⊎ ((x ≡ y) × ((get_or ps i e).1 < (get_or ps j e).1))) (weighs i in_i) (weighs j in_j)
-    (heavier_goes_first (get_or ps i e) (get_or ps j e) less))
-  where
-    start : List (ℕ × ℕ)
-    start = map (λ v. (weight_of h v, v)) (filter (is_free h) (vertices h))
-
-    ps : List (ℕ × ℕ)
-    ps = sorted heavier_first (map (λ v. (weight_of h v, v)) (filter (is_free h) (vertices h)))
-
-    e : ℕ × ℕ
-    e = (0, 0)
-
-    long : length (heaviest_first h) ≡ length ps
-    long = length-map ps (λ (a : ℕ × ℕ). a.1)
-
-    in_i : i < length ps
-    in_i = let n = long in omega arith
-
-    in_j : j < length ps
-    in_j = let n = long in omega arith
-
-    second : (c : ℕ) → c < length ps → get_or (heaviest_first h) c d ≡ (get_or ps c e).1
-    second c n = get_or-map (λ (a : ℕ × ℕ). a.1) ps c e d n
-
-    weighed : All (λ (a : ℕ × ℕ). a.0 ≡ weight_of h a.1) ps
-    weighed =
-        All-permutation (λ (a : ℕ × ℕ). a.0 ≡ weight_of h a.1) start ps (sorted_permutation heavier_first start)
-        (All-map (λ (a : ℕ × ℕ). a.0 ≡ weight_of h a.1) (λ v. (weight_of h v, v)) (filter (is_free h) (vertices h)) (λ c d n. refl))
-
-    weighs : (c : ℕ) → c < length ps → (get_or ps c e).0 ≡ weight_of h (get_or ps c e).1
-    weighs c n = weighed c e n
-
-    far : is_lt (heavier_first (get_or ps j e) (get_or ps i e)) ≡ false
-    far = sorted_far (λ x y. is_lt (heavier_first x y)) (ranks_by heavier_first_total (λ (a : ℕ × ℕ). a)) ps (IsSorted-sorted heavier_first_total start) i j e (omega arith) in_j
-
-    differ : heavier_first (get_or ps i e) (get_or ps j e) ≡ Equal → ⊥
-    differ q = eqb-false (get_or (heaviest_first h) i d) (get_or (heaviest_first h) j d) (apart_from_distinct nat_eq (heaviest_first h) i j d (distinct_free h) l m)
-        (second i in_i ∙ ap (λ (a : ℕ × ℕ). a.1) (heavier_first_exact (get_or ps i e) (get_or ps j e) q) ∙ sym (second j in_j))
-
-    less : heavier_first (get_or ps i e) (get_or ps j e) ≡ Less
-    less = not_below (heavier_first (get_or ps i e) (get_or ps j e)) (ap is_lt (sym (heavier_first_total.antisymm (get_or ps j e) (get_or ps i e))) ∙ far) differ
+    heavier_goes_first (weight_of h (get_or (heaviest_first h) i d), get_or (heaviest_first h) i d) (weight_of h (get_or (heaviest_first h) j d), get_or (heaviest_first h) j d)
+    (by_key-pairs heavier_first_total heavier_first_exact (weight_of h) (filter (is_free h) (vertices h)) (apart_vertices h (is_free h)) i j d l m)
 
 -- ---- greedy placement
 

@@ -2,11 +2,11 @@
 use Rattle.std.specs.Prelude.{◌≡◌, ℕ, suc, List, [], ◌∷◌, map, refl, replicate, ℤ, pos, negsuc, Some, None, option_map}
 use Rattle.hg_defs.specs.declared.objective.Objective.TheVariants.{Connectivity}
 use Rattle.hg_defs.specs.declared.moves.Move.{Move}
-use Rattle.hg_defs.specs.Hypergraph.{Net, Hyper}
+use Rattle.hg_defs.specs.Hypergraph.{Hyper}
 use Rattle.hg_defs.specs.Cost.{cost}
 use Rattle.hg_defs.specs.Replay.{best_prefix}
 use Rattle.hg_defs.specs.Numbering.{numbered}
-use Rattle.hg_defs.specs.Pairing.{paired, paired_from, paired_inside}
+use Rattle.hg_defs.specs.Pairing.{paired, paired_inside}
 use Rattle.hg_defs.specs.Placement.{named_best}
 use Rattle.hg_defs.specs.Synchronous.{wishing, sync_moves, sync}
 use Rattle.hg_defs.specs.Levels.{lifted}

@@ -1,5 +1,5 @@
 -- What a synchronous round does: the laws over wishes, over the moves that grant them, and over the partition kept.
-use Rattle.std.specs.Prelude.{◌≡◌, ◌≢◌, ◌⊎◌, ◌↔◌, ℕ, ◌+◌, ◌<◌, ◌≤◌, List, [], length, slice_index_or, All, AllPairs, Contains, pos, ◌-ℤ◌, ◌<ℤ◌}
+use Rattle.std.specs.Prelude.{◌≡◌, ◌≢◌, ◌⊎◌, ◌↔◌, ℕ, ◌<◌, ◌≤◌, List, [], length, slice_index_or, All, AllPairs, Contains, pos, ◌-ℤ◌, ◌<ℤ◌}
 use Rattle.hg_defs.specs.declared.moves.Move.{Move}
 use Rattle.hg_defs.specs.Sums.{total_z}
 use Rattle.hg_defs.specs.Hypergraph.{Hyper, vertex_count}

@@ -1,0 +1,26 @@
+use Rattle.hg_defs.proofs.LevelLaws.{levels_one_more, levels_listed, level_is_contraction, levels_stay, level_is_added, lifted-projected, only_lifted, lifted_follows}
+use Rattle.hg_defs.proofs.laws.levels_of_clusterings.Goals as goal
+
+pub returns-clause-count : goal.returns-clause-count
+returns-clause-count c = levels_one_more
+
+pub returns-clause-listed : goal.returns-clause-listed
+returns-clause-listed c = levels_listed
+
+pub returns-clause-contracted : goal.returns-clause-contracted
+returns-clause-contracted c = level_is_contraction
+
+pub returns-clause-same : goal.returns-clause-same
+returns-clause-same c = levels_stay
+
+pub returns-clause-added : goal.returns-clause-added
+returns-clause-added c = level_is_added
+
+pub returns-clause-lifted : goal.returns-clause-lifted
+returns-clause-lifted c = lifted-projected
+
+pub returns-clause-only : goal.returns-clause-only
+returns-clause-only c = only_lifted
+
+pub returns-clause-carried : goal.returns-clause-carried
+returns-clause-carried c = lifted_follows
