@@ -6,7 +6,7 @@ use Rattle.std.proofs.lemmas.List.FromFn.{get_or-map-range_with_len, length-map-
 use Rattle.hg_defs.specs.Partition.{block_of}
 use Rattle.hg_defs.specs.Contraction.{contract, after}
 use Rattle.hg_defs.specs.Clustering.{cluster_count}
-use Rattle.hg_defs.specs.Levels.{block_in, lifted}
+use Rattle.hg_defs.specs.Levels.{cluster_block, lifted}
 use Rattle.hg_defs.specs.LevelLaws.{LevelsAreOneMore, LevelsAreListed, LevelIsContraction, LevelsStay, LevelIsAdded, LiftedIsProjected, OnlyLiftedIsProjected, LiftedFollows}
 use Rattle.hg_defs.proofs.ContractionLaws.{length-after, block_of-after}
 
@@ -38,29 +38,29 @@ level_is_added h (d ∷ maps) c = level_is_added (contract h d (cluster_count d)
 
 -- some vertex of a cluster has the block that is found
 found_in : (p clusters : List ℕ) (i v : ℕ) → v < length p → v < length clusters → get_or clusters v 0 ≡ i
-    → (u : ℕ) × (u < length p) × (u < length clusters) × (get_or clusters u 0 ≡ i) × (block_in p clusters i ≡ get_or p u 0)
+    → (u : ℕ) × (u < length p) × (u < length clusters) × (get_or clusters u 0 ≡ i) × (cluster_block p clusters i ≡ get_or p u 0)
 found_in [] clusters i v l m e = absurd (omega arith)
 found_in (b ∷ p) [] i v l m e = absurd (omega arith)
 found_in (b ∷ p) (c ∷ clusters) i v l m e = by (nat_eq c i) refl (found_in p clusters i)
   where
     by : (t : Bool) → nat_eq c i ≡ t
-        → ((w : ℕ) → w < length p → w < length clusters → get_or clusters w 0 ≡ i → (u : ℕ) × (u < length p) × (u < length clusters) × (get_or clusters u 0 ≡ i) × (block_in p clusters i ≡ get_or p u 0))
-        → (u : ℕ) × (u < suc (length p)) × (u < suc (length clusters)) × (get_or (c ∷ clusters) u 0 ≡ i) × ((if nat_eq c i then b else block_in p clusters i) ≡ get_or (b ∷ p) u 0)
-    by true f rest = (0, omega arith, omega arith, eqb-true c i f, ap (λ (t : Bool). if t then b else block_in p clusters i) f)
+        → ((w : ℕ) → w < length p → w < length clusters → get_or clusters w 0 ≡ i → (u : ℕ) × (u < length p) × (u < length clusters) × (get_or clusters u 0 ≡ i) × (cluster_block p clusters i ≡ get_or p u 0))
+        → (u : ℕ) × (u < suc (length p)) × (u < suc (length clusters)) × (get_or (c ∷ clusters) u 0 ≡ i) × ((if nat_eq c i then b else cluster_block p clusters i) ≡ get_or (b ∷ p) u 0)
+    by true f rest = (0, omega arith, omega arith, eqb-true c i f, ap (λ (t : Bool). if t then b else cluster_block p clusters i) f)
     by false f rest = later v l m e
       where
         later : (w : ℕ) → w < suc (length p) → w < suc (length clusters) → get_or (c ∷ clusters) w 0 ≡ i
-            → (u : ℕ) × (u < suc (length p)) × (u < suc (length clusters)) × (get_or (c ∷ clusters) u 0 ≡ i) × ((if nat_eq c i then b else block_in p clusters i) ≡ get_or (b ∷ p) u 0)
+            → (u : ℕ) × (u < suc (length p)) × (u < suc (length clusters)) × (get_or (c ∷ clusters) u 0 ≡ i) × ((if nat_eq c i then b else cluster_block p clusters i) ≡ get_or (b ∷ p) u 0)
         later zero x y g = absurd (eqb-false c i f g)
         later (suc w) x y g =
             let r = rest w (omega arith) (omega arith) g in
-            (suc r.0, (let s = r.1 in omega arith), (let s = r.2 in omega arith), r.3, ap (λ (t : Bool). if t then b else block_in p clusters i) f ∙ r.4)
+            (suc r.0, (let s = r.1 in omega arith), (let s = r.2 in omega arith), r.3, ap (λ (t : Bool). if t then b else cluster_block p clusters i) f ∙ r.4)
 
 pub length-lifted : (p clusters : List ℕ) (count : ℕ) → length (lifted p clusters count) ≡ count
-length-lifted p clusters count = length-map-range_with_len (block_in p clusters) 0 count
+length-lifted p clusters count = length-map-range_with_len (cluster_block p clusters) 0 count
 
-pub block_of-lifted : (p clusters : List ℕ) (count i : ℕ) → i < count → block_of (lifted p clusters count) i ≡ block_in p clusters i
-block_of-lifted p clusters count i low = get_or-map-range_with_len (block_in p clusters) 0 count i i 0 low (omega arith)
+pub block_of-lifted : (p clusters : List ℕ) (count i : ℕ) → i < count → block_of (lifted p clusters count) i ≡ cluster_block p clusters i
+block_of-lifted p clusters count i low = get_or-map-range_with_len (cluster_block p clusters) 0 count i i 0 low (omega arith)
 
 pub lifted-projected : LiftedIsProjected
 lifted-projected h clusters count p good long same =
@@ -73,8 +73,8 @@ lifted-projected h clusters count p good long same =
         ∙ block_of-lifted p clusters count (get_or clusters v 0) (good.full.below v 0 low)
         ∙ by (found_in p clusters (get_or clusters v 0) v (let n = good.full.vertices in omega arith) low refl)
       where
-        by : (u : ℕ) × (u < length p) × (u < length clusters) × (get_or clusters u 0 ≡ get_or clusters v 0) × (block_in p clusters (get_or clusters v 0) ≡ get_or p u 0)
-            → block_in p clusters (get_or clusters v 0) ≡ get_or p v 0
+        by : (u : ℕ) × (u < length p) × (u < length clusters) × (get_or clusters u 0 ≡ get_or clusters v 0) × (cluster_block p clusters (get_or clusters v 0) ≡ get_or p u 0)
+            → cluster_block p clusters (get_or clusters v 0) ≡ get_or p v 0
         by x = x.4 ∙ one (cases_eq x.0 v)
           where
             one : (x.0 ≡ v) ⊎ (x.0 ≢ v) → get_or p x.0 0 ≡ get_or p v 0
@@ -98,7 +98,7 @@ only_lifted h clusters count p q good long e =
             here : (k : ℕ) → k < length clusters → get_or clusters k i ≡ i → get_or clusters k 0 ≡ i
             here k l f = get_or_default clusters k 0 i l ∙ f
 
-        found : (u : ℕ) × (u < length p) × (u < length clusters) × (get_or clusters u 0 ≡ i) × (block_in p clusters i ≡ get_or p u 0) → get_or q i 0 ≡ get_or (lifted p clusters count) i 0
+        found : (u : ℕ) × (u < length p) × (u < length clusters) × (get_or clusters u 0 ≡ i) × (cluster_block p clusters i ≡ get_or p u 0) → get_or q i 0 ≡ get_or (lifted p clusters count) i 0
         found x =
             ap (λ j. get_or q j 0) (sym x.3)
             ∙ sym (block_of-after q clusters x.0 x.2)

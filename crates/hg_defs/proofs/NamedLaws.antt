@@ -8,7 +8,7 @@ use Rattle.hg_defs.specs.Partition.{IsPartition, Fits, Obeys, is_fitting}
 use Rattle.hg_defs.specs.Cost.{cost}
 use Rattle.hg_defs.specs.LeastLoaded.{least_loaded, greedy}
 use Rattle.hg_defs.specs.Placement.{drawn_order, named, is_as_cheap, first_cheapest}
-use Rattle.hg_defs.specs.NamedLaws.{partition_at, IsFirstCheapest, CheapestIsFirst, OnlyCheapestIsFirst, NoneIsCheapestWhereNoneFits, NamedArePartitions, NamedObey, OneFitsWhereGreedyDoes}
+use Rattle.hg_defs.specs.NamedLaws.{partition_at, IsCheapestAt, CheapestIsFirst, OnlyCheapestIsFirst, NoneIsCheapestWhereNoneFits, NamedArePartitions, NamedObey, OneFitsWhereGreedyDoes}
 use Rattle.hg_defs.proofs.PlacementLaws.{least_loaded-partition, least_loaded-obeys, greedy-partition, greedy-obeys, greedy-fits}
 use Rattle.hg_defs.proofs.ReplayLaws.{fitting_is_tested}
 
@@ -30,10 +30,10 @@ module _ (h : Hyper) (k l : ℕ) where
   -- what is found of a list: nothing where none fits, or the first of the cheapest that fit
   abbrev Found : List (List ℕ) → Option (List ℕ) → Type 0
   Found ps None = All (λ p. Fits h k l p → ⊥) ps
-  Found ps (Some p) = (i : ℕ) × IsFirstCheapest h k l ps i × (p ≡ partition_at ps i)
+  Found ps (Some p) = (i : ℕ) × IsCheapestAt h k l ps i × (p ≡ partition_at ps i)
 
   -- one more in front of the list, where it is the best
-  front : (p : List ℕ) (ps : List (List ℕ)) → Fits h k l p → ((j : ℕ) → j < length ps → Fits h k l (partition_at ps j) → cost h p ≤ cost h (partition_at ps j)) → IsFirstCheapest h k l (p ∷ ps) 0
+  front : (p : List ℕ) (ps : List (List ℕ)) → Fits h k l p → ((j : ℕ) → j < length ps → Fits h k l (partition_at ps j) → cost h p ≤ cost h (partition_at ps j)) → IsCheapestAt h k l (p ∷ ps) 0
   front p ps f low = record { within = omega arith; fits = f; cheapest = each; first = λ j m g. absurd (omega arith) }
     where
       each : (j : ℕ) → j < suc (length ps) → Fits h k l (partition_at (p ∷ ps) j) → cost h p ≤ cost h (partition_at (p ∷ ps) j)
@@ -41,7 +41,7 @@ module _ (h : Hyper) (k l : ℕ) where
       each (suc j) m g = low j (omega arith) g
 
   -- one more in front, where it isn't
-  behind : (p : List ℕ) (ps : List (List ℕ)) (i : ℕ) → IsFirstCheapest h k l ps i → (Fits h k l p → cost h (partition_at ps i) < cost h p) → IsFirstCheapest h k l (p ∷ ps) (suc i)
+  behind : (p : List ℕ) (ps : List (List ℕ)) (i : ℕ) → IsCheapestAt h k l ps i → (Fits h k l p → cost h (partition_at ps i) < cost h p) → IsCheapestAt h k l (p ∷ ps) (suc i)
   behind p ps i s dear = record { within = (let w = s.within in omega arith); fits = s.fits; cheapest = each; first = before }
     where
       each : (j : ℕ) → j < suc (length ps) → Fits h k l (partition_at (p ∷ ps) j) → cost h (partition_at ps i) ≤ cost h (partition_at (p ∷ ps) j)
@@ -83,7 +83,7 @@ only_cheapest_is_first h k l ps i s = by (first_cheapest h k l ps) refl
     by None e = absurd (none_is_cheapest h k l ps e i [] s.within s.fits)
     by (Some p) e = one (cheapest_is_first h k l ps p e)
       where
-        one : (j : ℕ) × IsFirstCheapest h k l ps j × (p ≡ partition_at ps j) → Some p ≡ Some (partition_at ps i)
+        one : (j : ℕ) × IsCheapestAt h k l ps j × (p ≡ partition_at ps j) → Some p ≡ Some (partition_at ps i)
         one x = ap Some (x.2 ∙ ap (partition_at ps) (order (cases_lt x.0 i) (cases_lt i x.0)))
           where
             order : (x.0 < i) ⊎ (i ≤ x.0) → (i < x.0) ⊎ (x.0 ≤ i) → x.0 ≡ i

@@ -13,7 +13,7 @@ use Rattle.std.proofs.lemmas.Map.Keys.{sorted_from_strictly_increasing}
 use Rattle.hg_defs.specs.Sorting.{set_of}
 use Rattle.hg_defs.specs.Partition.{weight_in}
 use Rattle.hg_defs.specs.Clustering.{cluster_count}
-use Rattle.hg_defs.specs.Numbering.{number_of, numbered}
+use Rattle.hg_defs.specs.Numbering.{root_number, numbered}
 use Rattle.hg_defs.specs.PairingLaws.{NumbersTellRoots, NumbersRise, NumbersAreAsMany, NumberCountsRoots, NumbersAreClustering, NumberingKeepsTogether, NumberingKeepsSingles}
 use Rattle.hg_defs.proofs.SortLaws.{strict-set_of, strict_pairs, same_strict, nat_cmp_exact, Contains-set_of, Contains-from_set_of, Contains_head, Contains_later, Contains-cons_cases, Contains-nil}
 use Rattle.hg_defs.proofs.PlacementLaws.{Contains_filter}
@@ -71,8 +71,8 @@ module _ (roots : List ℕ) where
 
   -- the number of a root is its place in the set of roots
   record Placed (r : ℕ) : Type 0 where
-    below : number_of roots r < length set
-    is : get_or set (number_of roots r) 0 ≡ r
+    below : root_number roots r < length set
+    is : get_or set (root_number roots r) 0 ≡ r
 
   place_of : (r : ℕ) → Contains roots r → Placed r
   place_of r c = by (Contains-set_of nat_cmp_total nat_cmp_exact roots r c)
@@ -80,25 +80,25 @@ module _ (roots : List ℕ) where
       by : Contains set r → Placed r
       by d =
           let at : get_or set d.0 0 ≡ r = get_or_default set d.0 0 r d.1 ∙ d.2 in
-          let same : number_of roots r ≡ d.0 = subst (λ q. length (filter (λ x. nat_lt x q) set) ≡ d.0) at (rank_at set strict d.0 d.1) in
+          let same : root_number roots r ≡ d.0 = subst (λ q. length (filter (λ x. nat_lt x q) set) ≡ d.0) at (rank_at set strict d.0 d.1) in
           record { below = (let m = d.1 in omega arith); is = ap (λ i. get_or set i 0) same ∙ at }
 
   -- the root of a vertex
   placed_root : (v : ℕ) → v < length roots → Placed (get_or roots v 0)
   placed_root v low = place_of (get_or roots v 0) (v, low, get_or_default roots v (get_or roots v 0) 0 low)
 
-  pub numbered_at : (v : ℕ) → v < length roots → get_or (numbered roots) v 0 ≡ number_of roots (get_or roots v 0)
-  numbered_at v low = get_or-map (number_of roots) roots v 0 0 low
+  pub numbered_at : (v : ℕ) → v < length roots → get_or (numbered roots) v 0 ≡ root_number roots (get_or roots v 0)
+  numbered_at v low = get_or-map (root_number roots) roots v 0 0 low
 
   tells : (u v : ℕ) → u < length roots → v < length roots → get_or (numbered roots) u 0 ≡ get_or (numbered roots) v 0 → get_or roots u 0 ≡ get_or roots v 0
   tells u v low low' e =
       sym (placed_root u low).is ∙ ap (λ i. get_or set i 0) (sym (numbered_at u low) ∙ e ∙ numbered_at v low') ∙ (placed_root v low').is
 
   alike : (u v : ℕ) → u < length roots → v < length roots → get_or roots u 0 ≡ get_or roots v 0 → get_or (numbered roots) u 0 ≡ get_or (numbered roots) v 0
-  alike u v low low' e = numbered_at u low ∙ ap (number_of roots) e ∙ sym (numbered_at v low')
+  alike u v low low' e = numbered_at u low ∙ ap (root_number roots) e ∙ sym (numbered_at v low')
 
   rises : (u v : ℕ) → u < length roots → v < length roots → get_or roots u 0 < get_or roots v 0 → get_or (numbered roots) u 0 < get_or (numbered roots) v 0
-  rises u v low low' less = subst₂ (λ i j. i < j) (sym (numbered_at u low)) (sym (numbered_at v low')) (by (cases_lt (number_of roots (get_or roots u 0)) (number_of roots (get_or roots v 0))))
+  rises u v low low' less = subst₂ (λ i j. i < j) (sym (numbered_at u low)) (sym (numbered_at v low')) (by (cases_lt (root_number roots (get_or roots u 0)) (root_number roots (get_or roots v 0))))
     where
       a : Placed (get_or roots u 0)
       a = placed_root u low
@@ -106,14 +106,14 @@ module _ (roots : List ℕ) where
       b : Placed (get_or roots v 0)
       b = placed_root v low'
 
-      by : (number_of roots (get_or roots u 0) < number_of roots (get_or roots v 0)) ⊎ (number_of roots (get_or roots v 0) ≤ number_of roots (get_or roots u 0)) → number_of roots (get_or roots u 0) < number_of roots (get_or roots v 0)
+      by : (root_number roots (get_or roots u 0) < root_number roots (get_or roots v 0)) ⊎ (root_number roots (get_or roots v 0) ≤ root_number roots (get_or roots u 0)) → root_number roots (get_or roots u 0) < root_number roots (get_or roots v 0)
       by (inl m) = m
-      by (inr m) = two (cases_eq (number_of roots (get_or roots u 0)) (number_of roots (get_or roots v 0)))
+      by (inr m) = two (cases_eq (root_number roots (get_or roots u 0)) (root_number roots (get_or roots v 0)))
         where
-          two : (number_of roots (get_or roots u 0) ≡ number_of roots (get_or roots v 0)) ⊎ (number_of roots (get_or roots u 0) ≢ number_of roots (get_or roots v 0)) → number_of roots (get_or roots u 0) < number_of roots (get_or roots v 0)
+          two : (root_number roots (get_or roots u 0) ≡ root_number roots (get_or roots v 0)) ⊎ (root_number roots (get_or roots u 0) ≢ root_number roots (get_or roots v 0)) → root_number roots (get_or roots u 0) < root_number roots (get_or roots v 0)
           two (inl e) = let same : get_or roots u 0 ≡ get_or roots v 0 = sym a.is ∙ ap (λ i. get_or set i 0) e ∙ b.is in absurd (omega arith)
           two (inr n) =
-              let far = less_than (get_or set (number_of roots (get_or roots v 0)) 0) (get_or set (number_of roots (get_or roots u 0)) 0) (strict_pairs nat_cmp_total set strict (number_of roots (get_or roots v 0)) (number_of roots (get_or roots u 0)) 0 (omega arith) a.below) in
+              let far = less_than (get_or set (root_number roots (get_or roots v 0)) 0) (get_or set (root_number roots (get_or roots u 0)) 0) (strict_pairs nat_cmp_total set strict (root_number roots (get_or roots v 0)) (root_number roots (get_or roots u 0)) 0 (omega arith) a.below) in
               let x = a.is in
               let y = b.is in
               absurd (omega arith)
@@ -125,16 +125,16 @@ module _ (roots : List ℕ) where
       by : Contains roots (get_or set i 0) → Contains (numbered roots) i
       by c = (
         c.0,
-        (let n = length-map roots (number_of roots) in let m = c.1 in omega arith),
-        get_or-map (number_of roots) roots c.0 0 i c.1
-            ∙ ap (number_of roots) (get_or_default roots c.0 0 (get_or set i 0) c.1 ∙ c.2)
+        (let n = length-map roots (root_number roots) in let m = c.1 in omega arith),
+        get_or-map (root_number roots) roots c.0 0 i c.1
+            ∙ ap (root_number roots) (get_or_default roots c.0 0 (get_or set i 0) c.1 ∙ c.2)
             ∙ rank_at set strict i low,
       )
 
   below : All (λ c. c < length set) (numbered roots)
   below i d low =
-      let m : i < length roots = omega (arith, length-map roots (number_of roots), low) in
-      subst (λ c. c < length set) (sym (get_or-map (number_of roots) roots i 0 d m)) (placed_root i m).below
+      let m : i < length roots = omega (arith, length-map roots (root_number roots), low) in
+      subst (λ c. c < length set) (sym (get_or-map (root_number roots) roots i 0 d m)) (placed_root i m).below
 
 -- ---- the count of clusters
 
@@ -195,17 +195,17 @@ weight_in-map f (w ∷ ws) (x ∷ p) b one =
 
 -- a cluster weighs the same by its number
 numbered_weight : (ws roots : List ℕ) (v : ℕ) → v < length roots → weight_in ws (numbered roots) (get_or (numbered roots) v 0) ≡ weight_in ws roots (get_or roots v 0)
-numbered_weight ws roots v low = ap (weight_in ws (numbered roots)) (numbered_at roots v low) ∙ weight_in-map (number_of roots) ws roots (get_or roots v 0) each
+numbered_weight ws roots v low = ap (weight_in ws (numbered roots)) (numbered_at roots v low) ∙ weight_in-map (root_number roots) ws roots (get_or roots v 0) each
   where
-    each : All (λ x. number_of roots x ≡ number_of roots (get_or roots v 0) → x ≡ get_or roots v 0) roots
+    each : All (λ x. root_number roots x ≡ root_number roots (get_or roots v 0) → x ≡ get_or roots v 0) roots
     each i d m e =
         get_or_default roots i d 0 m
-        ∙ tells roots i v m low (numbered_at roots i m ∙ ap (number_of roots) (get_or_default roots i 0 d m) ∙ e ∙ sym (numbered_at roots v low))
+        ∙ tells roots i v m low (numbered_at roots i m ∙ ap (root_number roots) (get_or_default roots i 0 d m) ∙ e ∙ sym (numbered_at roots v low))
 
 pub numbers_are_clustering : NumbersAreClustering
 numbers_are_clustering h cap roots r = record {
   full = record {
-    vertices = length-map roots (number_of roots) ∙ r.vertices;
+    vertices = length-map roots (root_number roots) ∙ r.vertices;
     below = below_count (numbered roots);
     used = λ i low. used roots i (let n = numbers_are_as_many roots in omega arith);
   };

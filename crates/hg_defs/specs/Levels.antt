@@ -20,14 +20,14 @@ abbrev pub coarsest : Hyper → List (List ℕ) → Hyper
 coarsest h maps = level h maps (length maps)
 
 -- the block of the first vertex of a cluster
-abbrev pub block_in : List ℕ → List ℕ → ℕ → ℕ
-block_in [] clusters i = 0
-block_in (b ∷ p) [] i = 0
-block_in (b ∷ p) (c ∷ clusters) i = let later = block_in p clusters i in if nat_eq c i then b else later
+abbrev pub cluster_block : List ℕ → List ℕ → ℕ → ℕ
+cluster_block [] clusters i = 0
+cluster_block (b ∷ p) [] i = 0
+cluster_block (b ∷ p) (c ∷ clusters) i = let later = cluster_block p clusters i in if nat_eq c i then b else later
 
 -- the partition of the clusters that gives each one the block of its first vertex
 abbrev pub lifted : List ℕ → List ℕ → ℕ → List ℕ
-lifted p clusters count = map (block_in p clusters) (range_with_len 0 count)
+lifted p clusters count = map (cluster_block p clusters) (range_with_len 0 count)
 
 -- a partition of the first level, carried up to the level of a number
 abbrev pub lifted_to : List ℕ → List (List ℕ) → ℕ → List ℕ

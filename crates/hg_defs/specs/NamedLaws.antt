@@ -11,7 +11,7 @@ abbrev pub partition_at : List (List ℕ) → ℕ → List ℕ
 partition_at ps i = slice_index_or ps i []
 
 -- the partition at place i fits, none that fits is cheaper, and each before it that fits is dearer
-pub record IsFirstCheapest (h : Hyper) (k l : ℕ) (ps : List (List ℕ)) (i : ℕ) : Type 0 where
+pub record IsCheapestAt (h : Hyper) (k l : ℕ) (ps : List (List ℕ)) (i : ℕ) : Type 0 where
   pub within : i < length ps
   pub fits : Fits h k l (partition_at ps i)
   pub cheapest : (j : ℕ) → j < length ps → Fits h k l (partition_at ps j) → cost h (partition_at ps i) ≤ cost h (partition_at ps j)
@@ -23,11 +23,11 @@ pub record IsFirstCheapest (h : Hyper) (k l : ℕ) (ps : List (List ℕ)) (i : �
 abbrev pub CheapestIsFirst : Type 0
 CheapestIsFirst =
     (h : Hyper) (k l : ℕ) (ps : List (List ℕ)) (p : List ℕ) → first_cheapest h k l ps ≡ Some p
-    → (i : ℕ) × IsFirstCheapest h k l ps i × (p ≡ partition_at ps i)
+    → (i : ℕ) × IsCheapestAt h k l ps i × (p ≡ partition_at ps i)
 
 abbrev pub OnlyCheapestIsFirst : Type 0
 OnlyCheapestIsFirst =
-    (h : Hyper) (k l : ℕ) (ps : List (List ℕ)) (i : ℕ) → IsFirstCheapest h k l ps i → first_cheapest h k l ps ≡ Some (partition_at ps i)
+    (h : Hyper) (k l : ℕ) (ps : List (List ℕ)) (i : ℕ) → IsCheapestAt h k l ps i → first_cheapest h k l ps ≡ Some (partition_at ps i)
 
 abbrev pub NoneIsCheapestWhereNoneFits : Type 0
 NoneIsCheapestWhereNoneFits =

@@ -14,9 +14,9 @@ pub record IsRooted (h : Hyper) (cap : ℕ) (roots : List ℕ) : Type 0 where
   pub free : (u v : ℕ) → AreTogether h roots u v → IsFree h u
 
 -- the number of a root: how many other roots are lower
-abbrev pub number_of : List ℕ → ℕ → ℕ
-number_of roots r = length (filter (λ q. nat_lt q r) (set_of nat_cmp roots))
+abbrev pub root_number : List ℕ → ℕ → ℕ
+root_number roots r = length (filter (λ q. nat_lt q r) (set_of nat_cmp roots))
 
 -- the clustering that numbers the clusters by rising root
 abbrev pub numbered : List ℕ → List ℕ
-numbered roots = map (number_of roots) roots
+numbered roots = map (root_number roots) roots

@@ -6,7 +6,7 @@ use Rattle.hg_defs.specs.Sorting.{set_of}
 use Rattle.hg_defs.specs.Hypergraph.{Hyper, IsHypergraph, vertex_count, vertices}
 use Rattle.hg_defs.specs.Partition.{IsPartition}
 use Rattle.hg_defs.specs.Clustering.{cluster_count, AreTogether, IsClustering, IsSingleton, IsMaximal, IsMaximalInside, IsWithinBlocks, IsInside}
-use Rattle.hg_defs.specs.Numbering.{IsRooted, number_of, numbered}
+use Rattle.hg_defs.specs.Numbering.{IsRooted, root_number, numbered}
 use Rattle.hg_defs.specs.Pairing.{paired_from, paired_inside, paired, split_by}
 
 -- vertices that are together stay together, and two that are joined were single vertices
@@ -35,7 +35,7 @@ NumbersAreAsMany = (roots : List ℕ) → cluster_count (numbered roots) ≡ len
 abbrev pub NumberCountsRoots : Type 0
 NumberCountsRoots =
     (h : Hyper) (cap : ℕ) (roots : List ℕ) (r : ℕ) → IsRooted h cap roots → r ≤ vertex_count h
-    → number_of roots r ≡ length (filter (λ v. nat_eq (slice_index roots v) v) (range_with_len 0 r))
+    → root_number roots r ≡ length (filter (λ v. nat_eq (slice_index roots v) v) (range_with_len 0 r))
 
 -- the numbers are a clustering with the same single vertices
 abbrev pub NumbersAreClustering : Type 0
