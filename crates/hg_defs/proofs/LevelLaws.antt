@@ -1,14 +1,16 @@
 -- The laws of levels, and of partitions carried up to them.
-use Rattle.std.proofs.Common.{◌≡◌, ◌≢◌, ◌⊎◌, inl, inr, ℕ, zero, suc, ◌<◌, Bool, true, false, nat_eq, if◌then◌else◌, List, [], ◌∷◌, length, get_or, Contains, refl, sym, ap, ◌∙◌, arith, ext_get_or}
+use Rattle.std.proofs.Common.{◌≡◌, ◌≢◌, ◌⊎◌, inl, inr, ℕ, zero, suc, ◌<◌, ◌≤◌, Bool, true, false, nat_eq, if◌then◌else◌, List, [], ◌∷◌, length, get_or, Contains, refl, sym, ap, ◌∙◌, arith, ext_get_or}
 use Rattle.std.proofs.lemmas.Bool.{cases_eq, eqb-true, eqb-false}
 use Rattle.std.proofs.lemmas.List.{get_or_default}
 use Rattle.std.proofs.lemmas.List.FromFn.{get_or-map-range_with_len, length-map-range_with_len}
-use Rattle.hg_defs.specs.Partition.{block_of}
+use Rattle.hg_defs.specs.Hypergraph.{Hyper, vertex_count}
+use Rattle.hg_defs.specs.Cost.{cost}
+use Rattle.hg_defs.specs.Partition.{block_of, weight_in}
 use Rattle.hg_defs.specs.Contraction.{contract, after}
 use Rattle.hg_defs.specs.Clustering.{cluster_count}
-use Rattle.hg_defs.specs.Levels.{cluster_block, lifted}
-use Rattle.hg_defs.specs.LevelLaws.{LevelsAreOneMore, LevelsAreListed, LevelIsContraction, LevelsStay, LevelIsAdded, LiftedIsProjected, OnlyLiftedIsProjected, LiftedFollows}
-use Rattle.hg_defs.proofs.ContractionLaws.{length-after, block_of-after}
+use Rattle.hg_defs.specs.Levels.{levels, level, map_of, cluster_block, lifted, lifted_to, projected_from}
+use Rattle.hg_defs.specs.LevelLaws.{LevelsAreOneMore, LevelsAreListed, LevelIsContraction, LevelsStay, LevelIsAdded, LiftedIsProjected, OnlyLiftedIsProjected, LiftedFollows, ProjectionKeepsCost, LiftedIsProjectedBack}
+use Rattle.hg_defs.proofs.ContractionLaws.{length-after, block_of-after, cost_kept}
 
 pub levels_one_more : LevelsAreOneMore
 levels_one_more h [] = refl
@@ -110,3 +112,32 @@ pub lifted_follows : LiftedFollows
 lifted_follows p [] i low = absurd (omega arith)
 lifted_follows p (c ∷ maps) zero low = refl
 lifted_follows p (c ∷ maps) (suc i) low = lifted_follows (lifted p c (cluster_count c)) maps i (omega arith)
+
+-- ---- through several levels
+
+-- as many vertices as clusters
+vertices_of_contraction : (h : Hyper) (clusters : List ℕ) (count : ℕ) → vertex_count (contract h clusters count) ≡ count
+vertices_of_contraction h clusters count = length-map-range_with_len (weight_in h.weights clusters) 0 count
+
+pub length-lifted_to : (h : Hyper) (maps : List (List ℕ)) (i : ℕ) (p : List ℕ) → i ≤ length maps → length p ≡ vertex_count h → length (lifted_to p maps i) ≡ vertex_count (level h maps i)
+length-lifted_to h maps zero p low long = long
+length-lifted_to h [] (suc i) p low long = absurd (omega arith)
+length-lifted_to h (c ∷ maps) (suc i) p low long =
+    length-lifted_to (contract h c (cluster_count c)) maps i (lifted p c (cluster_count c)) (omega arith)
+    (length-lifted p c (cluster_count c) ∙ sym (vertices_of_contraction h c (cluster_count c)))
+
+pub projection_keeps_cost : ProjectionKeepsCost
+projection_keeps_cost h maps zero p low good = refl
+projection_keeps_cost h maps (suc i) p low good =
+    projection_keeps_cost h maps i (after p (map_of maps i)) (omega arith) (λ j l. good j (omega arith))
+    ∙ cost_kept (level h maps i) (map_of maps i) (cluster_count (map_of maps i)) p (good i (omega arith))
+    ∙ ap (λ (g : Hyper). cost g p) (sym (level_is_contraction h maps i low))
+
+pub lifted_projected_back : LiftedIsProjectedBack
+lifted_projected_back h maps zero p low long good within = refl
+lifted_projected_back h maps (suc i) p low long good within =
+    ap (λ q. projected_from q maps i)
+    (ap (λ q. after q (map_of maps i)) (lifted_follows p maps i low)
+    ∙ lifted-projected (level h maps i) (map_of maps i) (cluster_count (map_of maps i)) (lifted_to p maps i) (good i (omega arith))
+    (length-lifted_to h maps i p (omega arith) long) (within i (omega arith)))
+    ∙ lifted_projected_back h maps i p (omega arith) long (λ j l. good j (omega arith)) (λ j l. within j (omega arith))

@@ -1,14 +1,16 @@
 -- How levels follow one another, and what a partition carried up to them is.
 use Rattle.std.specs.Prelude.{◌≡◌, ℕ, suc, ◌<◌, ◌≤◌, List, [], ◌∷◌, ◌++◌, length, slice_index_or}
 use Rattle.hg_defs.specs.Hypergraph.{Hyper, vertex_count}
+use Rattle.hg_defs.specs.Cost.{cost}
 use Rattle.hg_defs.specs.Contraction.{contract, after}
 use Rattle.hg_defs.specs.ContractionLaws.{IsContractible}
 use Rattle.hg_defs.specs.Clustering.{cluster_count, IsWithinBlocks}
-use Rattle.hg_defs.specs.Levels.{levels, level, coarsest, lifted, lifted_to}
+use Rattle.hg_defs.specs.Levels.{levels, level, coarsest, map_of, lifted, lifted_to, projected_from}
 
--- the clustering of the level of a number
-abbrev pub map_of : List (List ℕ) → ℕ → List ℕ
-map_of maps i = slice_index_or maps i []
+-- each of the first clusterings can be contracted
+abbrev pub AreContractible : Hyper → List (List ℕ) → ℕ → Type 0
+AreContractible h maps n =
+    (i : ℕ) → i < n → IsContractible (level h maps i) (map_of maps i) (cluster_count (map_of maps i))
 
 -- ---- the laws
 
@@ -49,3 +51,15 @@ abbrev pub LiftedFollows : Type 0
 LiftedFollows =
     (p : List ℕ) (maps : List (List ℕ)) (i : ℕ) → i < length maps
     → lifted_to p maps (suc i) ≡ lifted (lifted_to p maps i) (map_of maps i) (cluster_count (map_of maps i))
+
+-- a partition of a level costs there what its projection costs on the first level
+abbrev pub ProjectionKeepsCost : Type 0
+ProjectionKeepsCost =
+    (h : Hyper) (maps : List (List ℕ)) (i : ℕ) (p : List ℕ) → i ≤ length maps → AreContractible h maps i
+    → cost h (projected_from p maps i) ≡ cost (level h maps i) p
+
+-- the projection of a partition that was carried up is the partition itself, where each cluster lies in one block
+abbrev pub LiftedIsProjectedBack : Type 0
+LiftedIsProjectedBack =
+    (h : Hyper) (maps : List (List ℕ)) (i : ℕ) (p : List ℕ) → i ≤ length maps → length p ≡ vertex_count h → AreContractible h maps i
+    → ((j : ℕ) → j < i → IsWithinBlocks (level h maps j) (lifted_to p maps j) (map_of maps j)) → projected_from (lifted_to p maps i) maps i ≡ p

@@ -1,9 +1,13 @@
 -- Levels: the hypergraphs that a list of clusterings leads to, and a partition of the first carried up to them.
-use Rattle.std.specs.Prelude.{ℕ, zero, suc, List, [], ◌∷◌, length, map, nat_eq, if◌then◌else◌}
+use Rattle.std.specs.Prelude.{ℕ, zero, suc, List, [], ◌∷◌, length, map, slice_index_or, nat_eq, if◌then◌else◌}
 use Rattle.std.specs.List.{range_with_len}
 use Rattle.hg_defs.specs.Hypergraph.{Hyper}
-use Rattle.hg_defs.specs.Contraction.{contract}
+use Rattle.hg_defs.specs.Contraction.{contract, after}
 use Rattle.hg_defs.specs.Clustering.{cluster_count}
+
+-- the clustering of the level of a number
+abbrev pub map_of : List (List ℕ) → ℕ → List ℕ
+map_of maps i = slice_index_or maps i []
 
 -- the hypergraphs that a list of clusterings leads to, the first one included
 abbrev pub levels : Hyper → List (List ℕ) → List Hyper
@@ -34,3 +38,8 @@ abbrev pub lifted_to : List ℕ → List (List ℕ) → ℕ → List ℕ
 lifted_to p maps zero = p
 lifted_to p [] (suc i) = p
 lifted_to p (clusters ∷ maps) (suc i) = lifted_to (lifted p clusters (cluster_count clusters)) maps i
+
+-- a partition of the level of a number, projected down to the first level
+abbrev pub projected_from : List ℕ → List (List ℕ) → ℕ → List ℕ
+projected_from p maps zero = p
+projected_from p maps (suc i) = projected_from (after p (map_of maps i)) maps i

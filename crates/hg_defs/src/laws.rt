@@ -9,7 +9,7 @@ ghost use Rattle.hg_defs.specs.NetLaws.{ImageHasClusters, ImageRises, ImagesAreN
 ghost use Rattle.hg_defs.specs.NamedLaws.{CheapestIsFirst, NamedArePartitions, NamedObey, NoneIsCheapestWhereNoneFits, OneFitsWhereGreedyDoes, OnlyCheapestIsFirst};
 ghost use Rattle.hg_defs.specs.PairingLaws.{AloneIsRooted, NumberCountsRoots, NumberingKeepsSingles, NumberingKeepsTogether, NumbersAreAsMany, NumbersAreClustering, NumbersRise, NumbersTellRoots, PairedInsideIsInside, PairedIsClustering, PairedIsMaximal, PairingInsideIsMaximal, PairingInsideIsRooted, PairingInsideJoinsSingles, PairingInsideKeepsBlocks, PairingIsMaximal, PairingIsRooted, PairingJoinsSingles, SplitIsRooted, SplitKeepsBlocks};
 ghost use Rattle.hg_defs.specs.SynchronousLaws.{SettledSyncIsSame, SettledSyncMovesNothing, SyncLeavesFixes, SyncLeavesPartition, SyncMovesAreAllowed, SyncMovesAreBooked, SyncMovesAreOfDistinct, SyncMovesAreWishes, SyncMovesComeFrom, SyncMovesSaveWhatTheyBook, SyncRaisesNoCost, SyncStaysWithinLimit, UnsettledSyncLowersCost, UnsettledSyncMoves, WishesAreBestMoves, WishesComeBySaving};
-ghost use Rattle.hg_defs.specs.LevelLaws.{LevelIsAdded, LevelIsContraction, LevelsAreListed, LevelsAreOneMore, LevelsStay, LiftedFollows, LiftedIsProjected, OnlyLiftedIsProjected};
+ghost use Rattle.hg_defs.specs.LevelLaws.{LevelIsAdded, LevelIsContraction, LevelsAreListed, LevelsAreOneMore, LevelsStay, LiftedFollows, LiftedIsProjected, LiftedIsProjectedBack, OnlyLiftedIsProjected, ProjectionKeepsCost};
 
 /// Least loaded placement gives each vertex a block and obeys the fixes. It places the vertices in
 /// turn, each free one into the block of least load so far, and nothing else does.
@@ -220,7 +220,8 @@ pub fn partition_after_synchronous_round()
 {}
 
 /// Each level is the contraction of the one below it. A partition that is the same on each cluster is
-/// lifted to the one partition of the clusters that it is the projection of.
+/// lifted to the one partition of the clusters that it is the projection of. Through several levels a
+/// projection costs what the partition costs on its level.
 pub fn levels_of_clusterings()
     ensures count { LevelsAreOneMore }
     ensures listed { LevelsAreListed }
@@ -230,4 +231,6 @@ pub fn levels_of_clusterings()
     ensures lifted { LiftedIsProjected }
     ensures only { OnlyLiftedIsProjected }
     ensures carried { LiftedFollows }
+    ensures costs { ProjectionKeepsCost }
+    ensures back { LiftedIsProjectedBack }
 {}

@@ -48,11 +48,15 @@ pub record HasNoPair (r : LoggedRound) : Type 0 where
   pub value : r.value ≡ 0
   pub region : r.region ≡ []
 
--- a raced round: each vertex moves once at most, the workers' gains sum to the cost before less the cost after all moves, and the best prefix is kept
+-- the moves that workers made of a partition in a race: each vertex moves once at most, and each worker's gain is what it booked
+pub record AreRacedMoves (h : Hyper) (k : ℕ) (opening : List ℕ) (moves : List Move) (gains : List ℤ) : Type 0 where
+  pub once : AllPairs (λ a b. a.vertex ≢ b.vertex) moves
+  pub each : All (IsMove h k (length gains) opening) moves
+  pub booked : (i : ℕ) → i < length gains → slice_index_or gains i (pos 0) ≡ booked_by moves i
+
+-- a raced round: the gains sum to the cost before less the cost after all moves, and the best prefix of the moves is kept
 pub record IsRaced (h : Hyper) (k l : ℕ) (p : List ℕ) (r : LoggedRound) : Type 0 where
-  pub once : AllPairs (λ a b. a.vertex ≢ b.vertex) r.moves
-  pub moves : All (IsMove h k (length r.gains) p) r.moves
-  pub gains : (i : ℕ) → i < length r.gains → slice_index_or r.gains i (pos 0) ≡ booked_by r.moves i
+  pub moves : AreRacedMoves h k p r.moves r.gains
   pub sum : total_z (λ g. g) r.gains ≡ pos r.before -ℤ pos r.made
   pub before : r.before ≡ cost h p
   pub made : r.made ≡ cost h (replay p r.moves)

@@ -13,4 +13,4 @@ mod tests;
 pub use hg_base::{Blocks, Gains, MapList, MapStack, Verts};
 pub use hg_defs::{Move, NoMemory};
 pub use order::order_of;
-pub use record::{Chosen, Kind, LoggedRound, Moves, RoundList, Stop, Trace, TraceList};
+pub use record::{Chosen, Job, Kind, LoggedRound, Moves, RoundList, Stop, Trace, TraceList};

@@ -10,6 +10,19 @@ pub type RoundList = Items<LoggedRound>;
 /// The traces of several descents.
 pub type TraceList = Items<Trace>;
 
+/// The numbers of a run.
+#[derive(Clone, Copy, Debug, PartialEq, Eq)]
+pub struct Job {
+    /// How many blocks there are.
+    pub k: u32,
+    /// The imbalance, in thousandths.
+    pub eps: u32,
+    /// The seed of what is drawn.
+    pub seed: u64,
+    /// How many workers there are.
+    pub workers: u32,
+}
+
 /// What made a round.
 #[derive(Clone, Copy, Debug, PartialEq, Eq)]
 pub enum Kind {

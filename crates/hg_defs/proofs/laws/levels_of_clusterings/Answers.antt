@@ -1,4 +1,4 @@
-use Rattle.hg_defs.proofs.LevelLaws.{levels_one_more, levels_listed, level_is_contraction, levels_stay, level_is_added, lifted-projected, only_lifted, lifted_follows}
+use Rattle.hg_defs.proofs.LevelLaws.{levels_one_more, levels_listed, level_is_contraction, levels_stay, level_is_added, lifted-projected, only_lifted, lifted_follows, projection_keeps_cost, lifted_projected_back}
 use Rattle.hg_defs.proofs.laws.levels_of_clusterings.Goals as goal
 
 pub returns-clause-count : goal.returns-clause-count
@@ -24,3 +24,9 @@ returns-clause-only c = only_lifted
 
 pub returns-clause-carried : goal.returns-clause-carried
 returns-clause-carried c = lifted_follows
+
+pub returns-clause-costs : goal.returns-clause-costs
+returns-clause-costs c = projection_keeps_cost
+
+pub returns-clause-back : goal.returns-clause-back
+returns-clause-back c = lifted_projected_back
