@@ -116,7 +116,7 @@ lifted_follows p (c ∷ maps) (suc i) low = lifted_follows (lifted p c (cluster_
 -- ---- through several levels
 
 -- as many vertices as clusters
-vertices_of_contraction : (h : Hyper) (clusters : List ℕ) (count : ℕ) → vertex_count (contract h clusters count) ≡ count
+pub vertices_of_contraction : (h : Hyper) (clusters : List ℕ) (count : ℕ) → vertex_count (contract h clusters count) ≡ count
 vertices_of_contraction h clusters count = length-map-range_with_len (weight_in h.weights clusters) 0 count
 
 pub length-lifted_to : (h : Hyper) (maps : List (List ℕ)) (i : ℕ) (p : List ℕ) → i ≤ length maps → length p ≡ vertex_count h → length (lifted_to p maps i) ≡ vertex_count (level h maps i)

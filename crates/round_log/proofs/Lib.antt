@@ -2,6 +2,9 @@ pub mod OrderLaws
 pub mod FewMoves
 pub mod RoundLaws
 pub mod Rows
+pub mod PairLaws
 pub mod FlowLaws
 pub mod PassLaws
+pub mod DescentLaws
 pub mod TraceLaws
+pub mod CycleLaws

@@ -9,7 +9,8 @@ use Rattle.hg_defs.specs.Moves.{IsSettled, sweep}
 use Rattle.hg_defs.specs.Replay.{replay, replay_first}
 use Rattle.hg_defs.specs.ReplayLaws.{IsBestPrefix}
 use Rattle.hg_defs.proofs.MoveLaws.{settled_sweep, sweep_lowers, sweep_allowed, replay-partition, replay-obeys, replay-fits}
-use Rattle.hg_defs.proofs.ReplayLaws.{replay_first-all, length-replay, replay-blocks, replay-apart, best_prefix_is}
+use Rattle.hg_defs.proofs.ReplayLaws.{replay_first-all, length-replay, replay-blocks, best_prefix_is}
+use Rattle.hg_defs.proofs.UndoLaws.{free_moves_leave_fixes}
 use Rattle.round_log.specs.declared.record.LoggedRound.{LoggedRound}
 use Rattle.round_log.specs.Rounds.{after_round, IsSwept, IsRaced, IsMove}
 use Rattle.round_log.specs.Trace.{AreSweeps}
@@ -18,7 +19,7 @@ use Rattle.round_log.specs.RoundLaws.{SweepsEndSettled, SweepsAreReplayed, Sweep
 -- ---- one sweep
 
 module _ (h : Hyper) (k l : ℕ) (p : List ℕ) (r : LoggedRound) (s : IsSwept h k l p r) where
-  swept_to : after_round p r ≡ replay p (sweep h k l p)
+  pub swept_to : after_round p r ≡ replay p (sweep h k l p)
   swept_to = ap (replay_first p r.moves) s.kept ∙ replay_first-all p r.moves ∙ ap (replay p) s.moves
 
   pub swept_partition : IsPartition h k p → IsPartition h k (after_round p r)
@@ -39,7 +40,7 @@ module _ (h : Hyper) (k l : ℕ) (p : List ℕ) (r : LoggedRound) (s : IsSwept h
       subst (λ (q : List ℕ). cost h q < cost h p) (sym swept_to)
       (sweep_lowers h k l p (subst (λ (xs : List Move). 0 < length xs) s.moves (some_long r.moves s.some)))
 
-  unsettled : IsSettled h k l p → ⊥
+  pub unsettled : IsSettled h k l p → ⊥
   unsettled settled = s.some (s.moves ∙ settled_sweep h k l p settled)
 
 -- ---- sweeps until the partition is settled
@@ -89,14 +90,9 @@ sweeps-cheaper h k l p (r ∷ rounds) q some s =
 
 -- ---- a raced round
 
--- moves of free vertices leave the fixed ones where they are
-free_moves-obey : (h : Hyper) (p : List ℕ) (moves : List Move) → Obeys h p → All (λ m. IsFree h m.vertex) moves → Obeys h (replay p moves)
-free_moves-obey h p moves o free v low fixed =
-    replay-apart p moves v (λ i d m e. fixed (subst (IsFree h) e (free i d m))) ∙ o v low fixed
-
 module _ (h : Hyper) (k l : ℕ) (p : List ℕ) (r : LoggedRound) (s : IsRaced h k l p r) where
   kept_moves : All (IsMove h k (length r.gains) p) (take r.kept r.moves)
-  kept_moves = All-take (IsMove h k (length r.gains) p) r.kept r.moves s.moves
+  kept_moves = All-take (IsMove h k (length r.gains) p) r.kept r.moves s.moves.each
 
   raced_best : Fits h k l p → IsBestPrefix h k l p r.moves r.kept
   raced_best f = subst (IsBestPrefix h k l p r.moves) (sym s.kept) (best_prefix_is h k l p r.moves f)
@@ -108,7 +104,7 @@ raced-partition h k l p r w s = record {
 }
 
 pub raced-obeys : RacedRoundLeavesFixes
-raced-obeys h k l p r o s = free_moves-obey h p (take r.kept r.moves) o (λ i d m. (kept_moves h k l p r s i d m).free)
+raced-obeys h k l p r o s = free_moves_leave_fixes h p (take r.kept r.moves) o (λ i d m. (kept_moves h k l p r s i d m).free)
 
 pub raced-fits : RacedRoundStaysWithinLimit
 raced-fits h k l p r f s = (raced_best h k l p r s f).fits

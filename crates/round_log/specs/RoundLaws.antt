@@ -1,5 +1,6 @@
 -- What recorded rounds do to a partition: the laws over sweeps, raced rounds, flow rounds and passes.
-use Rattle.std.specs.Prelude.{◌≡◌, ℕ, ◌<◌, ◌≤◌, ◌≢◌, ◌⊎◌, List, [], All}
+use Rattle.std.specs.Prelude.{◌≡◌, ℕ, ◌+◌, ◌<◌, ◌≤◌, ◌≢◌, ◌⊎◌, List, [], length, All, Bool}
+use Rattle.hg_defs.specs.Sums.{total}
 use Rattle.hg_defs.specs.Hypergraph.{Hyper, IsFree}
 use Rattle.hg_defs.specs.Partition.{IsPartition, Fits, Obeys, block_of}
 use Rattle.hg_defs.specs.Cost.{cost}
@@ -8,7 +9,7 @@ use Rattle.hg_defs.specs.Replay.{replay_first}
 use Rattle.round_log.specs.declared.record.Kind.{Kind}
 use Rattle.round_log.specs.declared.record.LoggedRound.{LoggedRound}
 use Rattle.round_log.specs.Rounds.{after_round, after_rounds, IsRaced, IsFlowRound, region}
-use Rattle.round_log.specs.Passes.{IsPass}
+use Rattle.round_log.specs.Passes.{ArePassRounds, IsPass, IsPartOfPass, most_rounds, saved}
 use Rattle.round_log.specs.Trace.{AreSweeps}
 
 -- ---- sweeps until the partition is settled
@@ -92,24 +93,48 @@ RegionIsFree =
     (h : Hyper) (l : ℕ) (p : List ℕ) (a b : ℕ)
     → All (λ v. IsFree h v × ((block_of p v ≡ a) ⊎ (block_of p v ≡ b))) (region h l p a b)
 
--- ---- a pass of a refiner
+-- ---- the rounds of a pass of a refiner, of a whole one or the first ones
 
 abbrev pub PassLeavesPartition : Type 0
 PassLeavesPartition =
-    (kind : Kind) (h : Hyper) (k l workers : ℕ) (p : List ℕ) (rounds : List LoggedRound) → IsPartition h k p → IsPass kind h k l workers p rounds
-    → IsPartition h k (after_rounds p rounds)
+    (whole : Bool) (kind : Kind) (h : Hyper) (k l workers : ℕ) (p : List ℕ) (rounds : List LoggedRound)
+    → IsPartition h k p → ArePassRounds whole kind h k l workers p rounds → IsPartition h k (after_rounds p rounds)
 
 abbrev pub PassLeavesFixes : Type 0
 PassLeavesFixes =
-    (kind : Kind) (h : Hyper) (k l workers : ℕ) (p : List ℕ) (rounds : List LoggedRound) → Obeys h p → IsPass kind h k l workers p rounds
-    → Obeys h (after_rounds p rounds)
+    (whole : Bool) (kind : Kind) (h : Hyper) (k l workers : ℕ) (p : List ℕ) (rounds : List LoggedRound)
+    → Obeys h p → ArePassRounds whole kind h k l workers p rounds → Obeys h (after_rounds p rounds)
 
 abbrev pub PassStaysWithinLimit : Type 0
 PassStaysWithinLimit =
-    (kind : Kind) (h : Hyper) (k l workers : ℕ) (p : List ℕ) (rounds : List LoggedRound) → IsPartition h k p → Fits h k l p → IsPass kind h k l workers p rounds
-    → Fits h k l (after_rounds p rounds)
+    (whole : Bool) (kind : Kind) (h : Hyper) (k l workers : ℕ) (p : List ℕ) (rounds : List LoggedRound)
+    → IsPartition h k p → Fits h k l p → ArePassRounds whole kind h k l workers p rounds → Fits h k l (after_rounds p rounds)
 
 abbrev pub PassRaisesNoCost : Type 0
 PassRaisesNoCost =
-    (kind : Kind) (h : Hyper) (k l workers : ℕ) (p : List ℕ) (rounds : List LoggedRound) → IsPartition h k p → Fits h k l p → IsPass kind h k l workers p rounds
-    → cost h (after_rounds p rounds) ≤ cost h p
+    (whole : Bool) (kind : Kind) (h : Hyper) (k l workers : ℕ) (p : List ℕ) (rounds : List LoggedRound)
+    → IsPartition h k p → Fits h k l p → ArePassRounds whole kind h k l workers p rounds → cost h (after_rounds p rounds) ≤ cost h p
+
+-- what its rounds saved is the cost before less the cost after
+abbrev pub PassSavesInItsRounds : Type 0
+PassSavesInItsRounds =
+    (whole : Bool) (kind : Kind) (h : Hyper) (k l workers : ℕ) (p : List ℕ) (rounds : List LoggedRound)
+    → IsPartition h k p → Fits h k l p → ArePassRounds whole kind h k l workers p rounds
+    → total saved rounds + cost h (after_rounds p rounds) ≡ cost h p
+
+-- it has few rounds, each of the kind of the pass
+abbrev pub PassHasFewRounds : Type 0
+PassHasFewRounds =
+    (whole : Bool) (kind : Kind) (h : Hyper) (k l workers : ℕ) (p : List ℕ) (rounds : List LoggedRound)
+    → ArePassRounds whole kind h k l workers p rounds → length rounds ≤ most_rounds kind k
+
+abbrev pub PassIsOfItsKind : Type 0
+PassIsOfItsKind =
+    (whole : Bool) (kind : Kind) (h : Hyper) (k l workers : ℕ) (p : List ℕ) (rounds : List LoggedRound)
+    → ArePassRounds whole kind h k l workers p rounds → All (λ r. r.kind ≡ kind) rounds
+
+-- a whole pass is also the first rounds of one
+abbrev pub PassIsPartOfPass : Type 0
+PassIsPartOfPass =
+    (kind : Kind) (h : Hyper) (k l workers : ℕ) (p : List ℕ) (rounds : List LoggedRound)
+    → IsPass kind h k l workers p rounds → IsPartOfPass kind h k l workers p rounds
