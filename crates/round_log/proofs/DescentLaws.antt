@@ -27,7 +27,7 @@ keep_append h k l p [] ys a b = b
 keep_append h k l p (r ∷ xs) ys a b = (a.0, keep_append h k l (after_round p r) xs ys a.1 b)
 
 -- what rounds lead to is sound, and no dearer
-pub Leaves : Hyper → ℕ → ℕ → List ℕ → List ℕ → Type 0
+unfoldable pub Leaves : Hyper → ℕ → ℕ → List ℕ → List ℕ → Type 0
 Leaves h k l p q = IsSound h k l p → IsSound h k l q × (cost h q ≤ cost h p)
 
 pub leaves_by : (h : Hyper) (k l : ℕ) (p : List ℕ) (rounds : List LoggedRound) (q : List ℕ) → AllKeep h k l p rounds → q ≡ after_rounds p rounds → Leaves h k l p q

@@ -8,3 +8,5 @@ pub mod PassLaws
 pub mod DescentLaws
 pub mod TraceLaws
 pub mod CycleLaws
+pub mod SyncLaws
+pub mod DetLaws

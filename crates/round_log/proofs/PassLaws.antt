@@ -29,7 +29,7 @@ pub record Keeps (h : Hyper) (k l : ℕ) (p : List ℕ) (r : LoggedRound) : Type
   pub after : r.after ≡ cost h (after_round p r)
 
 module _ (h : Hyper) (k l : ℕ) (p : List ℕ) (r : LoggedRound) where
-  raced_keeps : IsRaced h k l p r → Keeps h k l p r
+  pub raced_keeps : IsRaced h k l p r → Keeps h k l p r
   raced_keeps s = record {
     partition = λ w. raced-partition h k l p r w s;
     fixes = λ o. raced-obeys h k l p r o s;
