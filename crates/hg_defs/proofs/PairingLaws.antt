@@ -440,7 +440,7 @@ paired_inside-inside h cap k p roots good whole r within = record {
 -- ---- roots in other blocks given up
 
 -- where each number at which p is a goes with a number at which q is b, the weights do too
-weight_in-into : (ws p q : List ℕ) (a b : ℕ) → length p ≤ length q → ((i : ℕ) → i < length p → get_or p i 0 ≡ a → get_or q i 0 ≡ b) → weight_in ws p a ≤ weight_in ws q b
+pub weight_in-into : (ws p q : List ℕ) (a b : ℕ) → length p ≤ length q → ((i : ℕ) → i < length p → get_or p i 0 ≡ a → get_or q i 0 ≡ b) → weight_in ws p a ≤ weight_in ws q b
 weight_in-into [] p q a b l f = omega arith
 weight_in-into (w ∷ ws) [] q a b l f = omega arith
 weight_in-into (w ∷ ws) (x ∷ p) [] a b l f = absurd (omega arith)

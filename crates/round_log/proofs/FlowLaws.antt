@@ -14,7 +14,7 @@ use Rattle.round_log.specs.RoundLaws.{FlowRoundLeavesPartition, FlowRoundLeavesF
 -- ---- the vertices of a region
 
 -- a free vertex of a block
-abbrev IsFreeOf : Hyper → List ℕ → ℕ → ℕ → Type 0
+abbrev pub IsFreeOf : Hyper → List ℕ → ℕ → ℕ → Type 0
 IsFreeOf h p a v = IsFree h v × (block_of p v ≡ a)
 
 near_free : (h : Hyper) (p : List ℕ) (a b v : ℕ) → is_near h p a b v ≡ true → IsFreeOf h p a v
@@ -30,7 +30,7 @@ next_free h p a b v e =
     let parts = and_parts (is_free h v) (nat_eq (block_of p v) a) second.0 in
     (eqb-true _ _ parts.0, eqb-true _ _ parts.1)
 
-All-taken : (P : ℕ → Type 0) (h : Hyper) (room : ℕ) (vs : List ℕ) → All P vs → All P (taken h room vs)
+pub All-taken : (P : ℕ → Type 0) (h : Hyper) (room : ℕ) (vs : List ℕ) → All P vs → All P (taken h room vs)
 All-taken P h room [] all = All-nil P
 All-taken P h room (v ∷ vs) all = by (nat_le (weight_of h v) room) (λ r. All-taken P h r vs (All-tail P v vs all))
   where
@@ -39,7 +39,7 @@ All-taken P h room (v ∷ vs) all = by (nat_le (weight_of h v) room) (λ r. All-
     by true rest = All-cons P v (taken h (room - weight_of h v) vs) (All-head P v vs all) (rest (room - weight_of h v))
     by false rest = rest room
 
-side_free : (h : Hyper) (l : ℕ) (p : List ℕ) (a b : ℕ) → All (IsFreeOf h p a) (side h l p a b)
+pub side_free : (h : Hyper) (l : ℕ) (p : List ℕ) (a b : ℕ) → All (IsFreeOf h p a) (side h l p a b)
 side_free h l p a b =
     All-taken (IsFreeOf h p a) h (l - load h p b) (filter (is_near h p a b) (vertices h) ++ filter (is_next h p a b) (vertices h))
     (All-append (IsFreeOf h p a) (filter (is_near h p a b) (vertices h)) (filter (is_next h p a b) (vertices h))
@@ -47,7 +47,7 @@ side_free h l p a b =
     (All-weaker (λ v. is_next h p a b v ≡ true) (IsFreeOf h p a) (next_free h p a b) (filter (is_next h p a b) (vertices h)) (filter_passes (is_next h p a b) (vertices h))))
 
 -- a free vertex of one of two blocks
-abbrev IsInside : Hyper → List ℕ → ℕ → ℕ → ℕ → Type 0
+abbrev pub IsInside : Hyper → List ℕ → ℕ → ℕ → ℕ → Type 0
 IsInside h p a b v = IsFree h v × ((block_of p v ≡ a) ⊎ (block_of p v ≡ b))
 
 pub region-free : RegionIsFree
@@ -64,7 +64,7 @@ region-free h l p a b =
 -- ---- the round
 
 -- a number is in a list, or differs from all of it
-among : (v : ℕ) (vs : List ℕ) → Contains vs v ⊎ All (λ u. u ≢ v) vs
+pub among : (v : ℕ) (vs : List ℕ) → Contains vs v ⊎ All (λ u. u ≢ v) vs
 among v [] = inr (All-nil (λ u. u ≢ v))
 among v (u ∷ vs) = by (cases_eq u v) (among v vs)
   where

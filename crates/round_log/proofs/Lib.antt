@@ -4,6 +4,8 @@ pub mod RoundLaws
 pub mod Rows
 pub mod PairLaws
 pub mod FlowLaws
+pub mod RegionLaws
+pub mod AssignmentLaws
 pub mod PassLaws
 pub mod DescentLaws
 pub mod TraceLaws

@@ -4,7 +4,7 @@ use Rattle.std.specs.List.{range_with_len, flat_map}
 use Rattle.std.proofs.lemmas.Bool.{cases_eq}
 use Rattle.std.proofs.lemmas.List.Concat.{flat_map-cons}
 use Rattle.std.proofs.lemmas.List.FromFn.{length-range_with_len, get_or-range_with_len, length-map-range_with_len, get_or-map-range_with_len}
-use Rattle.std.proofs.lemmas.List.Elements.{All-nil, All-cons, All-head, All-tail, All-append, All-map, All-weaker, All-contains}
+use Rattle.std.proofs.lemmas.List.Elements.{All-nil, All-cons, All-head, All-tail, All-append, All-map, All-weaker, All-contains, Contains-append_left, Contains-append_right}
 use Rattle.std.proofs.lemmas.List.Kept.{AllPairs-cons}
 use Rattle.hg_defs.proofs.SortLaws.{Contains_head, Contains_later}
 use Rattle.hg_defs.proofs.DistinctLaws.{Contains-map}
@@ -47,18 +47,6 @@ pairs_within k = All-weaker (λ pair. IsRising k pair × (0 ≤ pair.0)) (λ pai
 
 -- ---- each pair
 
-Contains_right : {A : Type 0} (xs ys : List A) (x : A) → Contains ys x → Contains (xs ++ ys) x
-Contains_right [] ys x c = c
-Contains_right (z ∷ xs) ys x c = Contains_later z (xs ++ ys) x (Contains_right xs ys x c)
-
-Contains_left : {A : Type 0} (xs ys : List A) (x : A) → Contains xs x → Contains (xs ++ ys) x
-Contains_left {A} xs ys x c = by xs c.0 c.1 c.2
-  where
-    by : (zs : List A) (i : ℕ) → i < length zs → get_or zs i x ≡ x → Contains (zs ++ ys) x
-    by [] i low e = absurd (omega arith)
-    by (z ∷ zs) zero low e = (0, omega arith, e)
-    by (z ∷ zs) (suc i) low e = Contains_later z (zs ++ ys) x (by zs i (omega arith) e)
-
 Contains_range_of : (a n v : ℕ) → a ≤ v → v < a + n → Contains (range_with_len a n) v
 Contains_range_of a n v low high =
     let e : a + (v - a) ≡ v = omega arith in
@@ -74,8 +62,8 @@ pairs_from-all k a zero x y low high rise below = absurd (omega arith)
 pairs_from-all k a (suc n) x y low high rise below = subst (λ ps. Contains ps (x, y)) (sym (pairs_from-suc k a n)) (by (cases_eq a x) (pairs_from-all k (a + 1) n x y))
   where
     by : (a ≡ x) ⊎ (a ≡ x → ⊥) → (a + 1 ≤ x → x < a + 1 + n → x < y → y < k → Contains (pairs_from k (a + 1) n) (x, y)) → Contains (pairs_of k a ++ pairs_from k (a + 1) n) (x, y)
-    by (inl e) rest = Contains_left (pairs_of k a) (pairs_from k (a + 1) n) (x, y) (subst (λ c. Contains (pairs_of k c) (x, y)) (sym e) (pairs_of-all k x y rise below))
-    by (inr d) rest = Contains_right (pairs_of k a) (pairs_from k (a + 1) n) (x, y) (rest (omega arith) (omega arith) rise below)
+    by (inl e) rest = Contains-append_left (pairs_of k a) (pairs_from k (a + 1) n) (x, y) (subst (λ c. Contains (pairs_of k c) (x, y)) (sym e) (pairs_of-all k x y rise below))
+    by (inr d) rest = Contains-append_right (pairs_of k a) (pairs_from k (a + 1) n) (x, y) (rest (omega arith) (omega arith) rise below)
 
 pub pairs_are_of_blocks : PairsAreOfBlocks
 pairs_are_of_blocks k pair = (
