@@ -8,7 +8,7 @@ use Rattle.hg_defs.specs.Cost.{cost}
 use Rattle.hg_defs.specs.Partition.{block_of, weight_in}
 use Rattle.hg_defs.specs.Contraction.{contract, after}
 use Rattle.hg_defs.specs.Clustering.{cluster_count}
-use Rattle.hg_defs.specs.Levels.{levels, level, map_of, cluster_block, lifted, lifted_to, projected_from}
+use Rattle.hg_defs.specs.Levels.{level, map_of, cluster_block, lifted, lifted_to, projected_from}
 use Rattle.hg_defs.specs.LevelLaws.{LevelsAreOneMore, LevelsAreListed, LevelIsContraction, LevelsStay, LevelIsAdded, LiftedIsProjected, OnlyLiftedIsProjected, LiftedFollows, ProjectionKeepsCost, LiftedIsProjectedBack}
 use Rattle.hg_defs.proofs.ContractionLaws.{length-after, block_of-after, cost_kept}
 

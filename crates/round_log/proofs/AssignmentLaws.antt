@@ -1,14 +1,14 @@
 -- The laws of the assignments of a region to its two blocks.
-use Rattle.std.proofs.Common.{◌≡◌, ◌≢◌, ◌⊎◌, inl, inr, ℕ, ◌+◌, ◌-◌, ◌<◌, ◌≤◌, List, length, get_or, All, Contains, refl, sym, ap, subst, ◌∙◌, arith}
+use Rattle.std.proofs.Common.{◌≡◌, ◌≢◌, ◌⊎◌, inl, inr, ℕ, ◌+◌, ◌<◌, ◌≤◌, List, length, get_or, All, Contains, refl, sym, subst, ◌∙◌, arith}
 use Rattle.std.proofs.lemmas.Bool.{cases_eq, cases_lt}
 use Rattle.std.proofs.lemmas.List.{get_or_default}
 use Rattle.std.proofs.lemmas.List.Elements.{All-contains}
 use Rattle.hg_defs.specs.Sums.{total, sum_below}
-use Rattle.hg_defs.specs.Hypergraph.{Hyper, vertex_count, weight_of, fix_of}
-use Rattle.hg_defs.specs.Partition.{IsPartition, Fits, block_of, load, weight_in}
+use Rattle.hg_defs.specs.Hypergraph.{fix_of}
+use Rattle.hg_defs.specs.Partition.{block_of, load, weight_in}
 use Rattle.hg_defs.proofs.SumLaws.{weight_in-by_index, weight_if, weight_if-same, weight_if-other, weight_if-le, sum_below-le, sum_below-add, sum_below-total, sum_below-only, sum_below-zero, total-le, total_at-le}
 use Rattle.hg_defs.proofs.PairingLaws.{weight_in-into}
-use Rattle.round_log.specs.Rounds.{side, region, IsAssignment}
+use Rattle.round_log.specs.Rounds.{side, region}
 use Rattle.round_log.specs.RegionLaws.{AssignmentIsPartition, AssignmentObeys, AssignmentFits}
 use Rattle.round_log.proofs.FlowLaws.{among, IsFreeOf, side_free, IsInside, region-free}
 use Rattle.round_log.proofs.RegionLaws.{side_fits, region_has_sides}

@@ -11,7 +11,7 @@ use Rattle.hg_defs.proofs.ContractionLaws.{partition_lifted, fitting_lifted, fix
 use Rattle.hg_defs.proofs.LevelLaws.{level_is_contraction, lifted-projected, lifted_follows, length-lifted}
 use Rattle.round_log.specs.declared.record.Trace.{Trace}
 use Rattle.round_log.specs.Trace.{IsRefined, AreContracted}
-use Rattle.round_log.specs.Cycles.{IsInsideAt, IsCycle, AreCycles}
+use Rattle.round_log.specs.Cycles.{IsInsideAt, IsCycle}
 use Rattle.round_log.specs.TraceLaws.{IsSound, IsSettledPartition, CycleBeginsAtCost, CycleRaisesNoCost, CycleEndsSettled, CyclesRaiseNoCost, CyclesEndSettled}
 use Rattle.round_log.proofs.RoundLaws.{sweeps-no_dearer}
 use Rattle.round_log.proofs.DescentLaws.{descends, swept_settled, good_level, level_contractible}
@@ -43,8 +43,7 @@ module _ (h : Hyper) (k l : ℕ) (maps : List (List ℕ)) (p : List ℕ) (sound 
     lifted_sound : IsSound (level h maps (suc i)) k l (lifted_to p maps (suc i)) × (cost (level h maps (suc i)) (lifted_to p maps (suc i)) ≡ cost (level h maps i) (lifted_to p maps i))
     lifted_sound =
         subst (λ (g : Hyper). IsSound g k l (lifted_to p maps (suc i)) × (cost g (lifted_to p maps (suc i)) ≡ cost (level h maps i) (lifted_to p maps i))) (sym (level_is_contraction h maps i low))
-        (subst (λ (q : List ℕ). IsSound (contract (level h maps i) (map_of maps i) (cluster_count (map_of maps i))) k l q × (cost (contract (level h maps i) (map_of maps i) (cluster_count (map_of maps i))) q ≡ cost (level h maps i) (lifted_to p maps i))) (sym (lifted_follows p maps i low))
-        (
+        (subst (λ (q : List ℕ). IsSound (contract (level h maps i) (map_of maps i) (cluster_count (map_of maps i))) k l q × (cost (contract (level h maps i) (map_of maps i) (cluster_count (map_of maps i))) q ≡ cost (level h maps i) (lifted_to p maps i))) (sym (lifted_follows p maps i low)) (
           record {
             partition = partition_lifted (level h maps i) (map_of maps i) (cluster_count (map_of maps i)) k above at long (subst (IsPartition (level h maps i) k) (sym back) o.partition);
             obeys = fixes_lifted (level h maps i) (map_of maps i) (cluster_count (map_of maps i)) above at (subst (Obeys (level h maps i)) (sym back) o.obeys);

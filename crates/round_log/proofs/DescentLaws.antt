@@ -17,7 +17,7 @@ use Rattle.round_log.specs.declared.record.LoggedRound.{LoggedRound}
 use Rattle.round_log.specs.Rounds.{after_round, after_rounds}
 use Rattle.round_log.specs.Trace.{IsLarge, AreContracted, IsDescent, IsChoice, AreSweeps}
 use Rattle.round_log.specs.TraceLaws.{IsPlaceableWithin, IsSound, IsSettledPartition}
-use Rattle.round_log.proofs.RoundLaws.{sweeps-partition, sweeps-obeys, sweeps-fits, sweeps-settled, sweeps-no_dearer}
+use Rattle.round_log.proofs.RoundLaws.{sweeps-partition, sweeps-obeys, sweeps-fits, sweeps-settled}
 use Rattle.round_log.proofs.PassLaws.{AllKeep, rounds-partition, rounds-obeys, rounds-fits, rounds-no_dearer}
 
 -- ---- rounds
@@ -34,8 +34,7 @@ pub leaves_by : (h : Hyper) (k l : ℕ) (p : List ℕ) (rounds : List LoggedRoun
 unfolding Leaves
 leaves_by h k l p rounds q keep e o =
     let less = rounds-no_dearer h k l p rounds o.partition o.fits keep in
-    let same = ap (cost h) e in
-    (
+    let same = ap (cost h) e in (
       subst (IsSound h k l) (sym e) (record {
         partition = rounds-partition h k l p rounds o.partition keep;
         obeys = rounds-obeys h k l p rounds o.obeys keep;
@@ -115,32 +114,32 @@ module _ (good : ℕ → Hyper → List ℕ → Type 0) (clustering : (number : 
     -- what holds of the first partition holds of the file's
     module _ (refined : ℕ → Hyper → List ℕ → List LoggedRound → List ℕ → Type 0) (l : ℕ)
         (keeps : (number : ℕ) (g : Hyper) (p : List ℕ) (rounds : List LoggedRound) (q : List ℕ) → refined number g p rounds q → Leaves g k l p q)
-        where
-      pub descends : (i : ℕ) → i ≤ length maps → (p : List ℕ) (rounds : List LoggedRound) (q : List ℕ) → IsDescent refined h maps i p rounds q → IsSound (level h maps i) k l p
-          → IsSound h k l q × (cost h q ≤ cost (level h maps i) p)
-      unfolding Leaves
-      descends zero low p rounds q d o = keeps 0 h p rounds q d o
-      descends (suc i) low p rounds q d o =
-          let here = keeps (suc i) (level h maps (suc i)) p d.0 d.2 d.4 o in
-          let below = level_projected l i (omega arith) d.2 here.0 in
-          let rest = descends i (omega arith) (after d.2 (map_of maps i)) d.1 q d.5 below.0 in
-          let first = here.1 in
-          let same = below.1 in
-          let last = rest.1 in
-          (rest.0, omega arith)
-
-      -- rounds of one kind are rounds of another, where they are so on each level
-      module _ (other : ℕ → Hyper → List ℕ → List LoggedRound → List ℕ → Type 0)
-          (turned : (number : ℕ) (g : Hyper) (p : List ℕ) (rounds : List LoggedRound) (q : List ℕ) → refined number g p rounds q → IsSound g k l p → other number g p rounds q)
-          where
-        pub descends_by : (i : ℕ) → i ≤ length maps → (p : List ℕ) (rounds : List LoggedRound) (q : List ℕ) → IsDescent refined h maps i p rounds q → IsSound (level h maps i) k l p
-            → IsDescent other h maps i p rounds q
+      where
+        pub descends : (i : ℕ) → i ≤ length maps → (p : List ℕ) (rounds : List LoggedRound) (q : List ℕ) → IsDescent refined h maps i p rounds q → IsSound (level h maps i) k l p
+            → IsSound h k l q × (cost h q ≤ cost (level h maps i) p)
         unfolding Leaves
-        descends_by zero low p rounds q d o = turned 0 h p rounds q d o
-        descends_by (suc i) low p rounds q d o =
+        descends zero low p rounds q d o = keeps 0 h p rounds q d o
+        descends (suc i) low p rounds q d o =
             let here = keeps (suc i) (level h maps (suc i)) p d.0 d.2 d.4 o in
             let below = level_projected l i (omega arith) d.2 here.0 in
-            (d.0, d.1, d.2, d.3, turned (suc i) (level h maps (suc i)) p d.0 d.2 d.4 o, descends_by i (omega arith) (after d.2 (map_of maps i)) d.1 q d.5 below.0)
+            let rest = descends i (omega arith) (after d.2 (map_of maps i)) d.1 q d.5 below.0 in
+            let first = here.1 in
+            let same = below.1 in
+            let last = rest.1 in
+            (rest.0, omega arith)
+
+        -- rounds of one kind are rounds of another, where they are so on each level
+        module _ (other : ℕ → Hyper → List ℕ → List LoggedRound → List ℕ → Type 0)
+            (turned : (number : ℕ) (g : Hyper) (p : List ℕ) (rounds : List LoggedRound) (q : List ℕ) → refined number g p rounds q → IsSound g k l p → other number g p rounds q)
+          where
+            pub descends_by : (i : ℕ) → i ≤ length maps → (p : List ℕ) (rounds : List LoggedRound) (q : List ℕ) → IsDescent refined h maps i p rounds q → IsSound (level h maps i) k l p
+                → IsDescent other h maps i p rounds q
+            unfolding Leaves
+            descends_by zero low p rounds q d o = turned 0 h p rounds q d o
+            descends_by (suc i) low p rounds q d o =
+                let here = keeps (suc i) (level h maps (suc i)) p d.0 d.2 d.4 o in
+                let below = level_projected l i (omega arith) d.2 here.0 in
+                (d.0, d.1, d.2, d.3, turned (suc i) (level h maps (suc i)) p d.0 d.2 d.4 o, descends_by i (omega arith) (after d.2 (map_of maps i)) d.1 q d.5 below.0)
 
 -- one clustering more on the coarsest level
 pub contracted_more : (good : ℕ → Hyper → List ℕ → Type 0) (number k : ℕ) (h : Hyper) (maps : List (List ℕ)) (c : List ℕ) → AreContracted good number h k maps

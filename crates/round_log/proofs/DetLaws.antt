@@ -1,6 +1,6 @@
 -- The laws of the deterministic mode: its trace is legal, and ends where the function says.
-use Rattle.std.proofs.Common.{◌≡◌, ◌⊎◌, inl, inr, ℕ, zero, suc, ◌+◌, ◌-◌, ◌*◌, ◌<◌, ◌≤◌, Bool, true, false, ◌&&◌, nat_lt, nat_le, if◌then◌else◌, List, [], ◌∷◌, length, get_or, All, Option, Some, None, option_map, refl, sym, ap, subst, ◌∙◌, arith, true≢false}
-use Rattle.std.proofs.lemmas.Bool.{and_from, ltb-true, ltb-false, lt-ltb, leb-true, le-leb, cases_lt}
+use Rattle.std.proofs.Common.{◌≡◌, ◌⊎◌, inl, inr, ℕ, zero, suc, ◌-◌, ◌*◌, ◌<◌, ◌≤◌, Bool, true, false, ◌&&◌, nat_lt, nat_le, if◌then◌else◌, List, [], ◌∷◌, length, get_or, Option, Some, None, option_map, refl, sym, ap, subst, ◌∙◌, arith, true≢false}
+use Rattle.std.proofs.lemmas.Bool.{and_from, ltb-true, lt-ltb, leb-true, le-leb, cases_lt}
 use Rattle.std.proofs.lemmas.List.{get_or_default}
 use Rattle.hg_defs.specs.declared.moves.Move.{Move}
 use Rattle.hg_defs.specs.Hypergraph.{Hyper, IsHypergraph, IsFixedWithin, vertex_count, total_weight}
@@ -27,8 +27,8 @@ use Rattle.round_log.specs.declared.record.LoggedRound.{LoggedRound}
 use Rattle.round_log.specs.declared.record.Trace.{Trace}
 use Rattle.round_log.specs.Rounds.{after_round}
 use Rattle.round_log.specs.Trace.{IsGoodClustering, AreContracted, IsStop, IsDescent, IsChoice, IsStart, AreSweeps, IsTraced, limit_of}
-use Rattle.round_log.specs.Deterministic.{level_pairing, is_pairing_contracted, contracted_pairings, det_maps, placed_or, first_placed, synced, synced_down, cheaper_of, swept_often, swept_until_settled, det_last, det, IsPairing, IsSynced, IsDetRefined, IsDetStart, IsDetTrace}
-use Rattle.round_log.specs.TraceLaws.{IsPlaceableWithin, IsSound, IsSettledPartition, SweepsEndAtFunction, FunctionEndsSettled, DetDescentEndsAtFunction, DetTraceEndsAtFunction, DetTraceIsLegal, DetEndsSettled, DetEndsBelowGreedy}
+use Rattle.round_log.specs.Deterministic.{level_pairing, is_pairing_contracted, contracted_pairings, det_maps, placed_or, first_placed, synced_down, cheaper_of, swept_often, swept_until_settled, IsPairing, IsSynced, IsDetRefined, IsDetStart, IsDetTrace}
+use Rattle.round_log.specs.TraceLaws.{IsPlaceableWithin, IsSound, SweepsEndAtFunction, FunctionEndsSettled, DetDescentEndsAtFunction, DetTraceEndsAtFunction, DetTraceIsLegal, DetEndsSettled, DetEndsBelowGreedy}
 use Rattle.round_log.proofs.RoundLaws.{swept_to, swept_less}
 use Rattle.round_log.proofs.DescentLaws.{level_sound, level_fixed, descends, descends_by, swept_settled, chosen_sound}
 use Rattle.round_log.proofs.SyncLaws.{synced_to, det_refined_keeps, synced_refined, synced_keeps}
@@ -175,8 +175,7 @@ pairing_good k number h c sound e =
 contracted_good : (k number : ℕ) (h : Hyper) (maps : List (List ℕ)) → IsHypergraph h → AreContracted (IsPairing k) number h k maps → AreContracted (IsGoodClustering k) number h k maps
 contracted_good k number h [] sound a = tt
 contracted_good k number h (c ∷ maps) sound a =
-    let good = pairing_good k number h c sound a.1 in
-    (
+    let good = pairing_good k number h c sound a.1 in (
       a.0,
       good,
       a.2,

@@ -1,7 +1,7 @@
 -- The laws of the region of a pair of blocks.
-use Rattle.std.proofs.Common.{◌≡◌, ◌⊎◌, inl, inr, ℕ, ◌+◌, ◌-◌, ◌≤◌, Bool, true, false, ◌&&◌, ◌||◌, not, nat_eq, nat_le, if◌then◌else◌, List, [], ◌∷◌, ◌++◌, length, filter, All, Contains, Decides, refl, sym, ap, subst, ◌∙◌, arith, true≢false}
+use Rattle.std.proofs.Common.{◌≡◌, ◌⊎◌, inl, inr, ℕ, ◌+◌, ◌-◌, ◌≤◌, Bool, true, false, ◌&&◌, ◌||◌, not, nat_eq, nat_le, if◌then◌else◌, List, [], ◌∷◌, ◌++◌, length, filter, Contains, Decides, refl, sym, ap, subst, ◌∙◌, arith, true≢false}
 use Rattle.std.specs.List.{list_any}
-use Rattle.std.proofs.lemmas.Bool.{and_parts, and_from, eqb-true, eq-eqb, leb-true, le-leb, not-true, not_from_false}
+use Rattle.std.proofs.lemmas.Bool.{and_parts, and_from, eqb-true, eq-eqb, leb-true, le-leb}
 use Rattle.std.proofs.lemmas.Cmp.{nat_cmp_total}
 use Rattle.std.proofs.lemmas.List.Elements.{All-append, All-weaker, filter_passes, Contains-append_cases, Contains-append_left, Contains-append_right}
 use Rattle.hg_defs.specs.declared.objective.TheConstants.{FREE}
@@ -54,9 +54,9 @@ holds-told e v = (
 pub touching_has_both : TouchingHasBoth
 touching_has_both h p a b e = (
   λ c.
-  let x = Contains-from_filter (λ (n : Net). has_pin p n a && has_pin p n b) h.nets e c in
-  let both = and_parts (has_pin p e a) (has_pin p e b) x.1 in
-  (x.0, (has_pin-told p e a).0 both.0, (has_pin-told p e b).0 both.1),
+      let x = Contains-from_filter (λ (n : Net). has_pin p n a && has_pin p n b) h.nets e c in
+      let both = and_parts (has_pin p e a) (has_pin p e b) x.1 in
+      (x.0, (has_pin-told p e a).0 both.0, (has_pin-told p e b).0 both.1),
   λ x. Contains_filter (λ (n : Net). has_pin p n a && has_pin p n b) h.nets e x.0 (and_from (has_pin p e a) (has_pin p e b) ((has_pin-told p e a).1 x.1) ((has_pin-told p e b).1 x.2)),
 )
 

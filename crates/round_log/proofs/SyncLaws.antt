@@ -1,8 +1,8 @@
 -- The laws of synchronous rounds as they are recorded.
-use Rattle.std.proofs.Common.{◌≡◌, ◌≢◌, inl, inr, ℕ, zero, suc, ◌+◌, ◌-◌, ◌<◌, ◌≤◌, Bool, true, false, nat_eq, if◌then◌else◌, List, [], ◌∷◌, length, replicate, get_or, All, AllPairs, ℤ, pos, ◌+ℤ◌, ◌-ℤ◌, refl, sym, ap, subst, ◌∙◌, arith}
+use Rattle.std.proofs.Common.{◌≡◌, ◌≢◌, inl, inr, ℕ, zero, suc, ◌+◌, ◌-◌, ◌<◌, Bool, true, nat_eq, if◌then◌else◌, List, [], ◌∷◌, length, replicate, get_or, All, AllPairs, ℤ, pos, ◌+ℤ◌, ◌-ℤ◌, refl, sym, ap, subst, ◌∙◌, arith}
 use Rattle.std.proofs.lemmas.Bool.{ne_eqb}
 use Rattle.std.proofs.lemmas.Int.{ints}
-use Rattle.std.proofs.lemmas.List.{length-replicate, get_or-replicate, get_or_default}
+use Rattle.std.proofs.lemmas.List.{length-replicate, get_or-replicate}
 use Rattle.std.proofs.lemmas.List.Elements.{All-head, All-tail}
 use Rattle.hg_defs.specs.declared.moves.Move.{Move}
 use Rattle.hg_defs.specs.Sums.{total_z}
@@ -14,11 +14,10 @@ use Rattle.hg_defs.specs.Replay.{replay, replay_first, best_prefix}
 use Rattle.hg_defs.specs.Synchronous.{sync_moves, sync}
 use Rattle.hg_defs.proofs.MoveLaws.{replay-fits}
 use Rattle.hg_defs.proofs.SynchronousLaws.{sync_moves-wishes, sync_moves-distinct, sync_moves-allowed, sync_moves-booked, sync_moves-from, sync_moves-saved, unsettled-lower, settled-same}
-use Rattle.round_log.specs.declared.record.Kind.TheVariants.{Label}
 use Rattle.round_log.specs.declared.record.LoggedRound.{LoggedRound}
-use Rattle.round_log.specs.Rounds.{after_round, after_rounds, booked_by, IsMove, AreRacedMoves, IsRaced}
+use Rattle.round_log.specs.Rounds.{after_round, after_rounds, booked_by, IsMove, IsRaced}
 use Rattle.round_log.specs.Passes.{IsRacedBy}
-use Rattle.round_log.specs.Deterministic.{IsSyncRound, AreSyncRounds, AreDetRounds, IsDetRound, IsSynced, IsDetRefined, synced}
+use Rattle.round_log.specs.Deterministic.{IsSyncRound, AreSyncRounds, AreDetRounds, IsSynced, IsDetRefined, synced}
 use Rattle.round_log.specs.TraceLaws.{IsSound, SyncRoundIsRaced, SyncRoundLowersCost}
 use Rattle.round_log.proofs.PassLaws.{AllKeep, raced_keeps}
 use Rattle.round_log.proofs.DescentLaws.{Leaves, leaves_by}
@@ -144,8 +143,7 @@ module _ (h : Hyper) (k l workers : ℕ) where
   are_det made p [] some o s = s
   are_det made p (r ∷ rounds) some o s =
       let by = raced_by h k l workers p r s.2 o.partition o.fits some in
-      let keep = raced_keeps h k l p r by.raced in
-      (
+      let keep = raced_keeps h k l p r by.raced in (
         s.0,
         s.1,
         record { kind = s.2.kind; raced = by; lower = round_lower h k l workers p r s.2 o.partition o.fits s.0; untabled = s.2.untabled },

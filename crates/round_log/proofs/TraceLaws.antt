@@ -1,5 +1,5 @@
 -- The laws of legal traces.
-use Rattle.std.proofs.Common.{◌≡◌, ℕ, ◌≤◌, true, List, ◌++◌, refl, sym, ap, subst, arith}
+use Rattle.std.proofs.Common.{ℕ, ◌≤◌, true, List, ◌++◌, sym, subst, arith}
 use Rattle.hg_defs.specs.Hypergraph.{Hyper, IsHypergraph, total_weight}
 use Rattle.hg_defs.specs.Cost.{cost}
 use Rattle.hg_defs.specs.LeastLoaded.{greedy}
@@ -33,27 +33,27 @@ good_clustering k number h c sound good = (cluster_cap (total_weight h) k, good.
 module _ (refined : ℕ → Hyper → List ℕ → List LoggedRound → List ℕ → Type 0) (h : Hyper) (k l seed : ℕ) (trace : Trace) (q : List ℕ)
     (keeps : (number : ℕ) (g : Hyper) (p : List ℕ) (rounds : List LoggedRound) (r : List ℕ) → refined number g p rounds r → Leaves g k l p r)
     (ready : IsPlaceableWithin h k l) (legal : IsTraced refined h k l seed trace q)
-    where
-  pub last_sound : IsSound h k l trace.last × (cost h trace.last ≤ cost (level h trace.maps trace.start) trace.first)
-  last_sound =
-      descends (IsGoodClustering k) (good_clustering k) k h trace.maps ready.hypergraph legal.descended.maps refined l keeps trace.start legal.start.on_level trace.first
-      legal.descended.level_rounds trace.last legal.descended.descent
-      (record { partition = legal.start.partition; obeys = legal.start.obeys; fits = legal.start.fits })
+  where
+    pub last_sound : IsSound h k l trace.last × (cost h trace.last ≤ cost (level h trace.maps trace.start) trace.first)
+    last_sound =
+        descends (IsGoodClustering k) (good_clustering k) k h trace.maps ready.hypergraph legal.descended.maps refined l keeps trace.start legal.start.on_level trace.first
+        legal.descended.level_rounds trace.last legal.descended.descent
+        (record { partition = legal.start.partition; obeys = legal.start.obeys; fits = legal.start.fits })
 
-  swept_sound : IsSound h k l legal.swept × (cost h legal.swept ≤ cost h trace.last) × (cost h legal.swept ≤ cost h (greedy h k))
-  swept_sound = chosen_sound h k l ready trace.last last_sound.0 legal.swept trace.chosen legal.choice
+    swept_sound : IsSound h k l legal.swept × (cost h legal.swept ≤ cost h trace.last) × (cost h legal.swept ≤ cost h (greedy h k))
+    swept_sound = chosen_sound h k l ready trace.last last_sound.0 legal.swept trace.chosen legal.choice
 
-  end_below : cost h q ≤ cost h legal.swept
-  end_below = sweeps-no_dearer h k l legal.swept legal.descended.sweeps q legal.descended.settled
+    end_below : cost h q ≤ cost h legal.swept
+    end_below = sweeps-no_dearer h k l legal.swept legal.descended.sweeps q legal.descended.settled
 
-  pub ends_settled : IsSettledPartition h k l q
-  ends_settled = swept_settled h k l legal.swept legal.descended.sweeps q swept_sound.0 legal.descended.settled
+    pub ends_settled : IsSettledPartition h k l q
+    ends_settled = swept_settled h k l legal.swept legal.descended.sweeps q swept_sound.0 legal.descended.settled
 
-  pub ends_below_last : cost h q ≤ cost h trace.last
-  ends_below_last = let a = swept_sound.1 in let b = end_below in omega arith
+    pub ends_below_last : cost h q ≤ cost h trace.last
+    ends_below_last = let a = swept_sound.1 in let b = end_below in omega arith
 
-  pub ends_below_greedy : cost h q ≤ cost h (greedy h k)
-  ends_below_greedy = let a = swept_sound.2 in let b = end_below in omega arith
+    pub ends_below_greedy : cost h q ≤ cost h (greedy h k)
+    ends_below_greedy = let a = swept_sound.2 in let b = end_below in omega arith
 
 pub trace-settled : TraceEndsSettled
 trace-settled h job trace q ready legal =
