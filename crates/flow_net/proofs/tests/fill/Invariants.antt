@@ -1,0 +1,8 @@
+use Rattle.std.proofs.Common.{◌≡◌, ◌≤◌, length}
+use Rattle.flow_net.proofs.tests.fill.Given as goal
+
+abbrev pub invariant-loop-arc : goal.invariant-loop-arc
+invariant-loop-arc l = record {
+  nodes : l.network.nodes ≡ 6;
+  arcs : length l.network.arcs ≤ l._arc;
+}

@@ -1,0 +1,5 @@
+pub use Rattle.hg_defs.specs.Sums
+pub mod Flow
+pub mod Residual
+pub mod Ready
+pub mod Laws

@@ -1,0 +1,199 @@
+//! The maximum flow, by blocking flows along shortest ways (Dinic's algorithm).
+
+ghost use Rattle.std.specs.Prelude.{◌≡◌, ◌≢◌, ℕ, ◌+◌, ◌-◌, ◌*◌, ◌^◌, ◌<◌, ◌≤◌, length, replicate, slice_index, IfOk, OnOk, OnErr};
+ghost use Rattle.flow_net.specs.Flow.{IsFlow, IsFilledCut};
+ghost use Rattle.flow_net.specs.Residual.{IsTree, IsClosed, IsBounded, IsRaised, AreJoined};
+ghost use Rattle.flow_net.specs.Ready.{IsReady};
+
+use crate::cut::{Cut, capacity_of, flag_unreached, write_flows};
+use crate::layout::{lay, link};
+use crate::levels::search;
+use crate::network::{Arc, Network};
+use crate::paths::{block, least_rest, push};
+use crate::residual::Halves;
+use hg_base::{Flags, NoMemory};
+use std::alloc::Global;
+
+/// Raises the flow from the source to the sink until it is greatest. Afterwards the nodes with a
+/// level are those from which more could flow to the sink.
+fn maximize(
+    halves: Halves<'_>,
+    rests: &mut [u64],
+    levels: &mut [u32],
+    ways: &mut [u32],
+    currents: &mut [u32],
+    entries: &mut [u32],
+    queue: &mut [u32],
+)
+    requires rests { length rests.old ≡ length halves.heads.now }
+    requires levels { length levels.old ≡ length halves.firsts.now }
+    requires ways { length ways.old ≡ length levels.old }
+    requires currents { length currents.old ≡ length levels.old }
+    requires entries { length entries.old ≡ length levels.old }
+    requires queue { length queue.old ≡ length levels.old }
+    requires bounded { IsBounded rests.old }
+    requires entered { (v : ℕ) → v < length entries.old → slice_index entries.old v ≡ 0 }
+    ensures raised { IsRaised halves.entry.heads.now halves.entry.source halves.entry.sink 0 rests.old rests.new }
+    ensures source { slice_index levels.new halves.entry.source ≡ 0 }
+    ensures sink { slice_index levels.new halves.entry.sink ≡ 1 }
+    ensures closed { IsClosed halves.entry.heads.now rests.new levels.new }
+{
+    while search(halves, rests, levels, ways, queue) {
+        let amount = least_rest(halves, levels, ways, rests);
+        push(halves, levels, ways, amount, rests);
+        block(halves, levels, ways, currents, entries, rests);
+    }
+}
+
+/// Memory for computing flows, which may be lent to one computation after the other.
+#[derive(Debug, Drop)]
+pub struct Workspace {
+    heads: Vec<u32>,
+    nexts: Vec<u32>,
+    firsts: Vec<u32>,
+    rests: Vec<u64>,
+    levels: Vec<u32>,
+    ways: Vec<u32>,
+    currents: Vec<u32>,
+    entries: Vec<u32>,
+    queue: Vec<u32>,
+}
+
+/// Makes a list of zeros in the memory of a list.
+fn clear_to(list: &mut Vec<u32>, count: usize) -> Result<(), NoMemory>
+    ensures { OnOk result (list.new.items ≡ replicate count 0) }
+{
+    list.clear();
+    list.resize(count, 0)?;
+    Ok(())
+}
+
+impl Workspace {
+    /// Makes a workspace, which takes no memory yet.
+    pub fn new(alloc: Global) -> Self {
+        Workspace {
+            heads: Vec::new(alloc),
+            nexts: Vec::new(alloc),
+            firsts: Vec::new(alloc),
+            rests: Vec::new(alloc),
+            levels: Vec::new(alloc),
+            ways: Vec::new(alloc),
+            currents: Vec::new(alloc),
+            entries: Vec::new(alloc),
+            queue: Vec::new(alloc),
+        }
+    }
+
+    /// Takes the memory for a network of so many nodes and halves.
+    fn prepare(&mut self, nodes: usize, halves: usize) -> Result<(), NoMemory>
+        ensures { OnOk result (IsReady self.new nodes halves) }
+    {
+        clear_to(&mut self.heads, halves)?;
+        clear_to(&mut self.nexts, halves)?;
+        clear_to(&mut self.firsts, nodes)?;
+        self.rests.clear();
+        self.rests.resize(halves, 0)?;
+        clear_to(&mut self.levels, nodes)?;
+        clear_to(&mut self.ways, nodes)?;
+        clear_to(&mut self.currents, nodes)?;
+        clear_to(&mut self.entries, nodes)?;
+        clear_to(&mut self.queue, nodes)
+    }
+}
+
+/// Writes a maximum flow and the side of the source, and answers the capacity of the arcs that leave it.
+fn solve(
+    arcs: &[Arc],
+    space: &mut Workspace,
+    source: u32,
+    sink: u32,
+    flows: &mut [u64],
+    side: &mut [bool],
+) -> u128
+    requires nodes { length side.old ≤ 2 ^ 26 }
+    requires few { length arcs.now ≤ 2 ^ 28 }
+    requires joined { AreJoined (length side.old) arcs.now }
+    requires flows { length flows.old ≡ length arcs.now }
+    requires source { source < length side.old }
+    requires sink { sink < length side.old }
+    requires apart { source ≢ sink }
+    requires ready { IsReady space.old (length side.old) (2 * length arcs.now) }
+    ensures flow { IsFlow (record { nodes = length side.old; arcs = arcs.now; flows = flows.new }) source sink }
+    ensures cut { IsFilledCut (record { nodes = length side.old; arcs = arcs.now; flows = flows.new }) source sink result side.new }
+{
+    let heads = space.heads.as_mut_slice();
+    let nexts = space.nexts.as_mut_slice();
+    let firsts = space.firsts.as_mut_slice();
+    let rests = space.rests.as_mut_slice();
+    let levels = space.levels.as_mut_slice();
+    lay(arcs, heads, rests);
+    link(heads, nexts, firsts);
+    let halves = Halves {
+        heads,
+        nexts,
+        firsts,
+        source,
+        sink,
+    };
+    maximize(
+        halves,
+        rests,
+        levels,
+        space.ways.as_mut_slice(),
+        space.currents.as_mut_slice(),
+        space.entries.as_mut_slice(),
+        space.queue.as_mut_slice(),
+    );
+    flag_unreached(levels, side);
+    write_flows(rests, flows);
+    capacity_of(arcs, side)
+}
+
+impl Network {
+    /// Computes a maximum flow from one node to another, beginning without flow, and a cut that it
+    /// fills. Without memory the flows stay as they were.
+    pub fn max_flow(&mut self, source: u32, sink: u32) -> Result<Cut, NoMemory>
+        requires source { source < self.old.nodes }
+        requires sink { sink < self.old.nodes }
+        requires apart { source ≢ sink }
+        ensures kept { (self.new.nodes ≡ self.old.nodes) × (self.new.arcs ≡ self.old.arcs) }
+        ensures flow { OnOk result (IsFlow self.new source sink) }
+        ensures cut { IfOk result (λ cut. IsFilledCut self.new source sink cut.value cut.side) }
+        ensures err { OnErr result (self.new ≡ self.old) }
+    {
+        let mut space = Workspace::new(*self.arcs.allocator());
+        self.max_flow_in(&mut space, source, sink)
+    }
+
+    /// The same in the memory of a workspace.
+    pub fn max_flow_in(
+        &mut self,
+        space: &mut Workspace,
+        source: u32,
+        sink: u32,
+    ) -> Result<Cut, NoMemory>
+        requires source { source < self.old.nodes }
+        requires sink { sink < self.old.nodes }
+        requires apart { source ≢ sink }
+        ensures kept { (self.new.nodes ≡ self.old.nodes) × (self.new.arcs ≡ self.old.arcs) }
+        ensures flow { OnOk result (IsFlow self.new source sink) }
+        ensures cut { IfOk result (λ cut. IsFilledCut self.new source sink cut.value cut.side) }
+        ensures err { OnErr result (self.new ≡ self.old) }
+    {
+        let nodes = self.nodes as usize;
+        space.prepare(nodes, 2 * self.arcs.len())?;
+        let mut side = vec![in *self.arcs.allocator(); false; nodes]?;
+        let value = solve(
+            self.arcs.as_slice(),
+            space,
+            source,
+            sink,
+            self.flows.as_mut_slice(),
+            side.as_mut_slice(),
+        );
+        Ok(Cut {
+            value,
+            side: Flags::from_vec(side),
+        })
+    }
+}

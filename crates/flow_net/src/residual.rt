@@ -1,0 +1,30 @@
+//! The residual network: two halves for each arc, and the list of the halves that leave each node.
+
+ghost use Rattle.std.specs.Prelude.{◌≡◌, ◌≢◌, ℕ, ◌+◌, ◌*◌, ◌^◌, ◌<◌, ◌≤◌, length, slice_index};
+ghost use Rattle.flow_net.specs.Residual.{mate, IsLinked};
+
+/// The halves of the arcs: where each leads, and the lists of those that leave each node, between two nodes.
+#[derive(Clone, Copy)]
+pub(crate) struct Halves<'a> {
+    /// The node that each half leads to.
+    pub(crate) heads: &'a [u32],
+    /// One more than the next half that leaves the same node; 0 at the end.
+    pub(crate) nexts: &'a [u32],
+    /// One more than the first half that leaves each node; 0 where none does.
+    pub(crate) firsts: &'a [u32],
+    pub(crate) source: u32,
+    pub(crate) sink: u32,
+    ghost linked: { IsLinked heads.now nexts.now firsts.now },
+    ghost source_in: { source < length firsts.now },
+    ghost sink_in: { sink < length firsts.now },
+    ghost apart: { source ≢ sink },
+}
+
+/// The other half of the same arc.
+#[inline]
+pub(crate) fn mate(half: u32) -> u32
+    requires { half < 2 ^ 31 }
+    ensures { result ≡ mate half }
+{
+    half ^ 1
+}
