@@ -1,0 +1,10 @@
+pub mod Rows
+pub mod TimesLaws
+pub mod MarkLaws
+pub mod MassLaws
+pub mod PassLaws
+pub mod Law
+pub mod StateLaws
+pub mod RootLaws
+pub mod HoldLaws
+pub mod StateFacts

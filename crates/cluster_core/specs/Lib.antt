@@ -1,0 +1,5 @@
+pub mod State
+pub mod Events
+pub mod Run
+pub mod Balance
+pub mod Roots
