@@ -1,0 +1,7 @@
+pub mod KeyLaws
+pub mod VertexLaws
+pub mod RoomLaws
+pub mod MergeLaws
+pub mod SortedLaws
+pub mod CoarseLaws
+pub mod LedgerLaws

@@ -1,0 +1,4 @@
+pub mod Places
+pub mod Ledger
+pub mod Merging
+pub mod Keys

@@ -1,0 +1,82 @@
+//! The contraction of a hypergraph.
+
+ghost use Rattle.std.specs.Prelude.{◌≡◌, ◌≢◌, ◌<◌, ◌≤◌, ◌^◌, ℕ, length, slice_index, replicate, All, IfOk, OnOk};
+ghost use Rattle.std.specs.Prelude as images;
+ghost use Rattle.hg_defs.specs.Hypergraph.{vertex_count, net_count, net_of};
+ghost use Rattle.hg_defs.specs.Contraction.{IsFull, image};
+ghost use Rattle.hg_defs.specs.Contraction as contraction;
+ghost use Rattle.hg_defs.specs.Clustering.{cluster_count};
+ghost use Rattle.contract_nets.specs.Ledger.{IsLedger};
+ghost use Rattle.contract_nets.specs.Merging.{mapped_net, ArePlaces};
+
+use crate::images::map_nets;
+use crate::keys::{keys_of, sort_keys};
+use crate::ledger::{DROPPED, MergeLedger};
+use crate::merging::merge_nets;
+use crate::vertices::vertices_of;
+use hg_base::{FlatHyper, NoMemory};
+use incidence::Hypergraph;
+use std::alloc::Global;
+use std::thread::Threads;
+
+/// Contracts a hypergraph by a map that gives each vertex the number of its cluster and uses
+/// every number below the count of clusters. Each vertex that isn't free is to be alone in its
+/// cluster.
+///
+/// A cluster becomes a vertex of the weight of all its vertices, with the fix of the one that
+/// isn't free. A net becomes the set of its pins' clusters; nets of fewer than two are dropped,
+/// equal ones are merged and their weights added, and the coarse nets stand in lexicographic order
+/// of their pins. The ledger tells where each net went. The method is that of Mt-KaHyPar.
+pub fn contract(
+    rt: &(impl Threads + Sync),
+    alloc: Global,
+    h: &Hypergraph,
+    map: &[u32],
+) -> Result<(Hypergraph, MergeLedger), NoMemory>
+    requires { IsFull h.now map.now (cluster_count map.now) }
+    ensures coarse { IfOk result (λ pair. pair.0 ≡ contraction.contract h.now map.now (cluster_count map.now)) }
+    ensures ledger { IfOk result (λ pair. IsLedger h.now map.now pair.0 pair.1) }
+{
+    let mut places = vec![in alloc; DROPPED; h.nets() as usize]?;
+    let coarse = merge(rt, alloc, h, map, places.as_mut_slice())?;
+    Ok((
+        Hypergraph::build(alloc, coarse)?,
+        MergeLedger::from_places(places),
+    ))
+}
+
+/// The coarse hypergraph; writes the place of each net into a list that has `DROPPED` throughout.
+fn merge(
+    rt: &(impl Threads + Sync),
+    alloc: Global,
+    h: &Hypergraph,
+    map: &[u32],
+    places: &mut [u32],
+) -> Result<FlatHyper, NoMemory>
+    requires full { IsFull h.now map.now (cluster_count map.now) }
+    requires places { places.old ≡ replicate (net_count h.now) DROPPED }
+    ensures coarse { IfOk result (λ coarse. coarse ≡ contraction.contract h.now map.now (cluster_count map.now)) }
+    ensures placed { IfOk result (λ coarse. ArePlaces (images.map (mapped_net map.now) h.now.nets) (images.map (λ e. e.pins) coarse.nets) places.new) }
+    ensures all { OnOk result ((e : ℕ) → e < net_count h.now → 2 ≤ length (image map.now (net_of h.now e)) → slice_index places.new e ≢ DROPPED) }
+{
+    let _vertices = h.vertices();
+    let count = count_of(map);
+    let nets = map_nets(alloc, h, map, count)?;
+    let mut keys = keys_of(alloc, &nets)?;
+    sort_keys(rt, &mut keys);
+    let mut coarse = vertices_of(alloc, h, map, count)?;
+    merge_nets(&nets, &keys, &mut coarse, places)?;
+    Ok(coarse)
+}
+
+/// One more than the greatest number, or 0 where there is none.
+fn count_of(map: &[u32]) -> u32
+    requires { All (λ i. i < 2 ^ 22) map.now }
+    ensures { result ≡ cluster_count map.now }
+{
+    let mut count = 0;
+    for i in map {
+        count = count.max(*i + 1);
+    }
+    count
+}

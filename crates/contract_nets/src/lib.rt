@@ -1,0 +1,18 @@
+//! Contraction: the vertices of each cluster become one, and nets with equal sets of clusters
+//! become one net.
+#![tactic(auto)]
+
+mod contraction;
+mod images;
+mod keys;
+mod ledger;
+mod merging;
+mod vertices;
+
+pub use contraction::contract;
+pub use hg_base::NoMemory;
+pub use incidence::Hypergraph;
+pub use ledger::{MergeLedger, Merged};
+
+#[cfg(test)]
+mod tests;
