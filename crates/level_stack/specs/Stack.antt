@@ -1,0 +1,33 @@
+-- A stack of levels: each is the contraction of the one below it, and the books of each contraction are kept.
+use Rattle.std.specs.Prelude.{◌≡◌, ℕ, suc, ◌+◌, ◌<◌, ◌^◌, List, [], length, slice_index_or}
+use Rattle.hg_defs.specs.Hypergraph.{Hyper}
+use Rattle.hg_defs.specs.Contraction.{IsFull, IsApart}
+use Rattle.hg_defs.specs.Clustering.{cluster_count}
+use Rattle.hg_defs.specs.Levels.{level}
+use Rattle.hg_defs.specs.LevelLaws.{map_of}
+use Rattle.contract_nets.specs.declared.ledger.Merged.{Merged}
+use Rattle.contract_nets.specs.Ledger.{IsLedger}
+
+-- the first level, the clusterings that lead from each level to the next, and the ledgers of these contractions
+pub record Stack : Type 0 where
+  pub base : Hyper
+  pub maps : List (List ℕ)
+  pub ledgers : List (List Merged)
+
+-- the ledger of a number
+abbrev pub ledger_of : Stack → ℕ → List Merged
+ledger_of s i = let no_ledger : List Merged = [] in slice_index_or s.ledgers i no_ledger
+
+-- a clustering and a ledger that lead from a level to the next
+pub record LeadsUp (fine : Hyper) (clusters : List ℕ) (coarse : Hyper) (ledger : List Merged) : Type 0 where
+  pub full : IsFull fine clusters (cluster_count clusters)
+  pub apart : IsApart fine clusters
+  pub books : IsLedger fine clusters coarse ledger
+
+-- the levels above the first one are kept, and each clustering and ledger leads to the next level
+pub record IsStacked (s : Stack) (above : List Hyper) : Type 0 where
+  pub levels : length above ≡ length s.maps
+  pub ledgers : length s.ledgers ≡ length s.maps
+  pub few : length s.maps + 1 < 2 ^ 32
+  pub at : (i : ℕ) (h : Hyper) → i < length s.maps → slice_index_or above i h ≡ level s.base s.maps (suc i)
+  pub leads : (i : ℕ) → i < length s.maps → LeadsUp (level s.base s.maps i) (map_of s.maps i) (level s.base s.maps (suc i)) (ledger_of s i)

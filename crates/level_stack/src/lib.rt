@@ -1,0 +1,11 @@
+//! The levels of a coarsening, the finest first.
+#![tactic(auto)]
+
+mod stack;
+#[cfg(test)]
+mod tests;
+
+pub use contract_nets::{MergeLedger, Merged};
+pub use hg_base::{MapList, NoMemory};
+pub use incidence::Hypergraph;
+pub use stack::LevelStack;
