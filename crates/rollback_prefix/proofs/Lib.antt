@@ -1,0 +1,9 @@
+pub mod PinLaws
+pub mod PlaceLaws
+pub mod NetLaws
+pub mod LoadLaws
+pub mod BestLaws
+pub mod StepLaws
+pub mod KernelLaws
+pub mod SavingLaws
+pub mod UndoLaws

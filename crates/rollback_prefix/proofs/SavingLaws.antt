@@ -1,0 +1,251 @@
+-- Laws of what nets save together: net by net, part by part, and all nets that moves touch.
+use Rattle.std.proofs.Common.{◌≡◌, ◌≢◌, ℕ, zero, suc, ◌+◌, ◌-◌, ◌*◌, ◌^◌, ◌<◌, ◌≤◌, ◌⊎◌, inl, inr, List, [], ◌∷◌, take, drop, length, get_or, replicate, All, AllPairs, Contains, ℤ, pos, ◌+ℤ◌, ◌-ℤ◌, ◌≤ℤ◌, refl, sym, ap, ap₂, ◌∙◌, subst, arith, add-one, if◌then◌else◌, nat_eq, Bool, true, false, map, ◌++◌, ◌/◌, ◌%◌, min}
+use Rattle.std.proofs.Math.Seq.{take-add}
+use Rattle.std.proofs.lemmas.Int.{ints}
+use Rattle.std.proofs.lemmas.List.{take_all, length-replicate}
+use Rattle.std.proofs.lemmas.Bool.{cases_eq, eqb-true, eqb-false}
+use Rattle.std.proofs.lemmas.List.Elements.{All-head, All-tail}
+use Rattle.hg_defs.specs.declared.moves.Move.{Move}
+use Rattle.hg_defs.specs.Sums.{total, sum_below}
+use Rattle.hg_defs.specs.Hypergraph.{Net, Hyper, IsWithinLimits, IsHypergraph, vertex_count, net_count, net_of}
+use Rattle.hg_defs.specs.Incidence.{nets_of}
+use Rattle.hg_defs.specs.Cost.{cost, net_cost}
+use Rattle.hg_defs.specs.Replay.{replay_first, replay_gain}
+use Rattle.hg_defs.proofs.SumLaws.{total-take_more, total-append, total-take-le, total-take-drop, total-le, total-by_index, sum_below-change, sum_below-same, sum_below-le, total-same}
+use Rattle.hg_base.proofs.CountLaws.{net_cost-le}
+use Rattle.std.specs.List.{range_with_len, AllZip}
+use Rattle.std.specs.Set.{is_member}
+use Rattle.std.proofs.lemmas.List.{take-append-le, get_or_default}
+use Rattle.std.proofs.lemmas.List.FromFn.{length-range_with_len, get_or-range_with_len}
+use Rattle.std.proofs.lemmas.List.Elements.{Contains-get_or, All-take, All-drop}
+use Rattle.std.proofs.lemmas.Bool.Decides.{Decides-eqb}
+use Rattle.std.proofs.lemmas.Map.Made.{is_member-Decides}
+use Rattle.std.proofs.Math.Nat.{mul-le-mul_right}
+use Rattle.std.proofs.lemmas.Grind.{div_ceil_times}
+use Rattle.hg_defs.specs.Cost.{connectivity, price}
+use Rattle.hg_defs.specs.Partition.{block_of}
+use Rattle.std.specs.Set.{distinct_count}
+use Rattle.hg_defs.proofs.PlacementLaws.{Contains_filter}
+use Rattle.hg_defs.specs.Incidence.{is_on}
+use Rattle.rollback_prefix.specs.Steps.{AreReplayGains}
+use Rattle.rollback_prefix.proofs.StepLaws.{no_move}
+use Rattle.rollback_prefix.proofs.KernelLaws.{quiet_one}
+use Rattle.rollback_prefix.specs.Gains.{AreSavings, AreSmall, AreTouched, cost_of_nets, saved_by_nets, saved_by_net, pin_weight, part_of}
+
+-- ---- small sums
+
+pub cost_of_nets-le : (h : Hyper) (p : List ℕ) (nets : List ℕ) → cost_of_nets h p nets ≤ pin_weight h nets
+cost_of_nets-le h p nets = total-le (λ e. net_cost h.objective p (net_of h e)) (λ e. (net_of h e).weight * length (net_of h e).pins) nets (λ k d l. net_cost-le h.objective p (net_of h (get_or nets k d)))
+
+pub savings_small : (h : Hyper) (p : List ℕ) (moves : List Move) (nets : List ℕ) (gains : List ℤ) → AreSavings h p moves nets gains → pin_weight h nets < 2 ^ 57 → AreSmall gains
+savings_small h p moves nets gains s few i l =
+    let is = s.each i (let n = s.size in omega arith) in
+    let a = cost_of_nets-le h (replay_first p moves i) nets in
+    let b = cost_of_nets-le h (replay_first p moves (i + 1)) nets in
+    (within_low (get_or gains i (pos 0)) (cost_of_nets h (replay_first p moves i) nets) (cost_of_nets h (replay_first p moves (i + 1)) nets) is (omega arith), within_high (get_or gains i (pos 0)) (cost_of_nets h (replay_first p moves i) nets) (cost_of_nets h (replay_first p moves (i + 1)) nets) is (omega arith))
+  where
+    within_low : (g : ℤ) (x y : ℕ) → g ≡ pos x -ℤ pos y → y < 2 ^ 57 → (pos 0 -ℤ pos (2 ^ 60)) ≤ℤ g
+    within_low g x y e l = omega (arith, ints)
+
+    within_high : (g : ℤ) (x y : ℕ) → g ≡ pos x -ℤ pos y → x < 2 ^ 57 → g ≤ℤ pos (2 ^ 60)
+    within_high g x y e l = omega (arith, ints)
+
+-- ---- net by net
+
+zero_at : (n i : ℕ) → get_or (replicate n (pos 0)) i (pos 0) ≡ pos 0
+zero_at zero i = refl
+zero_at (suc n) zero = refl
+zero_at (suc n) (suc i) = zero_at n i
+
+pub savings_none : (h : Hyper) (p : List ℕ) (moves : List Move) → AreSavings h p moves [] (replicate (length moves) (pos 0))
+savings_none h p moves = record {
+  size = length-replicate (length moves) (pos 0);
+  each = λ i l. zero_at (length moves) i;
+}
+
+joined : (g o : ℤ) (a b x y m n : ℕ) → o ≡ pos a -ℤ pos b → g ≡ o +ℤ (pos x -ℤ pos y) → m ≡ a + x → n ≡ b + y → g ≡ pos m -ℤ pos n
+joined g o a b x y m n e f i j = omega (arith, ints)
+
+pub savings_more : (h : Hyper) (p : List ℕ) (moves : List Move) (nets : List ℕ) (j : ℕ) (old new : List ℤ) → j < length nets → AreSavings h p moves (take j nets) old → length new ≡ length moves
+    → ((i : ℕ) → i < length moves → get_or new i (pos 0) ≡ get_or old i (pos 0) +ℤ saved_by_net h p moves (get_or nets j 0) i)
+    → AreSavings h p moves (take (j + 1) nets) new
+savings_more h p moves nets j old new l s long added = record {
+  size = long;
+  each = λ i m. joined (get_or new i (pos 0)) (get_or old i (pos 0))
+      (cost_of_nets h (replay_first p moves i) (take j nets)) (cost_of_nets h (replay_first p moves (i + 1)) (take j nets))
+      (net_cost h.objective (replay_first p moves i) (net_of h (get_or nets j 0))) (net_cost h.objective (replay_first p moves (i + 1)) (net_of h (get_or nets j 0)))
+      (cost_of_nets h (replay_first p moves i) (take (j + 1) nets)) (cost_of_nets h (replay_first p moves (i + 1)) (take (j + 1) nets))
+      (s.each i m) (added i m)
+      (total-take_more (λ e. net_cost h.objective (replay_first p moves i) (net_of h e)) nets j 0 l)
+      (total-take_more (λ e. net_cost h.objective (replay_first p moves (i + 1)) (net_of h e)) nets j 0 l);
+}
+
+-- ---- part by part
+
+pub savings_joined : (h : Hyper) (p : List ℕ) (moves : List Move) (nets : List ℕ) (size j : ℕ) (old part new : List ℤ) → AreSavings h p moves (take (j * size) nets) old → AreSavings h p moves (part_of nets size j) part → length new ≡ length moves
+    → ((i : ℕ) → i < length moves → get_or new i (pos 0) ≡ get_or old i (pos 0) +ℤ get_or part i (pos 0))
+    → AreSavings h p moves (take ((j + 1) * size) nets) new
+savings_joined h p moves nets size j old part new s t long added = record {
+  size = long;
+  each = λ i m. joined (get_or new i (pos 0)) (get_or old i (pos 0))
+      (cost_of_nets h (replay_first p moves i) (take (j * size) nets)) (cost_of_nets h (replay_first p moves (i + 1)) (take (j * size) nets))
+      (cost_of_nets h (replay_first p moves i) (part_of nets size j)) (cost_of_nets h (replay_first p moves (i + 1)) (part_of nets size j))
+      (cost_of_nets h (replay_first p moves i) (take ((j + 1) * size) nets)) (cost_of_nets h (replay_first p moves (i + 1)) (take ((j + 1) * size) nets))
+      (s.each i m) (added i m ∙ ap (λ z. get_or old i (pos 0) +ℤ z) (t.each i m))
+      (whole (λ e. net_cost h.objective (replay_first p moves i) (net_of h e)))
+      (whole (λ e. net_cost h.objective (replay_first p moves (i + 1)) (net_of h e)));
+}
+  where
+    whole : (f : ℕ → ℕ) → total f (take ((j + 1) * size) nets) ≡ total f (take (j * size) nets) + total f (part_of nets size j)
+    whole f =
+        let e : (j + 1) * size ≡ j * size + size = omega arith in
+        ap (λ n. total f (take n nets)) e ∙ ap (total f) (take-add (j * size) size nets) ∙ total-append f (take (j * size) nets) (take size (drop (j * size) nets))
+
+pub part_weight-le : (h : Hyper) (nets : List ℕ) (size j : ℕ) → pin_weight h (part_of nets size j) ≤ pin_weight h nets
+part_weight-le h nets size j =
+    let f = λ (e : ℕ). (net_of h e).weight * length (net_of h e).pins in
+    let a = total-take-le f (drop (j * size) nets) size in
+    let b = total-take-drop f nets (j * size) in
+    omega arith
+
+pub savings_whole : (h : Hyper) (p : List ℕ) (moves : List Move) (nets : List ℕ) (n : ℕ) (gains : List ℤ) → length nets ≤ n → AreSavings h p moves (take n nets) gains → AreSavings h p moves nets gains
+savings_whole h p moves nets n gains l s = subst (λ (xs : List ℕ). AreSavings h p moves xs gains) (take_all n nets l) s
+
+pub written : {A : Type 0} (n : ℕ) (new old : List A) → length new ≡ n → take n (new ++ drop (length new) old) ≡ new
+written n new old e = take-append-le n new (drop (length new) old) (omega arith) ∙ take_all n new (omega arith)
+
+-- ---- all nets
+
+only_if : Bool → ℕ → ℕ → ℕ
+only_if t x y = if t then x else y
+
+-- two sums over the numbers below a bound differ by what they differ on a list of them
+change_all : (m : ℕ) (g : ℕ → ℕ) (nets : List ℕ) → All (λ e. e < m) nets → AllPairs (λ a b. a ≢ b) nets → (f : ℕ → ℕ) → ((e : ℕ) → e < m → (Contains nets e → ⊥) → f e ≡ g e)
+    → sum_below f m + total g nets ≡ sum_below g m + total f nets
+change_all m g [] low once f h = let e = sum_below-same f g m (λ i l. h i l (λ c. let n = c.1 in absurd (omega arith))) in omega arith
+change_all m g (x ∷ nets) low once f h =
+    let inside = All-head (λ e. e < m) x nets low in
+    let next = λ (e : ℕ). if nat_eq e x then g e else f e in
+    let rest = change_all m g nets (All-tail (λ e. e < m) x nets low) (λ i j d l n. once (suc i) (suc j) d (omega arith) (omega arith)) next (λ e l q. outside e l q (nat_eq e x) refl) in
+    let change = sum_below-change f next m x inside (λ j l q. sym (elsewhere j q (nat_eq j x) refl)) in
+    let here : next x ≡ g x = at (nat_eq x x) refl in
+    let same : total next nets ≡ total f nets = total-same next f nets (λ k d l. elsewhere (get_or nets k d) (λ q. once 0 (suc k) d (omega arith) (omega arith) (sym q)) (nat_eq (get_or nets k d) x) refl) in
+    omega arith
+  where
+    elsewhere : (j : ℕ) → j ≢ x → (t : Bool) → nat_eq j x ≡ t → (if t then g j else f j) ≡ f j
+    elsewhere j q true e = absurd (q (eqb-true j x e))
+    elsewhere j q false e = refl
+
+    at : (t : Bool) → nat_eq x x ≡ t → (if t then g x else f x) ≡ g x
+    at true e = refl
+    at false e = absurd (eqb-false x x e refl)
+
+    outside : (e : ℕ) → e < m → (Contains nets e → ⊥) → (t : Bool) → nat_eq e x ≡ t → (if t then g e else f e) ≡ g e
+    outside e l q true r = refl
+    outside e l q false r = h e l (λ c. by (c.0) c.1 c.2)
+      where
+        by : (k : ℕ) → k < length (x ∷ nets) → get_or (x ∷ nets) k e ≡ e → ⊥
+        by zero n s = eqb-false e x r (sym s)
+        by (suc k) n s = q (k, omega arith, s)
+
+-- a sum over different numbers is within the sum over all
+total_within : (m : ℕ) (f : ℕ → ℕ) (nets : List ℕ) → All (λ e. e < m) nets → AllPairs (λ a b. a ≢ b) nets → total f nets ≤ sum_below f m
+total_within m f nets low once =
+    let g = λ (e : ℕ). if is_member nat_eq nets e then 0 else f e in
+    let law = change_all m g nets low once f (λ e l q. sym (outside e q (is_member nat_eq nets e) refl)) in
+    let less = sum_below-le g f m (λ i l. at-le i (is_member nat_eq nets i)) in
+    let zero_here : total g nets ≡ 0 = total-same g (λ e. 0) nets (λ k d l. inside (get_or nets k d) (Contains-get_or nets k d l) (is_member nat_eq nets (get_or nets k d)) refl) ∙ none nets in
+    omega arith
+  where
+    outside : (e : ℕ) → (Contains nets e → ⊥) → (t : Bool) → is_member nat_eq nets e ≡ t → (if t then 0 else f e) ≡ f e
+    outside e q true r = absurd (q ((is_member-Decides Decides-eqb nets e).0 r))
+    outside e q false r = refl
+
+    inside : (e : ℕ) → Contains nets e → (t : Bool) → is_member nat_eq nets e ≡ t → (if t then 0 else f e) ≡ 0
+    inside e c true r = refl
+    inside e c false r = absurd (let x = (is_member-Decides Decides-eqb nets e).1 c in cc)
+
+    at-le : (e : ℕ) (t : Bool) → (if t then 0 else f e) ≤ f e
+    at-le e true = omega arith
+    at-le e false = omega arith
+
+    none : (xs : List ℕ) → total (λ e. 0) xs ≡ 0
+    none [] = refl
+    none (x ∷ xs) = let e = none xs in omega arith
+
+no_net : Net
+no_net = record { weight = 0; pins = [] }
+
+-- what different nets weigh, each for each pin, is small
+pub touched_small : (h : Hyper) (moves : List Move) (nets : List ℕ) → IsWithinLimits h → AreTouched h moves nets → pin_weight h nets < 2 ^ 57
+touched_small h moves nets bounds t =
+    let a = total_within (net_count h) (λ e. (net_of h e).weight * length (net_of h e).pins) nets t.below t.once in
+    let b = total-by_index (λ (e : Net). e.weight * length e.pins) (record { weight = 0; pins = [] }) h.nets in
+    let c = bounds.pin_weight in
+    omega arith
+
+cost_by_number : (h : Hyper) (p : List ℕ) → cost h p ≡ sum_below (λ e. net_cost h.objective p (net_of h e)) (net_count h)
+cost_by_number h p = total-by_index (net_cost h.objective p) (record { weight = 0; pins = [] }) h.nets
+
+-- a net that no move touches costs the same before and after it
+untouched_same : (h : Hyper) (p : List ℕ) (moves : List Move) (nets : List ℕ) (i e : ℕ) → AreTouched h moves nets → i < length moves → e < net_count h → (Contains nets e → ⊥)
+    → net_cost h.objective (replay_first p moves i) (net_of h e) ≡ net_cost h.objective (replay_first p moves (i + 1)) (net_of h e)
+untouched_same h p moves nets i e t here low q =
+    ap (λ (xs : List ℕ). (net_of h e).weight * price h.objective (distinct_count nat_eq xs))
+    (sym (quiet_one p (net_of h e).pins moves i here (λ c. q (t.all i no_move e here (on (get_or moves i no_move).vertex c)))))
+  where
+    on : (v : ℕ) → Contains (net_of h e).pins v → Contains (nets_of h v) e
+    on v c =
+        let m = length-range_with_len 0 (net_count h) in
+        Contains_filter (is_on h v) (range_with_len 0 (net_count h)) e (e, omega arith, get_or-range_with_len 0 (net_count h) e e low ∙ omega arith)
+        ((is_member-Decides Decides-eqb (net_of h e).pins v).1 c)
+
+-- what the touched nets save is what each move gains
+pub touched_gains : (h : Hyper) (p : List ℕ) (moves : List Move) (nets : List ℕ) (gains : List ℤ) → AreTouched h moves nets → AreSavings h p moves nets gains → AreReplayGains h p moves gains
+touched_gains h p moves nets gains t s = record {
+  size = s.size;
+  each = λ i l. s.each i l ∙ difference
+      (cost_of_nets h (replay_first p moves i) nets) (cost_of_nets h (replay_first p moves (i + 1)) nets) (cost h (replay_first p moves i)) (cost h (replay_first p moves (i + 1)))
+      (let a = cost_by_number h (replay_first p moves i) in
+      let b = cost_by_number h (replay_first p moves (i + 1)) in
+      let c = change_all (net_count h) (λ e. net_cost h.objective (replay_first p moves (i + 1)) (net_of h e)) nets t.below t.once (λ e. net_cost h.objective (replay_first p moves i) (net_of h e)) (λ e m q. untouched_same h p moves nets i e t l m q) in
+      omega arith);
+}
+  where
+    difference : (a b x y : ℕ) → x + b ≡ y + a → pos a -ℤ pos b ≡ pos x -ℤ pos y
+    difference a b x y e = omega (arith, ints)
+
+-- ---- the parts that threads work out
+
+pub zip_at : {A B : Type 0} (R : A → B → Type 0) (xs : List A) (ys : List B) (i : ℕ) (d : A) (e : B) → AllZip R xs ys → i < length ys → R (get_or xs i d) (get_or ys i e)
+zip_at R [] [] i d e z l = absurd (omega arith)
+zip_at R [] (y ∷ ys) i d e z l = absurd z
+zip_at R (x ∷ xs) [] i d e z l = absurd z
+zip_at R (x ∷ xs) (y ∷ ys) zero d e z l = z.0
+zip_at R (x ∷ xs) (y ∷ ys) (suc i) d e z l = zip_at R xs ys i d e z.1 (omega arith)
+
+pub zip_long : {A B : Type 0} (R : A → B → Type 0) (xs : List A) (ys : List B) → AllZip R xs ys → length xs ≡ length ys
+zip_long R [] [] z = refl
+zip_long R [] (y ∷ ys) z = absurd z
+zip_long R (x ∷ xs) [] z = absurd z
+zip_long R (x ∷ xs) (y ∷ ys) z = ap suc (zip_long R xs ys z.1)
+
+-- a part begins before the end
+pub part_begins : (n size j parts : ℕ) → 0 < size → parts ≡ n / size + min 1 (n % size) → j < parts → j * size < n
+part_begins n size j parts s e l =
+    let a = div_ceil_times n size s in
+    let b : (j + 1) * size ≤ parts * size = mul-le-mul_right size (omega arith) in
+    let c : (j + 1) * size ≡ j * size + size = omega arith in
+    let d : parts * size ≡ (n / size + min 1 (n % size)) * size = ap (λ x. x * size) e in
+    let f = a.1 in
+    omega arith
+
+pub parts_cover : (n size parts : ℕ) → 0 < size → parts ≡ n / size + min 1 (n % size) → n ≤ parts * size
+parts_cover n size parts s e =
+    let a = div_ceil_times n size s in
+    let d : parts * size ≡ (n / size + min 1 (n % size)) * size = ap (λ x. x * size) e in
+    let f = a.0 in
+    omega arith
+
+pub part_below : (m : ℕ) (nets : List ℕ) (size j : ℕ) → All (λ e. e < m) nets → All (λ e. e < m) (part_of nets size j)
+part_below m nets size j a = All-take (λ e. e < m) size (drop (j * size) nets) (All-drop (λ e. e < m) (j * size) nets a)

@@ -1,0 +1,4 @@
+pub mod Steps
+pub mod Pins
+pub mod Gains
+pub mod Loads

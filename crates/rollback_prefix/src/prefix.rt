@@ -1,0 +1,141 @@
+//! The prefix of moves that is worth keeping.
+
+ghost use Rattle.std.specs.Prelude.{◌≡◌, ℕ, ◌+◌, ◌-◌, ◌<◌, ◌≤◌, ◌^◌, All, IfOk, OnErr, length, slice_index, slice_set};
+ghost use Rattle.hg_defs.specs.Hypergraph.{vertex_count, IsHypergraph, IsWithinLimits};
+ghost use Rattle.hg_defs.specs.Partition.{IsPartition, Fits};
+ghost use Rattle.hg_defs.specs.Replay.{replay_first, undone, best_prefix};
+ghost use Rattle.pin_plain.specs.Parted.{IsLoaded, loads_after};
+ghost use Rattle.rollback_prefix.specs.Steps.{StartFrom, EndAt, AreReplayGains};
+ghost use Rattle.rollback_prefix.specs.Loads.{overloaded};
+
+use crate::gains::recalculate;
+use hg_base::{Move, NoMemory};
+use incidence::Hypergraph;
+use pin_plain::Partition;
+use std::alloc::Global;
+use std::thread::Threads;
+
+/// The load of each block.
+fn loads_of(alloc: Global, p: &Partition) -> Result<Vec<u64>, NoMemory>
+    ensures { IfOk result (λ loads. IsLoaded p.now.hyper p.now.k p.now.blocks loads.items) }
+{
+    let mut loads = Vec::with_capacity(alloc, p.k() as usize)?;
+    for b in 0..p.k() {
+        loads.push(p.weight(b))?;
+    }
+    Ok(loads)
+}
+
+/// Undoes moves in a list of blocks and in their loads.
+fn undo_in_lists(h: &Hypergraph, moves: &[Move], blocks: &mut [u32], loads: &mut [u64])
+    requires partition { IsPartition h.now (length loads.old) blocks.old }
+    requires moves { EndAt h.now (length loads.old) blocks.old moves.now }
+    requires loaded { IsLoaded h.now (length loads.old) blocks.old loads.old }
+    ensures blocks { blocks.new ≡ undone blocks.old moves.now }
+    ensures loaded { IsLoaded h.now (length loads.old) blocks.new loads.new }
+{
+    let _vertices = h.vertices();
+    for step in moves {
+        let weight = h.vertex_weight(step.vertex);
+        loads[step.to as usize] -= weight;
+        loads[step.from as usize] += weight;
+        blocks[step.vertex as usize] = step.from;
+    }
+}
+
+/// Replaces the load of a block, and answers how many loads are past the limit then.
+fn set_load(loads: &mut [u64], limit: u64, over: u32, b: u32, load: u64) -> u32
+    requires block { b < length loads.old }
+    requires few { length loads.old ≤ 256 }
+    requires over { over ≡ overloaded limit loads.old }
+    ensures loads { loads.new ≡ slice_set loads.old b load }
+    ensures over { result ≡ overloaded limit loads.new }
+{
+    let others = over - u32::from(loads[b as usize] > limit);
+    loads[b as usize] = load;
+    others + u32::from(load > limit)
+}
+
+/// The length of the shortest best prefix of moves that start from `before`, a partition with these
+/// loads, by the gains that they have as they are replayed.
+fn best_length(
+    h: &Hypergraph,
+    before: &[u32],
+    moves: &[Move],
+    gains: &[i64],
+    limit: u64,
+    loads: &mut [u64],
+) -> usize
+    requires few { length loads.old ≤ 256 }
+    requires partition { IsPartition h.now (length loads.old) before.now }
+    requires moves { StartFrom h.now (length loads.old) before.now moves.now }
+    requires gains { AreReplayGains h.now before.now moves.now gains.now }
+    requires loaded { IsLoaded h.now (length loads.old) before.now loads.old }
+    requires fits { Fits h.now (length loads.old) limit before.now }
+    ensures best { result ≡ best_prefix h.now (length loads.old) limit before.now moves.now }
+    ensures within { result ≤ length moves.now }
+{
+    let _vertices = h.vertices();
+    let (mut kept, mut most, mut saved, mut over) = (0, 0, 0, 0);
+    for (i, step) in moves.iter().enumerate() {
+        let weight = h.vertex_weight(step.vertex);
+        let left = loads[step.from as usize] - weight;
+        over = set_load(loads, limit, over, step.from, left);
+        let joined = loads[step.to as usize] + weight;
+        over = set_load(loads, limit, over, step.to, joined);
+        saved += gains[i];
+        if over == 0 && saved > most {
+            kept = i + 1;
+            most = saved;
+        }
+    }
+    kept
+}
+
+/// Undoes moves in a partition.
+fn undo(h: &Hypergraph, p: &mut Partition, moves: &[Move])
+    requires belongs { p.old.hyper ≡ h.now }
+    requires vertices { All (λ m. m.vertex < vertex_count h.now) moves.now }
+    requires blocks { All (λ m. m.from < p.old.k) moves.now }
+    ensures { p.new ≡ record p.old { blocks = undone p.old.blocks moves.now } }
+{
+    for step in moves {
+        p.shift(h, step.vertex, step.from);
+    }
+}
+
+/// Undoes the moves behind the shortest best prefix: the shortest of those prefixes that fit and cost
+/// no more than any prefix that fits. Answers its length.
+///
+/// The partition stands after all the moves, which are of different vertices, and the partition before
+/// them fits. The gains are recalculated as the moves are replayed, so that the moves may book what
+/// they like. All memory is taken before the partition is changed.
+pub fn roll_back<R: Threads + Sync>(
+    rt: &R,
+    alloc: Global,
+    h: &Hypergraph,
+    p: &mut Partition,
+    moves: &[Move],
+) -> Result<u32, NoMemory>
+    requires belongs { p.old.hyper ≡ h.now }
+    requires moves { EndAt h.now p.old.k p.old.blocks moves.now }
+    requires fits { Fits h.now p.old.k p.old.limit (undone p.old.blocks moves.now) }
+    ensures kept { IfOk result (λ kept. kept ≡ best_prefix h.now p.old.k p.old.limit (undone p.old.blocks moves.now) moves.now) }
+    ensures partition { IfOk result (λ kept. p.new ≡ record p.old { blocks = replay_first (undone p.old.blocks moves.now) moves.now kept }) }
+    ensures refused { OnErr result (p.new ≡ p.old) }
+{
+    let mut before = Vec::from_slice(alloc, p.blocks())?;
+    let mut loads = loads_of(alloc, p)?;
+    undo_in_lists(h, moves, before.as_mut_slice(), loads.as_mut_slice());
+    let gains = recalculate(rt, alloc, h, p.k(), before.as_slice(), moves)?;
+    let kept = best_length(
+        h,
+        before.as_slice(),
+        moves,
+        gains.slice(),
+        p.limit(),
+        loads.as_mut_slice(),
+    );
+    undo(h, p, &moves[kept..]);
+    Ok(kept as u32)
+}
