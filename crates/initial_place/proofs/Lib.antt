@@ -1,0 +1,4 @@
+pub mod LeadLaws
+pub mod DrawLaws
+pub mod InnerLaws
+pub mod WorseLaws

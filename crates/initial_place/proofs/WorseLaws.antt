@@ -1,0 +1,26 @@
+-- Laws of partitions that are no worse than others.
+use Rattle.std.proofs.Common.{ℕ, ◌≤◌, List, Result, Ok, Err, IfOk, arith}
+use Rattle.hg_defs.specs.declared.memory.NoMemory.{NoMemory}
+use Rattle.hg_defs.specs.Hypergraph.{Hyper}
+use Rattle.initial_place.specs.Cheapest.{IsFirstCheapest, IsNoDearer}
+use Rattle.initial_place.specs.NoWorse.{IsNoWorse}
+
+pub no_worse_same : (h : Hyper) (k l : ℕ) (p : List ℕ) → IsNoWorse h k l p p
+no_worse_same h k l p = record { partition = λ x. x; fits = λ x. x; fixes = λ x. x; cost = omega arith }
+
+pub no_worse_after : (h : Hyper) (k l : ℕ) (p q r : List ℕ) → IsNoWorse h k l p q → IsNoWorse h k l q r → IsNoWorse h k l p r
+no_worse_after h k l p q r x y = record {
+  partition = λ a. y.partition (x.partition a);
+  fits = λ a. y.fits (x.fits a);
+  fixes = λ a. y.fixes (x.fixes a);
+  cost = let a = x.cost in let b = y.cost in omega arith;
+}
+
+-- the same of an answer
+pub answer_after : (h : Hyper) (k l : ℕ) (p q : List ℕ) (r : Result (List ℕ) NoMemory) → IsNoWorse h k l p q → IfOk r (IsNoWorse h k l q) → IfOk r (IsNoWorse h k l p)
+answer_after h k l p q (Ok s) x y = no_worse_after h k l p q s x y
+answer_after h k l p q (Err e) x y = tt
+
+-- what is no worse than the first of the cheapest costs no more than any of them
+pub no_dearer_after : (h : Hyper) (k l : ℕ) (ps : List (List ℕ)) (p q : List ℕ) → IsFirstCheapest h k l ps p → IsNoWorse h k l p q → IsNoDearer h k l ps q
+no_dearer_after h k l ps p q best worse i d low fits = let a = best.1.cheapest i d low fits in let b = worse.cost in omega arith

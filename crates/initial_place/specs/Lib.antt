@@ -1,0 +1,5 @@
+pub mod Cheapest
+pub mod Drawn
+pub mod Leading
+pub mod Shapes
+pub mod NoWorse

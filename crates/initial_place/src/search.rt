@@ -1,0 +1,151 @@
+//! The search for a placement that is cheaper than the named ones.
+//!
+//! It tries candidates: growings, recursive bisections, and perturbations of the best one. What it
+//! keeps beside a candidate only leads it, so nothing is said of it but the sizes of its arrays. A
+//! candidate is taken by exact tests alone.
+
+ghost use Rattle.std.specs.Prelude.{◌≡◌, ◌+◌, ◌*◌, ◌<◌, ◌≤◌, ◌^◌, IfOk};
+ghost use Rattle.hg_defs.specs.Hypergraph.{vertex_count, IsFixedWithin, Suits};
+ghost use Rattle.hg_defs.specs.Partition.{IsPartition};
+ghost use Rattle.initial_place.specs.NoWorse.{IsNoWorse};
+ghost use Rattle.initial_place.specs.Shapes.{Range, Shape, IsShapeOf};
+
+mod candidate;
+mod cells;
+mod division;
+mod draws;
+mod frame;
+mod growing;
+mod moves;
+mod queue;
+mod rest;
+mod tables;
+
+use candidate::{better, candidate, cheaper, frame_of};
+use cells::Labels;
+use draws::Draws;
+use frame::Frame;
+use hg_base::{Blocks, NoMemory};
+use incidence::Hypergraph;
+use rest::Rest;
+use std::alloc::Global;
+use std::thread::{Threads, map_indices};
+
+/// The most cells that the table of pulls may have.
+const MOST_CELLS: u64 = 1 << 23;
+
+/// How many candidates of a kind are tried, and how many perturbations: fewer where they cost more.
+fn effort(h: &Hypergraph, k: u32) -> (u64, u32)
+    requires { k ≤ 256 }
+    ensures tries { result.0 ≤ 8 }
+    ensures throws { result.1 ≤ 50 }
+{
+    let mut pins: u64 = 0;
+    for e in 0..h.nets() {
+        pins = pins.saturating_add(h.pins(e).len() as u64);
+    }
+    let cells = u64::from(h.vertices()) * u64::from(k) + u64::from(h.nets()) * u64::from(k) / 8;
+    let unit = pins.saturating_add(cells).max(1);
+    let tries = (200_000 / unit).max(2).min(8);
+    let throws = (1_000_000 / unit).max(8).min(50);
+    (tries, throws as u32)
+}
+
+/// Looks for a partition that is cheaper than a given one, fits and obeys the fixes. The answer
+/// depends on the hypergraph, the number of blocks, the limit, the seed and the given one alone.
+pub(crate) fn searched<R: Threads + Sync>(
+    rt: &R,
+    alloc: Global,
+    h: &Hypergraph,
+    k: u32,
+    limit: u64,
+    seed: u64,
+    best: Blocks,
+) -> Result<Blocks, NoMemory>
+    requires some { 2 ≤ k }
+    requires few { k ≤ 256 }
+    requires suits { Suits h.now k }
+    requires fixed { IsFixedWithin h.now k }
+    requires best { IsPartition h.now k best }
+    ensures { IfOk result (IsNoWorse h.now k limit best) }
+{
+    let vertices = h.vertices();
+    if vertices == 0 || u64::from(vertices) * u64::from(k) > MOST_CELLS {
+        return Ok(best);
+    }
+    let frame = frame_of(alloc, h, k)?;
+    let rest = Rest::of(alloc, h)?;
+    let (tries, throws) = effort(h, k);
+    let best = best_of_tries(rt, alloc, h, k, &frame, &rest, limit, seed, tries, best)?;
+    best_of_throws(alloc, h, k, &frame, &rest, limit, seed, throws, best)
+}
+
+/// The cheapest of growings, bisections and a given partition.
+fn best_of_tries<R: Threads + Sync>(
+    rt: &R,
+    alloc: Global,
+    h: &Hypergraph,
+    k: u32,
+    frame: &Frame,
+    rest: &Rest,
+    limit: u64,
+    seed: u64,
+    tries: u64,
+    best: Blocks,
+) -> Result<Blocks, NoMemory>
+    requires some { 2 ≤ k }
+    requires few { k ≤ 256 }
+    requires suits { Suits h.now k }
+    requires fixed { IsFixedWithin h.now k }
+    requires vertices { 0 < vertex_count h.now }
+    requires frame { frame.now ≡ record { vertices = vertex_count h.now; whole = vertex_count h.now; all = k; blocks = k } }
+    requires rest { rest.now ≡ vertex_count h.now }
+    requires tries { tries ≤ 8 }
+    requires best { IsPartition h.now k best }
+    ensures { IfOk result (IsNoWorse h.now k limit best) }
+{
+    let count = 2 * tries as usize;
+    let candidates = map_indices(rt, alloc, count, &|i: usize| -> Result<Blocks, NoMemory> {
+        candidate(alloc, h, frame, rest, limit, seed, i as u64, tries)
+    })?;
+    let mut best = best;
+    for tried in candidates {
+        best = cheaper(alloc, h, k, limit, best, tried?)?;
+    }
+    Ok(best)
+}
+
+/// The cheapest of perturbations and a given partition: each perturbs the best one so far.
+fn best_of_throws(
+    alloc: Global,
+    h: &Hypergraph,
+    k: u32,
+    frame: &Frame,
+    rest: &Rest,
+    limit: u64,
+    seed: u64,
+    throws: u32,
+    best: Blocks,
+) -> Result<Blocks, NoMemory>
+    requires some { 2 ≤ k }
+    requires few { k ≤ 256 }
+    requires suits { Suits h.now k }
+    requires fixed { IsFixedWithin h.now k }
+    requires vertices { 0 < vertex_count h.now }
+    requires frame { frame.now ≡ record { vertices = vertex_count h.now; whole = vertex_count h.now; all = k; blocks = k } }
+    requires rest { rest.now ≡ vertex_count h.now }
+    requires best { IsPartition h.now k best }
+    ensures { IfOk result (IsNoWorse h.now k limit best) }
+{
+    let mut start = Labels::start(alloc, h.vertices(), k, 0)?;
+    let mut search = frame.search_all(alloc, h, limit, Draws::start(seed, u64::MAX))?;
+    let mut best = best;
+    for _ in 0..throws {
+        start.copy_slice(best.slice());
+        search.reset(h, &start);
+        search.scatter(h);
+        let thrown = better(alloc, h, rest, &mut search)?;
+        best = cheaper(alloc, h, k, limit, best, thrown)?;
+    }
+    Ok(best)
+}
