@@ -1,4 +1,4 @@
-ghost use Rattle.std.specs.Prelude.{◌≡◌, ◌≤◌, OnOk, IfOk, IfSome, IsErrOf, vec_len};
+ghost use Rattle.std.specs.Prelude.{◌≡◌, ◌≤◌, ◌⊎◌, OnOk, IfOk, IfSome, IsErrOf, vec_len};
 ghost use Rattle.std.specs.Io.KnownBytes.{Consumes, IsAtEnd};
 ghost use Rattle.hg_io.specs.Faults.{Rose, HasCause};
 ghost use Rattle.hg_io.specs.Transfers.{PutsAll, ConsumesMoreThan, ConsumesAtMost};
@@ -54,6 +54,9 @@ pub fn read_all<S: Source>(alloc: Global, src: &mut S, max: u64) -> Result<Vec<u
     ensures short { IsErrOf result ReadEnd.Fault →
         ConsumesAtMost (S.left src.old) (S.left src.new) max }
     ensures later { S.faults src.old ≤ S.faults src.new }
+
+    // No other answer counts a fault.
+    ensures kept { IsErrOf result ReadEnd.Fault ⊎ (S.faults src.new ≡ S.faults src.old) }
 {
     let mut bytes = Vec::new(alloc);
     let mut chunk = zeros(alloc, CHUNK)?;
