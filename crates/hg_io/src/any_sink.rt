@@ -1,9 +1,8 @@
-ghost use Rattle.std.specs.Prelude.{◌≡◌, ◌<◌, None, Ok, IfOk, length};
-ghost use Rattle.std.specs.Bool.{OnFalse};
+ghost use Rattle.std.specs.Prelude.{◌≡◌, ◌<◌, None, Ok, IfOk, OnOk, false, length};
 ghost use Rattle.std.specs.Io.{WritesAtMost};
 ghost use Rattle.std.specs.Io.KnownBytes.{Keeps, WriteAppends};
 ghost use Rattle.hg_io.specs.Faults.{HasCause, counted};
-ghost use Rattle.hg_io.specs.Place.{is_written};
+ghost use Rattle.hg_io.specs.Place.{written_place};
 
 use crate::{Failed, FileSink, Place, Sink, StdSink};
 use std::io::Write;
@@ -38,7 +37,7 @@ impl<H: Files + Drop, O: Write + Drop, E: Write + Drop> AnySink<H, O, E> {
     /// A sink that writes `place`: `output` or `errors` where that is a stream, else a file made by
     /// `rt`.
     pub fn at(rt: H, output: O, errors: E, place: Place) -> AnySink<H, O, E>
-        ensures { result ≡ record { used = is_written place; faults = 0 } }
+        ensures { result ≡ record { place = written_place place; faults = 0; held = false } }
     {
         AnySink {
             writer: match place {
@@ -54,14 +53,17 @@ impl<H: Files + Drop, O: Write + Drop, E: Write + Drop> AnySink<H, O, E> {
 impl<H: Files + Drop, O: Write + Drop, E: Write + Drop> Sink for AnySink<H, O, E> {
     ghost faults = { λ sink. sink.faults };
 
+    ghost held = { λ sink. sink.held };
+
     // Where nothing is written it drops the whole piece.
     fn put(&mut self, piece: &[u8]) -> Result<usize, Failed>
         ensures bound { WritesAtMost result piece.now }
         ensures progress { IfOk result (λ n. 0 < length piece.now → 0 < n) }
         ensures bytes { WriteAppends None None result piece.now }
         ensures cause { HasCause self.old.faults self.new.faults result }
-        ensures after { self.new ≡ record self.old { faults = counted self.old.faults result } }
-        ensures unused { OnFalse self.old.used (result ≡ Ok (length piece.now)) }
+        ensures count { self.new.faults ≡ counted self.old.faults result }
+        ensures place { self.new.place ≡ self.old.place }
+        ensures unused { self.old.place ≡ Place.Nothing → result ≡ Ok (length piece.now) }
     {
         match &mut self.writer {
             Writer::Nowhere => Ok(piece.len()),
@@ -74,8 +76,10 @@ impl<H: Files + Drop, O: Write + Drop, E: Write + Drop> Sink for AnySink<H, O, E
     fn flush(&mut self) -> Result<(), Failed>
         ensures bytes { Keeps None None }
         ensures cause { HasCause self.old.faults self.new.faults result }
-        ensures after { self.new ≡ record self.old { faults = counted self.old.faults result } }
-        ensures unused { OnFalse self.old.used (result ≡ Ok tt) }
+        ensures sent { OnOk result (self.new.held ≡ false) }
+        ensures count { self.new.faults ≡ counted self.old.faults result }
+        ensures place { self.new.place ≡ self.old.place }
+        ensures unused { self.old.place ≡ Place.Nothing → result ≡ Ok tt }
     {
         match &mut self.writer {
             Writer::Nowhere => Ok(()),

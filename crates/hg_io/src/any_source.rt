@@ -1,9 +1,8 @@
-ghost use Rattle.std.specs.Prelude.{◌≡◌, None, Ok, length};
-ghost use Rattle.std.specs.Bool.{OnFalse};
+ghost use Rattle.std.specs.Prelude.{◌≡◌, None, Ok, false, length};
 ghost use Rattle.std.specs.Io.{ReadsAtMost};
 ghost use Rattle.std.specs.Io.KnownBytes.{ReadConsumes};
 ghost use Rattle.hg_io.specs.Faults.{HasCause, counted};
-ghost use Rattle.hg_io.specs.Place.{is_read};
+ghost use Rattle.hg_io.specs.Place.{read_place};
 
 use crate::{Failed, FileSource, Place, Source, StdSource};
 use std::io::Read;
@@ -36,7 +35,7 @@ impl<H: Files + Drop, T: Read + Drop> Model for AnySource<H, T> {
 impl<H: Files + Drop, T: Read + Drop> AnySource<H, T> {
     /// A source that reads `place`: `input` where that is standard input, else a file opened by `rt`.
     pub fn at(rt: H, input: T, place: Place) -> AnySource<H, T>
-        ensures { result ≡ record { used = is_read place; faults = 0 } }
+        ensures { result ≡ record { place = read_place place; faults = 0; held = false } }
     {
         AnySource {
             reader: match place {
@@ -56,8 +55,9 @@ impl<H: Files + Drop, T: Read + Drop> Source for AnySource<H, T> {
         ensures bound { ReadsAtMost result buf.new }
         ensures bytes { ReadConsumes None None result buf.new }
         ensures cause { HasCause self.old.faults self.new.faults result }
-        ensures after { self.new ≡ record self.old { faults = counted self.old.faults result } }
-        ensures unused { OnFalse self.old.used (result ≡ Ok 0) }
+        ensures count { self.new.faults ≡ counted self.old.faults result }
+        ensures place { self.new.place ≡ self.old.place }
+        ensures unused { self.old.place ≡ Place.Nothing → result ≡ Ok 0 }
     {
         match &mut self.reader {
             Reader::Nowhere => Ok(0),

@@ -1,9 +1,9 @@
-ghost use Rattle.std.specs.Prelude.{◌≡◌, ◌<◌, None, IfOk, length};
+ghost use Rattle.std.specs.Prelude.{◌≡◌, ◌<◌, None, IfOk, OnOk, length, true, false, is_some};
 ghost use Rattle.std.specs.Io.{ReadsAtMost, WritesAtMost};
 ghost use Rattle.std.specs.Io.KnownBytes.{Keeps, ReadConsumes, WriteAppends};
 ghost use Rattle.hg_io.specs.Faults.{HasCause, counted};
 
-use crate::counts::count_fault;
+use crate::answers::{flushed, put, taken};
 use crate::{Failed, Name, Sink, Source};
 use std::fs::File;
 use std::io;
@@ -11,7 +11,8 @@ use std::io::{Read, Write};
 use std::marker::Model;
 use std::rt::Files;
 
-/// A source over a file, which is opened at the first take. Contracts see its count of faults alone.
+/// A source over a file, which is opened at the first take. Contracts see
+/// its name, whether it is open, and its faults.
 #[derive(Drop)]
 pub struct FileSource<H: Files + Drop> {
     rt: H,
@@ -21,17 +22,18 @@ pub struct FileSource<H: Files + Drop> {
 }
 
 impl<H: Files + Drop> Model for FileSource<H> {
-    ghost use Rattle.std.specs.Prelude.{ℕ};
+    ghost use Rattle.std.specs.Prelude.{false, is_some};
+    ghost use Rattle.hg_io.specs.End.{Filed};
 
-    ghost Value = { ℕ };
+    ghost Value = { Filed };
 
-    ghost view = { λ source. source.faults };
+    ghost view = { λ source. record { name = source.name; opened = is_some source.file; faults = source.faults; held = false } };
 }
 
 impl<H: Files + Drop> FileSource<H> {
     /// A source that reads the file `name`.
     pub fn at(rt: H, name: Name) -> FileSource<H>
-        ensures { result ≡ 0 }
+        ensures { result ≡ record { name = name; opened = false; faults = 0; held = false } }
     {
         FileSource {
             rt,
@@ -43,19 +45,19 @@ impl<H: Files + Drop> FileSource<H> {
 }
 
 impl<H: Files + Drop> Source for FileSource<H> {
-    ghost faults = { λ source. source };
+    ghost faults = { λ source. source.faults };
 
     // A failed opening is a fault too.
     fn take(&mut self, buf: &mut [u8]) -> Result<usize, Failed>
         ensures bound { ReadsAtMost result buf.new }
         ensures bytes { ReadConsumes None None result buf.new }
-        ensures cause { HasCause self.old self.new result }
-        ensures count { self.new ≡ counted self.old result }
+        ensures cause { HasCause self.old.faults self.new.faults result }
+        ensures count { self.new.faults ≡ counted self.old.faults result }
+        ensures name { self.new.name ≡ self.old.name }
+        ensures opened { OnOk result (self.new.opened ≡ true) }
     {
-        match read_some(&self.rt, &self.name, &mut self.file, buf) {
-            Ok(count) => Ok(count),
-            Err(_) => Err(count_fault(&mut self.faults)),
-        }
+        let answer = read_some(&self.rt, &self.name, &mut self.file, buf);
+        taken(answer, &mut self.faults)
     }
 }
 
@@ -66,7 +68,8 @@ fn read_some<H: Files>(
     slot: &mut Option<H::File>,
     buf: &mut [u8],
 ) -> io::Result<usize>
-    ensures { ReadsAtMost result buf.new }
+    ensures bound { ReadsAtMost result buf.new }
+    ensures opened { OnOk result (is_some slot.new ≡ true) }
 {
     let mut file = match slot.take() {
         Some(file) => file,
@@ -77,67 +80,78 @@ fn read_some<H: Files>(
     answer
 }
 
-/// A sink over a file, which is made empty at the first put. Contracts see its count of faults alone.
+/// A sink over a file, which is made empty at the first put. Contracts see
+/// its name, whether it is open, and its faults.
 #[derive(Drop)]
 pub struct FileSink<H: Files + Drop> {
     rt: H,
     name: Name,
     file: Option<H::File>,
     faults: u64,
+    held: bool,
 }
 
 impl<H: Files + Drop> Model for FileSink<H> {
-    ghost use Rattle.std.specs.Prelude.{ℕ};
+    ghost use Rattle.std.specs.Prelude.{is_some};
+    ghost use Rattle.hg_io.specs.End.{Filed};
 
-    ghost Value = { ℕ };
+    ghost Value = { Filed };
 
-    ghost view = { λ sink. sink.faults };
+    ghost view = { λ sink. record { name = sink.name; opened = is_some sink.file; faults = sink.faults; held = sink.held } };
 }
 
 impl<H: Files + Drop> FileSink<H> {
     /// A sink that writes the file `name`.
     pub fn at(rt: H, name: Name) -> FileSink<H>
-        ensures { result ≡ 0 }
+        ensures { result ≡ record { name = name; opened = false; faults = 0; held = false } }
     {
         FileSink {
             rt,
             name,
             file: None,
             faults: 0,
+            held: false,
         }
     }
 }
 
 impl<H: Files + Drop> Sink for FileSink<H> {
-    ghost faults = { λ sink. sink };
+    ghost faults = { λ sink. sink.faults };
+
+    ghost held = { λ sink. sink.held };
 
     // A failed opening is a fault too, and so is a write that takes nothing of a piece.
     fn put(&mut self, piece: &[u8]) -> Result<usize, Failed>
         ensures bound { WritesAtMost result piece.now }
         ensures progress { IfOk result (λ n. 0 < length piece.now → 0 < n) }
         ensures bytes { WriteAppends None None result piece.now }
-        ensures cause { HasCause self.old self.new result }
-        ensures count { self.new ≡ counted self.old result }
+        ensures cause { HasCause self.old.faults self.new.faults result }
+        ensures count { self.new.faults ≡ counted self.old.faults result }
+        ensures name { self.new.name ≡ self.old.name }
+        ensures opened { OnOk result (self.new.opened ≡ true) }
+        ensures held { self.new.held ≡ true }
     {
-        match write_some(&self.rt, &self.name, &mut self.file, piece) {
-            Ok(count) if count > 0 || piece.is_empty() => Ok(count),
-            _ => Err(count_fault(&mut self.faults)),
-        }
+        self.held = true;
+        let answer = write_some(&self.rt, &self.name, &mut self.file, piece);
+        put(answer, piece, &mut self.faults)
     }
 
     // A file that no put has opened stays as it is.
     fn flush(&mut self) -> Result<(), Failed>
         ensures bytes { Keeps None None }
-        ensures cause { HasCause self.old self.new result }
-        ensures count { self.new ≡ counted self.old result }
+        ensures cause { HasCause self.old.faults self.new.faults result }
+        ensures sent { OnOk result (self.new.held ≡ false) }
+        ensures count { self.new.faults ≡ counted self.old.faults result }
+        ensures name { self.new.name ≡ self.old.name }
+        ensures opened { self.new.opened ≡ self.old.opened }
     {
-        let Some(file) = &mut self.file else {
-            return Ok(());
+        let answer = match &mut self.file {
+            Some(file) => file.flush(),
+            None => Ok(()),
         };
-        match file.flush() {
-            Ok(()) => Ok(()),
-            Err(_) => Err(count_fault(&mut self.faults)),
-        }
+        flushed(answer, &mut self.faults)?;
+        self.held = false;
+        Ok(())
     }
 }
 
@@ -148,7 +162,8 @@ fn write_some<H: Files>(
     slot: &mut Option<H::File>,
     piece: &[u8],
 ) -> io::Result<usize>
-    ensures { WritesAtMost result piece.now }
+    ensures bound { WritesAtMost result piece.now }
+    ensures opened { OnOk result (is_some slot.new ≡ true) }
 {
     let mut file = match slot.take() {
         Some(file) => file,

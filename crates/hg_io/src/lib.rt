@@ -5,6 +5,7 @@
 //! [`MemSink`]) tells contracts its bytes; what stands over a stream or a file does not.
 #![tactic(auto)]
 
+mod answers;
 mod any_sink;
 mod any_source;
 mod counts;

@@ -1,4 +1,4 @@
-ghost use Rattle.std.specs.Prelude.{◌≡◌, ◌-◌, ◌↔◌, ◌≤◌, ◌<◌, [], Ok, Some, IfOk, IsErr, min, length};
+ghost use Rattle.std.specs.Prelude.{◌≡◌, ◌-◌, ◌↔◌, ◌≤◌, ◌<◌, [], Ok, Some, IfOk, OnOk, false, IsErr, min, length};
 ghost use Rattle.std.specs.Io.{WritesAtMost};
 ghost use Rattle.std.specs.Io.KnownBytes.{Keeps, WriteAppends};
 ghost use Rattle.hg_io.specs.Faults.{HasCause};
@@ -104,6 +104,7 @@ impl Sink for MemSink {
     fn flush(&mut self) -> Result<(), Failed>
         ensures bytes { Keeps (Some self.old.got) (Some self.new.got) }
         ensures cause { HasCause self.old.faults self.new.faults result }
+        ensures sent { OnOk result (false ≡ false) }
 
         // It never fails, and changes nothing.
         ensures done { result ≡ Ok tt }

@@ -27,6 +27,27 @@ impl Write for Broken {
     }
 }
 
+// Takes three bytes at a time and six in all, and fails when it is flushed.
+#[derive(Drop)]
+struct Stubborn {
+    room: usize,
+}
+
+impl Write for Stubborn {
+    fn write(&mut self, buf: &[u8]) -> io::Result<usize> {
+        if self.room == 0 {
+            return Err(Error::from(ErrorKind::Other));
+        }
+        let count = buf.len().min(3).min(self.room);
+        self.room -= count;
+        Ok(count)
+    }
+
+    fn flush(&mut self) -> io::Result<()> {
+        Err(Error::from(ErrorKind::Other))
+    }
+}
+
 fn source_of(alloc: Global, text: &[u8], fail: u32) -> Result<MemSource, AllocError> {
     Ok(MemSource::of(Vec::from_slice(alloc, text)?, vec![in alloc; fail]?, 5))
 }
@@ -136,6 +157,13 @@ fn streams_count_their_faults(rt: HostRuntime) -> Result<(), Fail> {
     assert_eq!(rt; StdSink::over(Broken).put(b"lost"), Err(Failed));
     assert_eq!(rt; StdSink::over(Broken).flush(), Err(Failed));
 
+    // A fault in the middle, and one that shows only at the flush.
+    let mut sink = StdSink::over(Stubborn { room: 6 });
+    assert_eq!(rt; put_all(&mut sink, b"sixsix"), Ok(()));
+    assert_eq!(rt; sink.flush(), Err(Failed));
+    let mut sink = StdSink::over(Stubborn { room: 6 });
+    assert_eq!(rt; put_all(&mut sink, b"sevenxx"), Err(Failed));
+
     // This writer takes nothing once it is full.
     let mut full = StdSink::over(buf.as_mut_slice());
     assert_eq!(rt; full.put(b"fills"), Ok(4));
@@ -152,15 +180,19 @@ fn closed_pipe_is_a_fault(rt: HostRuntime) -> Result<(), Fail> {
     Ok(())
 }
 
-fn write_file(rt: &HostRuntime, path: &str, text: &[u8]) -> Result<(), Fail> {
-    let mut sink = FileSink::at(rt, Name::of(rt.alloc(), path)?);
-    put_all(&mut sink, text)?;
+fn write_file(rt: &HostRuntime, path: &str, pieces: &[&[u8]]) -> Result<(), Fail> {
+    let place = Place::File(Name::of(rt.alloc(), path)?);
+    let mut sink = AnySink::at(rt, Broken, Broken, place);
+    for piece in pieces {
+        put_all(&mut sink, piece)?;
+    }
     sink.flush()?;
     Ok(())
 }
 
 fn read_file(rt: &HostRuntime, path: &str) -> Result<Vec<u8>, Fail> {
-    let mut source = FileSource::at(rt, Name::of(rt.alloc(), path)?);
+    let place = Place::File(Name::of(rt.alloc(), path)?);
+    let mut source = AnySource::at(rt, Broken, place);
     Ok(read_all(rt.alloc(), &mut source, 100)?)
 }
 
@@ -170,11 +202,18 @@ fn files_are_read_and_written(rt: HostRuntime) -> Result<(), Fail> {
     let id = process::id(rt.process());
     let path = format!(in rt.alloc(); "{}/hg_io-{id}", dir.as_str())?;
     fs::write(&rt, path.as_str(), "an old and longer text")?;
-    write_file(&rt, path.as_str(), b"a new text")?;
+    write_file(&rt, path.as_str(), &[b"a new", b" text", b" in pieces"])?;
     assert_eq!(rt;
         read_file(&rt, path.as_str())?.as_slice(),
-        b"a new text".as_slice()
+        b"a new text in pieces".as_slice()
     );
+    let mut sink = FileSink::at(&rt, Name::of(rt.alloc(), path.as_str())?);
+    assert_eq!(rt; (sink.put(b"once"), sink.put(b"more")), (Ok(4), Ok(4)));
+    drop(sink);
+    let mut source = FileSource::at(&rt, Name::of(rt.alloc(), path.as_str())?);
+    let bytes = read_all(rt.alloc(), &mut source, 100)?;
+    assert_eq!(rt; bytes.as_slice(), b"oncemore".as_slice());
+    drop(source);
     fs::remove_file(&rt, path.as_str())?;
     Ok(())
 }

@@ -1,4 +1,4 @@
-ghost use Rattle.std.specs.Prelude.{ℕ, List, ◌<◌, Option, None, IfOk, length};
+ghost use Rattle.std.specs.Prelude.{◌≡◌, ℕ, List, ◌<◌, Bool, false, Option, None, IfOk, OnOk, length};
 ghost use Rattle.std.specs.Io.{ReadsAtMost, WritesAtMost};
 ghost use Rattle.std.specs.Io.KnownBytes.{Keeps, ReadConsumes, WriteAppends};
 ghost use Rattle.hg_io.specs.Faults.{HasCause};
@@ -31,6 +31,9 @@ pub trait Sink {
     /// The bytes that were got, where they are known.
     ghost got: { Self → Option (List ℕ) } = { λ _. None };
 
+    /// Whether it may hold bytes back that were put since it was flushed last.
+    ghost held: { Self → Bool } = { λ _. false };
+
     /// Appends the first bytes of `piece`, and answers how many: at least one where it isn't empty.
     /// On `Failed` nothing was appended.
     fn put(&mut self, piece: &[u8]) -> Result<usize, Failed>
@@ -42,5 +45,6 @@ pub trait Sink {
     /// Sends on what the sink holds back, so that a fault which shows only then is counted too.
     fn flush(&mut self) -> Result<(), Failed>
         ensures bytes { Keeps (got self.old) (got self.new) }
-        ensures cause { HasCause (faults self.old) (faults self.new) result };
+        ensures cause { HasCause (faults self.old) (faults self.new) result }
+        ensures sent { OnOk result (held self.new ≡ false) };
 }
