@@ -1,4 +1,4 @@
-use Rattle.std.proofs.Common.{ℕ, List, ◌+◌, ◌++◌, [], ◌∷◌, drop, get_or, ap, sym, arith, le_trans, length-drop}
+use Rattle.std.proofs.Common.{◌∙◌, ℕ, List, ◌+◌, ◌++◌, [], ◌∷◌, drop, get_or, ap, sym, arith, length-drop}
 use Rattle.std.specs.Fmt.{decimal}
 use Rattle.part_text.specs.NumberLines.{separator, numbers_line}
 use Rattle.hg_io.proofs.PenLemmas.{wrote, cut, exit, spelt}
@@ -29,6 +29,6 @@ numbers-preserved g c =
       (
         wrote before.1.0 (spelt (ap (λ (s : ℕ). decimal (get_or ns i 0) ++ s ∷ []) sep) c.in_ok-put_token.ensures.bytes),
         sym (one_more before.0 token later before.1.1 (numbers_line-next ns i (omega arith))),
-        le_trans before.1.2 c.in_ok-put_token.ensures.cause.later,
+        c.in_ok-put_token.ensures.cause.kept ∙ before.1.2,
       ),
     )

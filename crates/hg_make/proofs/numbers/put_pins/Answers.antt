@@ -1,4 +1,4 @@
-use Rattle.std.proofs.Common.{ℕ, List, ◌+◌, ◌++◌, [], ◌∷◌, get_or, ap, sym, ◌∙◌, arith, le_trans}
+use Rattle.std.proofs.Common.{ℕ, List, ◌+◌, ◌++◌, [], ◌∷◌, get_or, ap, sym, ◌∙◌, arith}
 use Rattle.std.specs.Fmt.{decimal}
 use Rattle.part_text.specs.NumberLines.{separator, numbers_line}
 use Rattle.hg_io.proofs.PenLemmas.{wrote, cut, exit, spelt}
@@ -29,6 +29,6 @@ pins-preserved g c =
       (
         wrote before.1.0 (spelt (ap (λ (n : ℕ). decimal (n + 1) ++ c.separator.result ∷ []) c.from.ensures ∙ ap (λ (s : ℕ). decimal (get_or pins i 0 + 1) ++ s ∷ []) sep) c.in_ok-put_token.ensures.bytes),
         sym (one_more before.0 token (numbers_line more) before.1.1 (pins_line-next pins i (omega arith))),
-        le_trans before.1.2 c.in_ok-put_token.ensures.cause.later,
+        c.in_ok-put_token.ensures.cause.kept ∙ before.1.2,
       ),
     )

@@ -1,4 +1,4 @@
-use Rattle.std.proofs.Common.{◌≡◌, ℕ, ◌+◌, ◌≤◌, List, ◌++◌, drop, map}
+use Rattle.std.proofs.Common.{◌≡◌, ℕ, ◌+◌, List, ◌++◌, drop, map}
 use Rattle.std.specs.Prelude.{Ok}
 use Rattle.hg_io.specs.declared.traits.Failed.{Failed}
 use Rattle.hg_io.specs.Transfers.{Writes}
@@ -9,4 +9,4 @@ abbrev pub invariant-pins : goal.invariant-pins
 invariant-pins g l = (done : List ℕ)
     × (Writes {T = Unit {0}} {E = Failed} (g.K.Sink.got l.fn.sink) (g.K.Sink.got l.sink) l.fn.pen l.pen (Ok tt) done
     × (numbers_line (map (λ v. v + 1) l.pins) ≡ done ++ numbers_line (map (λ v. v + 1) (drop l.i l.pins)))
-    × (g.K.Sink.faults l.fn.sink ≤ g.K.Sink.faults l.sink))
+    × (g.K.Sink.faults l.sink ≡ g.K.Sink.faults l.fn.sink))

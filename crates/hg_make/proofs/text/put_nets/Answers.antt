@@ -1,4 +1,4 @@
-use Rattle.std.proofs.Common.{◌+◌, ◌++◌, [], drop, map, sym, arith, le_trans}
+use Rattle.std.proofs.Common.{◌∙◌, ◌+◌, ◌++◌, [], drop, map, sym, arith}
 use Rattle.std.specs.List.{flat_map}
 use Rattle.hg_defs.specs.Hypergraph.{net_of}
 use Rattle.part_text.specs.NumberLines.{numbers_line}
@@ -29,6 +29,6 @@ nets-preserved g c =
       (
         wrote before.1.0 (spelt (net_written c.args.weighted (net_of h e) _ _ c.net_weight.ensures.value c.pins.ensures.value) c.in_ok-put_net.ensures.bytes),
         sym (one_more before.0 line later before.1.1 (nets_lines-next c.args.weighted h.nets e (record { weight = 0; pins = [] }) (omega arith))),
-        le_trans before.1.2 c.in_ok-put_net.ensures.cause.later,
+        c.in_ok-put_net.ensures.cause.kept ∙ before.1.2,
       ),
     )

@@ -1,4 +1,4 @@
-use Rattle.std.proofs.Common.{ℕ, List, Bool, ◌+◌, ◌++◌, [], ◌∷◌, drop, get_or, map, ap, sym, ◌∙◌, arith, le_trans}
+use Rattle.std.proofs.Common.{ℕ, List, Bool, ◌+◌, ◌++◌, [], ◌∷◌, drop, get_or, map, ap, sym, ◌∙◌, arith}
 use Rattle.std.specs.Prelude.{if◌then◌else◌}
 use Rattle.std.specs.Fmt.{decimal}
 use Rattle.std.specs.List.{flat_map}
@@ -30,6 +30,6 @@ weights-preserved g c =
       (
         wrote before.1.0 (spelt (ap (λ (w : ℕ). decimal w ++ 10 ∷ []) c.vertex_weight.ensures.value) c.in_ok-put_token.ensures.bytes),
         sym (one_more before.0 line later before.1.1 (weights_lines-next ws v (omega arith))),
-        le_trans before.1.2 c.in_ok-put_token.ensures.cause.later,
+        c.in_ok-put_token.ensures.cause.kept ∙ before.1.2,
       ),
     )

@@ -1,4 +1,4 @@
-use Rattle.std.proofs.Common.{◌≡◌, ℕ, List, ◌+◌, ◌++◌, drop, get_or, ap, sym, ◌∙◌, append_assoc, arith, le_trans}
+use Rattle.std.proofs.Common.{◌≡◌, ℕ, List, ◌+◌, ◌++◌, drop, get_or, ap, sym, ◌∙◌, append_assoc, arith}
 use Rattle.std.specs.List.{flat_map, enumerate_from}
 use Rattle.trace_text.specs.Lines.{load_line, loads_text}
 use Rattle.hg_io.proofs.PenLemmas.{wrote, cut, exit, spelt}
@@ -25,4 +25,4 @@ loads-preserved g c =
     let line = load_line (i, get_or loads i 0) in
     let whole : (before.0 ++ line) ++ later ≡ loads_text loads =
     append_assoc before.0 line later ∙ ap (λ (l : List ℕ). before.0 ++ l) (sym (loads-next loads i (omega arith))) ∙ sym before.1.1 in
-    (before.0 ++ line, (wrote before.1.0 c.in_ok-put_load.ensures.bytes, sym whole, le_trans before.1.2 c.in_ok-put_load.ensures.cause.later))
+    (before.0 ++ line, (wrote before.1.0 c.in_ok-put_load.ensures.bytes, sym whole, c.in_ok-put_load.ensures.cause.kept ∙ before.1.2))
