@@ -10,7 +10,6 @@ use Rattle.hg_defs.specs.Cost.{cost}
 use Rattle.part_text.specs.Part.{part_text}
 use Rattle.trace_text.specs.Lines.{number_line, sizes_text, objective_text, loads_text, loads_of, fits_text}
 use Rattle.trace_text.specs.Evaluation.{evaluation_text}
-use Rattle.part_run.specs.Answers.{IsUnused}
 
 -- a list with an element in it
 has_one : (xs ys : List ℕ) (y : ℕ) → xs ++ y ∷ ys ≢ []
@@ -67,5 +66,3 @@ evaluation_text-some h k eps blocks =
     (front_some (sizes ++ objective) price (front_some sizes objective (sizes_text-some h k l))))
 
 -- a text that isn't empty says nothing of an unused sink
-pub used : (text : List ℕ) (a b : ℕ) → text ≢ [] → IsUnused text a b
-used text a b some e = absurd (some e)

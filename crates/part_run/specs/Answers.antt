@@ -1,6 +1,6 @@
 -- What a run may answer: for each way to end its cause, what was read, and what was written.
-use Rattle.std.specs.Prelude.{◌≡◌, ◌≢◌, ℕ, ◌+◌, ◌≤◌, List, [], Option, Some, None, Ok, ◌⊎◌}
-use Rattle.std.specs.Io.KnownBytes.{Appends, Keeps}
+use Rattle.std.specs.Prelude.{◌≡◌, ◌≢◌, ℕ, ◌+◌, ◌≤◌, List, [], Bool, false, Option, Some, None, Ok, ◌⊎◌}
+use Rattle.std.specs.Io.KnownBytes.{Appends}
 use Rattle.hg_defs.specs.Hypergraph.{Hyper, vertex_count, total_weight}
 use Rattle.hg_defs.specs.Partition.{IsPartition, Obeys, Fits, limit}
 use Rattle.hg_defs.specs.Cost.{cost}
@@ -20,51 +20,60 @@ use Rattle.part_run.specs.declared.status.Status.TheVariants.{Done, Usage, Unpla
 use Rattle.part_run.specs.declared.ended.Outcome.{Outcome}
 use Rattle.part_run.specs.declared.ended.Ended.{Ended}
 use Rattle.part_run.specs.Wanted.{Command, Partition, Evaluate, Generate, Partitioning, Evaluation}
-use Rattle.part_run.specs.Reads.{IsSuited, Spells, with_objective, IsFixed, IsGraphRefusal, IsFixRefusal, IsPartRefusal}
+use Rattle.part_run.specs.Reads.{Feed, IsSuited, Spells, with_objective, IsFixed, IsGraphRefusal, IsFixRefusal, IsPartRefusal}
 
--- the sources of a run at one moment: the bytes that they have left, where they are known, and their counts of faults
+-- the sources of a run at one moment
 pub record Inputs : Type 0 where
-  pub graph : Option (List ℕ)
-  pub graph_faults : ℕ
-  pub extra : Option (List ℕ)
-  pub extra_faults : ℕ
+  pub graph : Feed
+  pub extra : Feed
 
--- the sinks of a run at one moment: the bytes that they got, where they are known, and their counts of faults
+abbrev pub inputs_of : Feed → Feed → Inputs
+inputs_of graph extra = record { graph = graph; extra = extra }
+
+-- a sink at one moment: the bytes that it got, where they are known, its count of faults, and whether it may hold some back
+pub record Port : Type 0 where
+  pub bytes : Option (List ℕ)
+  pub faults : ℕ
+  pub held : Bool
+
+abbrev pub port_of : Option (List ℕ) → ℕ → Bool → Port
+port_of bytes faults held = record { bytes = bytes; faults = faults; held = held }
+
+-- the sinks of a run at one moment
 pub record Outputs : Type 0 where
-  pub out : Option (List ℕ)
-  pub out_faults : ℕ
-  pub report : Option (List ℕ)
-  pub report_faults : ℕ
+  pub out : Port
+  pub report : Port
 
--- neither sink got a byte
-pub record IsUnwritten (old new : Outputs) : Type 0 where
-  pub out : Keeps old.out new.out
-  pub report : Keeps old.report new.report
+abbrev pub outputs_of : Port → Port → Outputs
+outputs_of out report = record { out = out; report = report }
 
--- a sink whose text is empty isn't called
-abbrev pub IsUnused : List ℕ → ℕ → ℕ → Type 0
-IsUnused text old_faults new_faults = text ≡ [] → new_faults ≡ old_faults
+-- a sink got its whole text without a fault, and holds nothing of it back; where the text is empty it isn't called
+pub record IsSent (old new : Port) (text : List ℕ) : Type 0 where
+  pub bytes : Appends old.bytes new.bytes text
+  pub faultless : new.faults ≡ old.faults
+  pub sent : text ≢ [] → new.held ≡ false
+  pub uncalled : text ≡ [] → new ≡ old
 
 -- both sinks got their whole texts
 pub record IsWritten (old new : Outputs) (out_text report_text : List ℕ) : Type 0 where
-  pub out : Appends old.out new.out out_text
-  pub report : Appends old.report new.report report_text
-  pub out_unused : IsUnused out_text old.out_faults new.out_faults
-  pub report_unused : IsUnused report_text old.report_faults new.report_faults
+  pub out : IsSent old.out new.out out_text
+  pub report : IsSent old.report new.report report_text
 
--- out met a fault and got a prefix of its text, which isn't empty, and the report got nothing
+-- a sink met a fault and got a prefix of its text, which isn't empty
+pub record IsCutOff (old new : Port) (text : List ℕ) : Type 0 where
+  pub some : text ≢ []
+  pub fault : Rose old.faults new.faults
+  pub bytes : AppendsPrefix old.bytes new.bytes text
+
+-- out met a fault, and the report wasn't called
 pub record IsOutFault (old new : Outputs) (out_text : List ℕ) : Type 0 where
-  pub some : out_text ≢ []
-  pub fault : Rose old.out_faults new.out_faults
-  pub out : AppendsPrefix old.out new.out out_text
-  pub report : Keeps old.report new.report
+  pub out : IsCutOff old.out new.out out_text
+  pub report : new.report ≡ old.report
 
--- out got its whole text, and then the report met a fault and got a prefix of its text
+-- out got its whole text, and then the report met a fault
 pub record IsReportFault (old new : Outputs) (out_text report_text : List ℕ) : Type 0 where
-  pub fault : Rose old.report_faults new.report_faults
-  pub out : Appends old.out new.out out_text
-  pub out_unused : IsUnused out_text old.out_faults new.out_faults
-  pub report : AppendsPrefix old.report new.report report_text
+  pub out : IsSent old.out new.out out_text
+  pub report : IsCutOff old.report new.report report_text
 
 -- why two texts weren't written: a sink met a fault
 abbrev pub IsWriteRefusal : Outputs → Outputs → List ℕ → List ℕ → Status → Type 0
@@ -83,12 +92,16 @@ pub record IsFixRefused (p : Partitioning) (old new : Inputs) (status : Status) 
   pub hypergraph : Hyper
   pub graph : IsSuited p.k old.graph new.graph hypergraph
   pub named : (name : List ℕ) × (p.fix ≡ Some name)
-  pub cause : IsFixRefusal (vertex_count hypergraph) p.k old.extra new.extra old.extra_faults new.extra_faults status
+  pub cause : IsFixRefusal (vertex_count hypergraph) p.k old.extra new.extra status
+
+-- the graph for k blocks isn't taken, and the extra source isn't called
+pub record IsGraphRefused (k : ℕ) (old new : Inputs) (status : Status) : Type 0 where
+  pub cause : IsGraphRefusal k old.graph new.graph status
+  pub extra : new.extra ≡ old.extra
 
 -- why `partition` refuses what it reads
 abbrev pub IsInputRefusal : Partitioning → Inputs → Inputs → Status → Type 0
-IsInputRefusal p old new status =
-    IsGraphRefusal p.k old.graph new.graph old.graph_faults new.graph_faults status ⊎ IsFixRefused p old new status
+IsInputRefusal p old new status = IsGraphRefused p.k old new status ⊎ IsFixRefused p old new status
 
 abbrev pub limit_for : Partitioning → Hyper → ℕ
 limit_for p h = limit (total_weight h) p.k p.eps
@@ -133,14 +146,14 @@ pub record IsPartitioned (p : Partitioning) (inputs inputs' : Inputs) (outputs o
 -- `partition` refuses what it reads, and writes nothing
 pub record IsInputRefused (p : Partitioning) (inputs inputs' : Inputs) (outputs outputs' : Outputs) (status : Status) : Type 0 where
   pub cause : IsInputRefusal p inputs inputs' status
-  pub unwritten : IsUnwritten outputs outputs'
+  pub unwritten : outputs' ≡ outputs
 
 -- it takes what it reads, finds no partition, and writes nothing
 pub record IsPlaceRefused (p : Partitioning) (inputs inputs' : Inputs) (outputs outputs' : Outputs) (status : Status) : Type 0 where
   pub hypergraph : Hyper
   pub accepted : IsAccepted p inputs inputs' hypergraph
   pub cause : IsPlaceRefusal p hypergraph status
-  pub unwritten : IsUnwritten outputs outputs'
+  pub unwritten : outputs' ≡ outputs
 
 -- it met a fault while it wrote the texts of a result
 pub record IsWriteRefused (p : Partitioning) (inputs inputs' : Inputs) (outputs outputs' : Outputs) (status : Status) : Type 0 where
@@ -168,13 +181,12 @@ pub record IsEvaluated (e : Evaluation) (inputs inputs' : Inputs) (outputs outpu
 pub record IsPartRefused (e : Evaluation) (inputs inputs' : Inputs) (status : Status) : Type 0 where
   pub hypergraph : Hyper
   pub graph : IsSuited e.k inputs.graph inputs'.graph hypergraph
-  pub cause : IsPartRefusal (vertex_count hypergraph) e.k inputs.extra inputs'.extra inputs.extra_faults inputs'.extra_faults status
+  pub cause : IsPartRefusal (vertex_count hypergraph) e.k inputs.extra inputs'.extra status
 
 -- `evaluate` refuses what it reads, and writes nothing
 pub record IsUnread (e : Evaluation) (inputs inputs' : Inputs) (outputs outputs' : Outputs) (status : Status) : Type 0 where
-  pub cause : IsGraphRefusal e.k inputs.graph inputs'.graph inputs.graph_faults inputs'.graph_faults status
-      ⊎ IsPartRefused e inputs inputs' status
-  pub unwritten : IsUnwritten outputs outputs'
+  pub cause : IsGraphRefused e.k inputs inputs' status ⊎ IsPartRefused e inputs inputs' status
+  pub unwritten : outputs' ≡ outputs
 
 -- it met a fault while it wrote the evaluation
 pub record IsUnreported (e : Evaluation) (inputs inputs' : Inputs) (outputs outputs' : Outputs) (status : Status) : Type 0 where
@@ -196,7 +208,7 @@ pub record IsGenerated (n : ℕ) (inputs inputs' : Inputs) (outputs outputs' : O
 
 -- why `generate` wrote no whole text: there was no memory, or out met a fault
 abbrev pub IsGenerationRefusal : ℕ → Outputs → Outputs → Status → Type 0
-IsGenerationRefusal n outputs outputs' NoMemory = IsUnwritten outputs outputs'
+IsGenerationRefusal n outputs outputs' NoMemory = outputs' ≡ outputs
 IsGenerationRefusal n outputs outputs' WriteFault = IsOutFault outputs outputs' (hypergraph_text (made n))
 IsGenerationRefusal n outputs outputs' _ = ⊥
 

@@ -14,8 +14,8 @@ settings_of s = record { seed = s.seed; workers = s.workers; out = option_copied
 abbrev pub partitioning_of : partitioning.Partitioning → Partitioning
 partitioning_of p = record {
   graph = p.graph.now;
-  k = p.k;
-  eps = p.eps;
+  k = p.balance.k;
+  eps = p.balance.eps;
   seed = p.seed;
   workers = p.workers;
   out = option_copied p.out;
@@ -24,15 +24,15 @@ partitioning_of p = record {
 }
 
 abbrev pub evaluation_of : evaluation.Evaluation → Evaluation
-evaluation_of e = record { graph = e.graph.now; part = e.part.now; k = e.k; eps = e.eps; objective = e.objective }
+evaluation_of e = record { graph = e.graph.now; part = e.part.now; k = e.balance.k; eps = e.balance.eps; objective = e.objective }
 
 abbrev pub command_of : command.Command → Command
 command_of (variants.Partition p) = wanted.Partition (partitioning_of p)
 command_of (variants.Evaluate e) = wanted.Evaluate (evaluation_of e)
 command_of (variants.Generate n) = wanted.Generate n
 
--- the numbers of a command are in their ranges
+-- the size of a hypergraph that is asked for is in its range
 abbrev pub IsWithinBounds : command.Command → Type 0
-IsWithinBounds (variants.Partition p) = (2 ≤ p.k) × (p.k ≤ 256) × (p.eps ≤ 100000)
-IsWithinBounds (variants.Evaluate e) = (2 ≤ e.k) × (e.k ≤ 256) × (e.eps ≤ 100000)
+IsWithinBounds (variants.Partition p) = Unit {0}
+IsWithinBounds (variants.Evaluate e) = Unit {0}
 IsWithinBounds (variants.Generate n) = (1 ≤ n) × (n ≤ 2 ^ 22)

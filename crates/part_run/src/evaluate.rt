@@ -2,13 +2,13 @@
 
 ghost use Rattle.std.specs.Prelude.{◌≡◌, ◌≤◌, MatchResult};
 ghost use Rattle.hg_defs.specs.Partition.{IsPartition};
-ghost use Rattle.hg_io.specs.Faults.{HasCause};
-ghost use Rattle.hg_io.specs.Transfers.{PutsAll};
 ghost use Rattle.trace_text.specs.Evaluation.{evaluation_text};
-ghost use Rattle.part_run.specs.Answers.{Inputs, Outputs, IsEvaluated, IsEvaluationRefused};
+ghost use Rattle.part_run.specs.Answers.{inputs_of, outputs_of, port_of, IsSent, IsCutOff, IsEvaluated, IsEvaluationRefused};
+ghost use Rattle.part_run.specs.Reads.{feed_of};
 ghost use Rattle.part_run.specs.Spelled.{evaluation_of};
 
 use crate::Status;
+use crate::balance::Balance;
 use crate::reading::{read_blocks, read_graph};
 use crate::words::Evaluation;
 use hg_base::FlatHyper;
@@ -25,33 +25,10 @@ pub(crate) fn evaluate<S: Source, X: Source, K: Sink, R: Sink>(
     out: &mut K,
     report: &mut R,
 ) -> Result<(), Status>
-    requires least_k { 2 ≤ e.now.k }
-    requires most_k { e.now.k ≤ 256 }
-    requires eps { e.now.eps ≤ 100000 }
-    ensures answer { let inputs : Inputs = record {
-      graph = S.left graph.old;
-      graph_faults = S.faults graph.old;
-      extra = X.left extra.old;
-      extra_faults = X.faults extra.old;
-    } in
-        let inputs_after : Inputs = record {
-          graph = S.left graph.new;
-          graph_faults = S.faults graph.new;
-          extra = X.left extra.new;
-          extra_faults = X.faults extra.new;
-        } in
-        let outputs : Outputs = record {
-          out = K.got out.old;
-          out_faults = K.faults out.old;
-          report = R.got report.old;
-          report_faults = R.faults report.old;
-        } in
-        let outputs_after : Outputs = record {
-          out = K.got out.new;
-          out_faults = K.faults out.new;
-          report = R.got report.new;
-          report_faults = R.faults report.new;
-        } in
+    ensures answer { let inputs = inputs_of (feed_of (S.left graph.old) (S.faults graph.old)) (feed_of (X.left extra.old) (X.faults extra.old)) in
+        let inputs_after = inputs_of (feed_of (S.left graph.new) (S.faults graph.new)) (feed_of (X.left extra.new) (X.faults extra.new)) in
+        let outputs = outputs_of (port_of (K.got out.old) (K.faults out.old) (K.held out.old)) (port_of (R.got report.old) (R.faults report.old) (R.held report.old)) in
+        let outputs_after = outputs_of (port_of (K.got out.new) (K.faults out.new) (K.held out.new)) (port_of (R.got report.new) (R.faults report.new) (R.held report.new)) in
         MatchResult result
         (λ _. IsEvaluated (evaluation_of e.now) inputs inputs_after outputs outputs_after)
         (IsEvaluationRefused (evaluation_of e.now) inputs inputs_after outputs outputs_after) }
@@ -60,16 +37,17 @@ pub(crate) fn evaluate<S: Source, X: Source, K: Sink, R: Sink>(
     ensures out_later { K.faults out.old ≤ K.faults out.new }
     ensures report_later { R.faults report.old ≤ R.faults report.new }
 {
-    let mut h = match read_graph(alloc, graph, e.k) {
+    let balance = e.balance;
+    let mut h = match read_graph(alloc, graph, balance.k) {
         Ok(h) => h,
         Err(status) => return Err(status),
     };
-    let blocks = match read_blocks(alloc, extra, h.vertices(), e.k) {
+    let blocks = match read_blocks(alloc, extra, h.vertices(), balance.k) {
         Ok(blocks) => blocks,
         Err(status) => return Err(status),
     };
     h.set_objective(e.objective);
-    match write_evaluation(report, &h, e.k, e.eps, blocks.slice()) {
+    match write_evaluation(report, &h, balance, blocks.slice()) {
         Ok(()) => Ok(()),
         Err(Failed) => Err(Status::WriteFault),
     }
@@ -79,17 +57,16 @@ pub(crate) fn evaluate<S: Source, X: Source, K: Sink, R: Sink>(
 pub(crate) fn write_evaluation<R: Sink>(
     report: &mut R,
     h: &FlatHyper,
-    k: u32,
-    eps: u32,
+    balance: Balance,
     blocks: &[u32],
 ) -> Result<(), Failed>
-    requires least_k { 2 ≤ k }
-    requires most_k { k ≤ 256 }
-    requires eps { eps ≤ 100000 }
-    requires partition { IsPartition h.now k blocks.now }
-    ensures bytes { PutsAll (R.got report.old) (R.got report.new) result (evaluation_text h.now k eps blocks.now) }
-    ensures cause { HasCause (R.faults report.old) (R.faults report.new) result }
+    requires partition { IsPartition h.now balance.k blocks.now }
+    ensures answer { let old = port_of (R.got report.old) (R.faults report.old) (R.held report.old) in
+        let new = port_of (R.got report.new) (R.faults report.new) (R.held report.new) in
+        let text = evaluation_text h.now balance.k balance.eps blocks.now in
+        MatchResult result (λ _. IsSent old new text) (λ _. IsCutOff old new text) }
+    ensures later { R.faults report.old ≤ R.faults report.new }
 {
-    put_evaluation(report, h, k, eps, blocks)?;
+    put_evaluation(report, h, balance.k, balance.eps, blocks)?;
     report.flush()
 }

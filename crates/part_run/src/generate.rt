@@ -1,12 +1,10 @@
 //! The command `generate`: the text of a made hypergraph.
 
-ghost use Rattle.std.specs.Prelude.{◌≤◌, ◌^◌, [], MatchResult};
-ghost use Rattle.hg_io.specs.Faults.{HasCause};
-ghost use Rattle.hg_io.specs.Transfers.{PutsAll};
+ghost use Rattle.std.specs.Prelude.{◌≤◌, ◌≢◌, ◌^◌, [], MatchResult};
 ghost use Rattle.hg_defs.specs.Hypergraph.{Hyper};
 ghost use Rattle.hg_make.specs.Made.{made};
 ghost use Rattle.hg_make.specs.Text.{hypergraph_text};
-ghost use Rattle.part_run.specs.Answers.{Outputs, IsWritten, IsGenerationRefusal};
+ghost use Rattle.part_run.specs.Answers.{outputs_of, port_of, IsSent, IsCutOff, IsWritten, IsGenerationRefusal};
 
 use crate::Status;
 use hg_base::FlatHyper;
@@ -23,18 +21,8 @@ pub(crate) fn generate<K: Sink, R: Sink>(
 ) -> Result<(), Status>
     requires least { 1 ≤ n }
     requires most { n ≤ 2 ^ 22 }
-    ensures answer { let outputs : Outputs = record {
-      out = K.got out.old;
-      out_faults = K.faults out.old;
-      report = R.got report.old;
-      report_faults = R.faults report.old;
-    } in
-        let outputs_after : Outputs = record {
-          out = K.got out.new;
-          out_faults = K.faults out.new;
-          report = R.got report.new;
-          report_faults = R.faults report.new;
-        } in
+    ensures answer { let outputs = outputs_of (port_of (K.got out.old) (K.faults out.old) (K.held out.old)) (port_of (R.got report.old) (R.faults report.old) (R.held report.old)) in
+        let outputs_after = outputs_of (port_of (K.got out.new) (K.faults out.new) (K.held out.new)) (port_of (R.got report.new) (R.faults report.new) (R.held report.new)) in
         MatchResult result
         (λ _. IsWritten outputs outputs_after (hypergraph_text (made n)) [])
         (IsGenerationRefusal n outputs outputs_after) }
@@ -53,8 +41,11 @@ pub(crate) fn generate<K: Sink, R: Sink>(
 
 /// Writes the text of a hypergraph, and sends it on.
 fn write_hypergraph<K: Sink>(out: &mut K, h: &FlatHyper) -> Result<(), Failed>
-    ensures bytes { PutsAll (K.got out.old) (K.got out.new) result (hypergraph_text h.now) }
-    ensures cause { HasCause (K.faults out.old) (K.faults out.new) result }
+    requires { hypergraph_text h.now ≢ [] }
+    ensures answer { let old = port_of (K.got out.old) (K.faults out.old) (K.held out.old) in
+        let new = port_of (K.got out.new) (K.faults out.new) (K.held out.new) in
+        MatchResult result (λ _. IsSent old new (hypergraph_text h.now)) (λ _. IsCutOff old new (hypergraph_text h.now)) }
+    ensures later { K.faults out.old ≤ K.faults out.new }
 {
     put_hypergraph(out, h)?;
     out.flush()

@@ -1,6 +1,7 @@
 //! The top call: from the words of a command line to texts and a status.
 #![tactic(auto)]
 
+mod balance;
 mod ended;
 mod evaluate;
 mod generate;

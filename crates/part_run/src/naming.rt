@@ -37,7 +37,7 @@ fn out_of(alloc: Global, partition: &Partitioning<'_>) -> Result<Place, NoMemory
         Some(name) => place_of(alloc, name, Place::Output),
         None if partition.graph == "-" => Ok(Place::Output),
         None => {
-            let name = part_name(alloc, partition.graph, partition.k)?;
+            let name = part_name(alloc, partition.graph, partition.balance.k)?;
             Ok(Place::File(Name::of(alloc, name.as_str())?))
         }
     }

@@ -3,11 +3,9 @@
 ghost use Rattle.std.specs.Prelude.{◌≡◌, ◌≤◌, MatchResult, ◌≢◌, [], IfOk, OnErr, All, length};
 ghost use Rattle.hg_defs.specs.Hypergraph.{IsFixedWithin, IsHypergraph, IsWithinLimits, Suits, total_weight, vertex_count};
 ghost use Rattle.hg_defs.specs.Partition.{IsPartition};
-ghost use Rattle.hg_io.specs.Faults.{HasCause};
-ghost use Rattle.hg_io.specs.Transfers.{PutsAll};
 ghost use Rattle.part_text.specs.Part.{part_text};
-ghost use Rattle.part_run.specs.Reads.{IsFixedBy, IsFixRefusal};
-ghost use Rattle.part_run.specs.Answers.{Inputs, Outputs, IsAccepted, IsInputRefusal, IsPlaced, IsResult, IsPlaceRefusal, IsWritten, IsWriteRefusal, IsPartitioned, IsPartitionRefused, IsUnused, limit_for, report_for};
+ghost use Rattle.part_run.specs.Reads.{feed_of, IsFixedBy, IsFixRefusal};
+ghost use Rattle.part_run.specs.Answers.{inputs_of, outputs_of, port_of, IsSent, IsCutOff, IsAccepted, IsInputRefusal, IsPlaced, IsResult, IsPlaceRefusal, IsWritten, IsWriteRefusal, IsPartitioned, IsPartitionRefused, limit_for, report_for};
 ghost use Rattle.part_run.specs.Spelled.{partitioning_of};
 
 use crate::evaluate::write_evaluation;
@@ -41,9 +39,9 @@ fn with_fixes<X: Source>(
     k: u32,
 ) -> Result<FlatHyper, Status>
     requires { k ≤ 256 }
-    ensures answer { MatchResult result
-        (IsFixedBy k (X.left extra.old) (X.left extra.new) h)
-        (IsFixRefusal (vertex_count h) k (X.left extra.old) (X.left extra.new) (X.faults extra.old) (X.faults extra.new)) }
+    ensures answer { let old = feed_of (X.left extra.old) (X.faults extra.old) in
+        let new = feed_of (X.left extra.new) (X.faults extra.new) in
+        MatchResult result (IsFixedBy k old new h) (IsFixRefusal (vertex_count h) k old new) }
     ensures within { IfOk result (λ fixed. IsFixedWithin fixed k) }
     ensures later { X.faults extra.old ≤ X.faults extra.new }
 {
@@ -60,40 +58,27 @@ fn accept<S: Source, X: Source>(
     graph: &mut S,
     extra: &mut X,
 ) -> Result<FlatHyper, Status>
-    requires { p.now.k ≤ 256 }
-    ensures answer { let old : Inputs = record {
-      graph = S.left graph.old;
-      graph_faults = S.faults graph.old;
-      extra = X.left extra.old;
-      extra_faults = X.faults extra.old;
-    } in
-        let new : Inputs = record {
-          graph = S.left graph.new;
-          graph_faults = S.faults graph.new;
-          extra = X.left extra.new;
-          extra_faults = X.faults extra.new;
-        } in
+    ensures answer { let inputs = inputs_of (feed_of (S.left graph.old) (S.faults graph.old)) (feed_of (X.left extra.old) (X.faults extra.old)) in
+        let inputs_after = inputs_of (feed_of (S.left graph.new) (S.faults graph.new)) (feed_of (X.left extra.new) (X.faults extra.new)) in
         MatchResult result
-        (IsAccepted (partitioning_of p.now) old new)
-        (IsInputRefusal (partitioning_of p.now) old new) }
-    ensures within { IfOk result (λ h. IsFixedWithin h p.now.k) }
-    ensures suits { IfOk result (λ h. Suits h p.now.k) }
+        (IsAccepted (partitioning_of p.now) inputs inputs_after)
+        (IsInputRefusal (partitioning_of p.now) inputs inputs_after) }
+    ensures within { IfOk result (λ h. IsFixedWithin h p.now.balance.k) }
+    ensures suits { IfOk result (λ h. Suits h p.now.balance.k) }
     ensures graph_later { S.faults graph.old ≤ S.faults graph.new }
     ensures extra_later { X.faults extra.old ≤ X.faults extra.new }
 {
-    let mut h = read_graph(alloc, graph, p.k)?;
+    let mut h = read_graph(alloc, graph, p.balance.k)?;
     h.set_objective(p.objective);
     match p.fix {
         None => Ok(h),
-        Some(_) => with_fixes(alloc, extra, h, p.k),
+        Some(_) => with_fixes(alloc, extra, h, p.balance.k),
     }
 }
 
 /// Greedy placement, which is refused where it passes the limit.
 fn place(alloc: Global, p: &Partitioning<'_>, h: &FlatHyper, limit: u64) -> Result<Blocks, Status>
-    requires least_k { 2 ≤ p.now.k }
-    requires most_k { p.now.k ≤ 256 }
-    requires fixed { IsFixedWithin h.now p.now.k }
+    requires fixed { IsFixedWithin h.now p.now.balance.k }
     requires limit { limit ≡ limit_for (partitioning_of p.now) h.now }
     requires sound { IsHypergraph h.now }
     requires bounds { IsWithinLimits h.now }
@@ -101,7 +86,7 @@ fn place(alloc: Global, p: &Partitioning<'_>, h: &FlatHyper, limit: u64) -> Resu
         (IsPlaced (partitioning_of p.now) h.now)
         (IsPlaceRefusal (partitioning_of p.now) h.now) }
 {
-    match greedy(alloc, h, p.k, limit) {
+    match greedy(alloc, h, p.balance.k, limit) {
         Ok(blocks) => Ok(blocks),
         Err(GreedyEnd::Overfills { vertex }) => Err(Status::Unplaced { vertex: vertex + 1 }),
         Err(GreedyEnd::NoMemory) => Err(Status::NoMemory),
@@ -115,20 +100,18 @@ fn settle(
     h: &Hypergraph,
     limit: u64,
 ) -> Result<Partition, Status>
-    requires least_k { 2 ≤ p.now.k }
-    requires most_k { p.now.k ≤ 256 }
-    requires fixed { IsFixedWithin h.now p.now.k }
-    requires suits { Suits h.now p.now.k }
+    requires fixed { IsFixedWithin h.now p.now.balance.k }
+    requires suits { Suits h.now p.now.balance.k }
     requires limit { limit ≡ limit_for (partitioning_of p.now) h.now }
     ensures answer { MatchResult result
         (λ q. IsResult (partitioning_of p.now) h.now q.blocks)
         (IsPlaceRefusal (partitioning_of p.now) h.now) }
     ensures hyper { IfOk result (λ q. q.hyper ≡ h.now) }
-    ensures blocks { IfOk result (λ q. q.k ≡ p.now.k) }
+    ensures blocks { IfOk result (λ q. q.k ≡ p.now.balance.k) }
 {
     let _vertices = h.vertices();
     let blocks = place(alloc, p, h.flat(), limit)?;
-    let mut partition = Partition::of(alloc, h, p.k, limit, blocks)?;
+    let mut partition = Partition::of(alloc, h, p.balance.k, limit, blocks)?;
     let mut sweeps = RoundList::new(alloc);
     partition.settle(alloc, h, &mut sweeps)?;
     Ok(partition)
@@ -142,45 +125,32 @@ fn deliver<K: Sink, R: Sink>(
     out: &mut K,
     report: &mut R,
 ) -> Result<(), Status>
-    requires least_k { 2 ≤ p.now.k }
-    requires most_k { p.now.k ≤ 256 }
-    requires eps { p.now.eps ≤ 100000 }
-    requires partition { IsPartition h.now p.now.k blocks.now }
-    ensures answer { let old : Outputs = record {
-      out = K.got out.old;
-      out_faults = K.faults out.old;
-      report = R.got report.old;
-      report_faults = R.faults report.old;
-    } in
-        let new : Outputs = record {
-          out = K.got out.new;
-          out_faults = K.faults out.new;
-          report = R.got report.new;
-          report_faults = R.faults report.new;
-        } in
+    requires partition { IsPartition h.now p.now.balance.k blocks.now }
+    ensures answer { let outputs = outputs_of (port_of (K.got out.old) (K.faults out.old) (K.held out.old)) (port_of (R.got report.old) (R.faults report.old) (R.held report.old)) in
+        let outputs_after = outputs_of (port_of (K.got out.new) (K.faults out.new) (K.held out.new)) (port_of (R.got report.new) (R.faults report.new) (R.held report.new)) in
         let text = part_text blocks.now in
         let report_text = report_for (partitioning_of p.now) h.now blocks.now in
         MatchResult result
-        (λ _. IsWritten old new text report_text)
-        (IsWriteRefusal old new text report_text) }
+        (λ _. IsWritten outputs outputs_after text report_text)
+        (IsWriteRefusal outputs outputs_after text report_text) }
     ensures out_later { K.faults out.old ≤ K.faults out.new }
     ensures report_later { R.faults report.old ≤ R.faults report.new }
 {
     if write_blocks(out, blocks).is_err() {
         return Err(Status::WriteFault);
     }
-    if write_evaluation(report, h, p.k, p.eps, blocks).is_err() {
+    if write_evaluation(report, h, p.balance, blocks).is_err() {
         return Err(Status::WriteFault);
     }
     Ok(())
 }
 
-/// Writes the partition; where there is no vertex the sink isn't called.
+/// Writes the partition, and sends it on; where there is no vertex the sink isn't called.
 fn write_blocks<K: Sink>(out: &mut K, blocks: &[u32]) -> Result<(), Failed>
-    ensures some { OnErr result (part_text blocks.now ≢ []) }
-    ensures unused { IsUnused (part_text blocks.now) (K.faults out.old) (K.faults out.new) }
-    ensures bytes { PutsAll (K.got out.old) (K.got out.new) result (part_text blocks.now) }
-    ensures cause { HasCause (K.faults out.old) (K.faults out.new) result }
+    ensures answer { let old = port_of (K.got out.old) (K.faults out.old) (K.held out.old) in
+        let new = port_of (K.got out.new) (K.faults out.new) (K.held out.new) in
+        MatchResult result (λ _. IsSent old new (part_text blocks.now)) (λ _. IsCutOff old new (part_text blocks.now)) }
+    ensures later { K.faults out.old ≤ K.faults out.new }
 {
     if blocks.is_empty() {
         return Ok(());
@@ -198,33 +168,10 @@ pub(crate) fn partition<S: Source, X: Source, K: Sink, R: Sink>(
     out: &mut K,
     report: &mut R,
 ) -> Result<Outcome, Status>
-    requires least_k { 2 ≤ p.now.k }
-    requires most_k { p.now.k ≤ 256 }
-    requires eps { p.now.eps ≤ 100000 }
-    ensures answer { let inputs : Inputs = record {
-      graph = S.left graph.old;
-      graph_faults = S.faults graph.old;
-      extra = X.left extra.old;
-      extra_faults = X.faults extra.old;
-    } in
-        let inputs_after : Inputs = record {
-          graph = S.left graph.new;
-          graph_faults = S.faults graph.new;
-          extra = X.left extra.new;
-          extra_faults = X.faults extra.new;
-        } in
-        let outputs : Outputs = record {
-          out = K.got out.old;
-          out_faults = K.faults out.old;
-          report = R.got report.old;
-          report_faults = R.faults report.old;
-        } in
-        let outputs_after : Outputs = record {
-          out = K.got out.new;
-          out_faults = K.faults out.new;
-          report = R.got report.new;
-          report_faults = R.faults report.new;
-        } in
+    ensures answer { let inputs = inputs_of (feed_of (S.left graph.old) (S.faults graph.old)) (feed_of (X.left extra.old) (X.faults extra.old)) in
+        let inputs_after = inputs_of (feed_of (S.left graph.new) (S.faults graph.new)) (feed_of (X.left extra.new) (X.faults extra.new)) in
+        let outputs = outputs_of (port_of (K.got out.old) (K.faults out.old) (K.held out.old)) (port_of (R.got report.old) (R.faults report.old) (R.held report.old)) in
+        let outputs_after = outputs_of (port_of (K.got out.new) (K.faults out.new) (K.held out.new)) (port_of (R.got report.new) (R.faults report.new) (R.held report.new)) in
         MatchResult result
         (IsPartitioned (partitioning_of p.now) inputs inputs_after outputs outputs_after)
         (IsPartitionRefused (partitioning_of p.now) inputs inputs_after outputs outputs_after) }
@@ -234,7 +181,7 @@ pub(crate) fn partition<S: Source, X: Source, K: Sink, R: Sink>(
     ensures report_later { R.faults report.old ≤ R.faults report.new }
 {
     let flat = accept(alloc, p, graph, extra)?;
-    let limit = limit_of(flat.total_weight(), p.k, p.eps);
+    let limit = limit_of(flat.total_weight(), p.balance.k, p.balance.eps);
     let h = Hypergraph::build(alloc, flat)?;
     let partition = settle(alloc, p, &h, limit)?;
     deliver(p, h.flat(), partition.blocks(), out, report)?;

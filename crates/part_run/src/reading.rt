@@ -2,17 +2,32 @@
 
 ghost use Rattle.std.specs.Prelude.{◌≡◌, ◌≤◌, ◌≢◌, ◌<◌, MatchResult, Ok, IfOk, All, length};
 ghost use Rattle.part_text.specs.Entries.{spelled_part, spelled_fixes};
-ghost use Rattle.part_run.specs.Reads.{Spells, IsSuited, IsGraphRefusal, IsFixRefusal, IsPartRefusal};
+ghost use Rattle.part_run.specs.Reads.{feed_of, WasRead, Spells, IsSuited, IsReadRefusal, IsGraphRefusal, IsFixRefusal, IsPartRefusal};
 
 use crate::Status;
 use hg_base::{Blocks, FREE, FlatHyper};
 use hg_io::{ReadEnd, Source, read_all};
 use hmetis_read::{GraphFault, What, read_hypergraph};
-use part_text::{FixFault, PartFault, read_fix, read_part};
+use part_text::{PartFault, read_fix, read_part};
 use std::alloc::Global;
 
 /// The most bytes that a source may give.
 const MOST_BYTES: u64 = 1 << 29;
+
+/// Reads a source to its end; `what` is what it may give too much of.
+fn read_bytes<S: Source>(alloc: Global, source: &mut S, what: What) -> Result<Vec<u8>, Status>
+    ensures answer { let old = feed_of (S.left source.old) (S.faults source.old) in
+        let new = feed_of (S.left source.new) (S.faults source.new) in
+        MatchResult result (λ bytes. WasRead old new bytes.items) (IsReadRefusal what old new) }
+    ensures later { S.faults source.old ≤ S.faults source.new }
+{
+    match read_all(alloc, source, MOST_BYTES) {
+        Ok(bytes) => Ok(bytes),
+        Err(ReadEnd::Fault) => Err(Status::ReadFault),
+        Err(ReadEnd::TooLong) => Err(Status::TooLarge { line: 0, what }),
+        Err(ReadEnd::NoMemory) => Err(Status::NoMemory),
+    }
+}
 
 /// Reads the hypergraph, for `k` blocks.
 pub(crate) fn read_graph<S: Source>(
@@ -20,19 +35,14 @@ pub(crate) fn read_graph<S: Source>(
     source: &mut S,
     k: u32,
 ) -> Result<FlatHyper, Status>
-    ensures answer { MatchResult result
-        (IsSuited k (S.left source.old) (S.left source.new))
-        (IsGraphRefusal k (S.left source.old) (S.left source.new) (S.faults source.old) (S.faults source.new)) }
+    ensures answer { let old = feed_of (S.left source.old) (S.faults source.old) in
+        let new = feed_of (S.left source.new) (S.faults source.new) in
+        MatchResult result (IsSuited k old new) (IsGraphRefusal k old new) }
     ensures later { S.faults source.old ≤ S.faults source.new }
 {
-    let bytes = match read_all(alloc, source, MOST_BYTES) {
+    let bytes = match read_bytes(alloc, source, What::Bytes) {
         Ok(bytes) => bytes,
-        Err(ReadEnd::Fault) => return Err(Status::ReadFault),
-        Err(ReadEnd::TooLong) => return Err(Status::TooLarge {
-            line: 0,
-            what: What::Bytes,
-        }),
-        Err(ReadEnd::NoMemory) => return Err(Status::NoMemory),
+        Err(status) => return Err(status),
     };
     let h = match read_hypergraph(alloc, bytes.as_slice()) {
         Ok(h) => h,
@@ -56,27 +66,24 @@ pub(crate) fn read_fixes<X: Source>(
     n: u32,
     k: u32,
 ) -> Result<Blocks, Status>
-    ensures answer { MatchResult result
-        (λ fixes. Spells (X.left source.old) (X.left source.new) (λ bytes. spelled_fixes bytes n k ≡ Ok fixes))
-        (IsFixRefusal n k (X.left source.old) (X.left source.new) (X.faults source.old) (X.faults source.new)) }
+    ensures answer { let old = feed_of (X.left source.old) (X.faults source.old) in
+        let new = feed_of (X.left source.new) (X.faults source.new) in
+        MatchResult result
+        (λ fixes. Spells old new (λ bytes. spelled_fixes bytes n k ≡ Ok fixes))
+        (IsFixRefusal n k old new) }
     ensures vertices { IfOk result (λ fixes. length fixes ≡ n) }
     ensures below { IfOk result (All (λ fix. fix ≢ FREE → fix < k)) }
     ensures within { k ≤ FREE → IfOk result (All (λ fix. fix ≤ FREE)) }
     ensures later { X.faults source.old ≤ X.faults source.new }
 {
-    let bytes = match read_all(alloc, source, MOST_BYTES) {
+    let bytes = match read_bytes(alloc, source, What::ExtraBytes) {
         Ok(bytes) => bytes,
-        Err(ReadEnd::Fault) => return Err(Status::ReadFault),
-        Err(ReadEnd::TooLong) => return Err(Status::TooLarge {
-            line: 0,
-            what: What::ExtraBytes,
-        }),
-        Err(ReadEnd::NoMemory) => return Err(Status::NoMemory),
+        Err(status) => return Err(status),
     };
     match read_fix(alloc, bytes.as_slice(), n, k) {
         Ok(fixes) => Ok(fixes),
-        Err(FixFault::Bad { line, kind }) => Err(Status::BadFix { line, kind }),
-        Err(FixFault::NoMemory) => Err(Status::NoMemory),
+        Err(PartFault::Bad { line, kind }) => Err(Status::BadFix { line, kind }),
+        Err(PartFault::NoMemory) => Err(Status::NoMemory),
     }
 }
 
@@ -87,21 +94,18 @@ pub(crate) fn read_blocks<X: Source>(
     n: u32,
     k: u32,
 ) -> Result<Blocks, Status>
-    ensures answer { MatchResult result
-        (λ blocks. Spells (X.left source.old) (X.left source.new) (λ bytes. spelled_part bytes n k ≡ Ok blocks))
-        (IsPartRefusal n k (X.left source.old) (X.left source.new) (X.faults source.old) (X.faults source.new)) }
+    ensures answer { let old = feed_of (X.left source.old) (X.faults source.old) in
+        let new = feed_of (X.left source.new) (X.faults source.new) in
+        MatchResult result
+        (λ blocks. Spells old new (λ bytes. spelled_part bytes n k ≡ Ok blocks))
+        (IsPartRefusal n k old new) }
     ensures vertices { IfOk result (λ blocks. length blocks ≡ n) }
     ensures blocks { IfOk result (All (λ b. b < k)) }
     ensures later { X.faults source.old ≤ X.faults source.new }
 {
-    let bytes = match read_all(alloc, source, MOST_BYTES) {
+    let bytes = match read_bytes(alloc, source, What::ExtraBytes) {
         Ok(bytes) => bytes,
-        Err(ReadEnd::Fault) => return Err(Status::ReadFault),
-        Err(ReadEnd::TooLong) => return Err(Status::TooLarge {
-            line: 0,
-            what: What::ExtraBytes,
-        }),
-        Err(ReadEnd::NoMemory) => return Err(Status::NoMemory),
+        Err(status) => return Err(status),
     };
     match read_part(alloc, bytes.as_slice(), n, k) {
         Ok(blocks) => Ok(blocks),

@@ -2,7 +2,8 @@
 
 ghost use Rattle.std.specs.Prelude.{◌≡◌, ◌≤◌, map, string_bytes, MatchResult, Ok, Err, None, Some};
 ghost use Rattle.part_run.specs.Wanted.{wanted};
-ghost use Rattle.part_run.specs.Answers.{Inputs, Outputs, IsEnd};
+ghost use Rattle.part_run.specs.Reads.{feed_of};
+ghost use Rattle.part_run.specs.Answers.{inputs_of, outputs_of, port_of, IsEnd};
 ghost use Rattle.part_run.specs.declared.status.Status.TheVariants.{Done};
 
 use crate::evaluate::evaluate;
@@ -62,30 +63,10 @@ pub fn run<S: Source, X: Source, K: Sink, R: Sink>(
     out: &mut K,
     report: &mut R,
 ) -> Ended
-    ensures end { let inputs : Inputs = record {
-      graph = S.left graph.old;
-      graph_faults = S.faults graph.old;
-      extra = X.left extra.old;
-      extra_faults = X.faults extra.old;
-    } in
-        let inputs_after : Inputs = record {
-          graph = S.left graph.new;
-          graph_faults = S.faults graph.new;
-          extra = X.left extra.new;
-          extra_faults = X.faults extra.new;
-        } in
-        let outputs : Outputs = record {
-          out = K.got out.old;
-          out_faults = K.faults out.old;
-          report = R.got report.old;
-          report_faults = R.faults report.old;
-        } in
-        let outputs_after : Outputs = record {
-          out = K.got out.new;
-          out_faults = K.faults out.new;
-          report = R.got report.new;
-          report_faults = R.faults report.new;
-        } in
+    ensures end { let inputs = inputs_of (feed_of (S.left graph.old) (S.faults graph.old)) (feed_of (X.left extra.old) (X.faults extra.old)) in
+        let inputs_after = inputs_of (feed_of (S.left graph.new) (S.faults graph.new)) (feed_of (X.left extra.new) (X.faults extra.new)) in
+        let outputs = outputs_of (port_of (K.got out.old) (K.faults out.old) (K.held out.old)) (port_of (R.got report.old) (R.faults report.old) (R.held report.old)) in
+        let outputs_after = outputs_of (port_of (K.got out.new) (K.faults out.new) (K.held out.new)) (port_of (R.got report.new) (R.faults report.new) (R.held report.new)) in
         IsEnd (wanted (map string_bytes words.now)) inputs inputs_after outputs outputs_after result }
     ensures graph_later { S.faults graph.old ≤ S.faults graph.new }
     ensures extra_later { X.faults extra.old ≤ X.faults extra.new }

@@ -4,6 +4,7 @@ ghost use Rattle.std.specs.Prelude.{◌≡◌, ◌≤◌, ◌^◌, option_map, o
 ghost use Rattle.part_run.specs.Wanted.{number_within, fraction_of, imbalance, file_name, plain_name, objective_of, if_unset, with_word, with_words, no_settings, chosen_objective, partition_words, evaluate_words, generate_words, wanted};
 ghost use Rattle.part_run.specs.Spelled.{settings_of, partitioning_of, evaluation_of, command_of, IsWithinBounds};
 
+use crate::balance::Balance;
 use hg_defs::Objective;
 use hg_text::number;
 
@@ -185,8 +186,7 @@ fn chosen_objective(words: &[String]) -> Option<Objective>
 #[derive(Clone, Copy)]
 pub(crate) struct Partitioning<'a> {
     pub graph: &'a str,
-    pub k: u32,
-    pub eps: u32,
+    pub balance: Balance,
     pub seed: u64,
     pub workers: u32,
     pub out: Option<&'a str>,
@@ -199,8 +199,7 @@ pub(crate) struct Partitioning<'a> {
 pub(crate) struct Evaluation<'a> {
     pub graph: &'a str,
     pub part: &'a str,
-    pub k: u32,
-    pub eps: u32,
+    pub balance: Balance,
     pub objective: Objective,
 }
 
@@ -213,7 +212,6 @@ pub(crate) enum Command<'a> {
 }
 
 fn partition_words(words: &[String]) -> Option<Partitioning<'_>>
-    ensures bounds { IfSome result (λ p. (2 ≤ p.k) × (p.k ≤ 256) × (p.eps ≤ 100000)) }
     ensures value { option_map partitioning_of result ≡ partition_words (map string_bytes words.now) }
 {
     let [graph, k, eps, rest @ ..] = words else {
@@ -225,8 +223,7 @@ fn partition_words(words: &[String]) -> Option<Partitioning<'_>>
     let settings = with_words(rest)?;
     Some(Partitioning {
         graph,
-        k,
-        eps,
+        balance: Balance { k, eps },
         seed: settings.seed.unwrap_or(1),
         workers: settings.workers.unwrap_or(4),
         out: settings.out,
@@ -236,17 +233,19 @@ fn partition_words(words: &[String]) -> Option<Partitioning<'_>>
 }
 
 fn evaluate_words(words: &[String]) -> Option<Evaluation<'_>>
-    ensures bounds { IfSome result (λ e. (2 ≤ e.k) × (e.k ≤ 256) × (e.eps ≤ 100000)) }
     ensures value { option_map evaluation_of result ≡ evaluate_words (map string_bytes words.now) }
 {
     let [graph, part, k, eps, rest @ ..] = words else {
         return None;
     };
+    let graph = file_name(graph.as_str())?;
+    let part = plain_name(part.as_str())?;
+    let k = small_within(2, 256, k.as_str())?;
+    let eps = imbalance(eps.as_str())?;
     Some(Evaluation {
-        graph: file_name(graph.as_str())?,
-        part: plain_name(part.as_str())?,
-        k: small_within(2, 256, k.as_str())?,
-        eps: imbalance(eps.as_str())?,
+        graph,
+        part,
+        balance: Balance { k, eps },
         objective: chosen_objective(rest)?,
     })
 }

@@ -17,7 +17,7 @@ pub enum PartKind {
     ExtraLine,
 }
 
-/// Why a partition file wasn't read.
+/// Why a partition file or a fix file wasn't read.
 #[derive(Clone, Copy, Debug, PartialEq, Eq)]
 pub enum PartFault {
     /// The first line with a fault, counted from 1, and its first fault.
@@ -32,18 +32,7 @@ pub enum PartFault {
 }
 
 /// Why a fix file wasn't read.
-#[derive(Clone, Copy, Debug, PartialEq, Eq)]
-pub enum FixFault {
-    /// The first line with a fault, counted from 1, and its first fault.
-    Bad {
-        /// The number of the line.
-        line: u32,
-        /// What is wrong.
-        kind: PartKind,
-    },
-    /// There was no memory left.
-    NoMemory,
-}
+pub type FixFault = PartFault;
 
 impl From<AllocError> for PartFault {
     ghost use Rattle.part_text.specs.declared.fault.PartFault.TheVariants.{NoMemory as no_memory};
@@ -62,18 +51,5 @@ impl<T: Drop> From<AllocFailed<T>> for PartFault {
 
     fn from(_failed: AllocFailed<T>) -> Self {
         PartFault::NoMemory
-    }
-}
-
-impl From<PartFault> for FixFault {
-    ghost use Rattle.part_text.specs.Answers.{IsSameFault};
-
-    ghost from_gives = { IsSameFault };
-
-    fn from(fault: PartFault) -> Self {
-        match fault {
-            PartFault::Bad { line, kind } => FixFault::Bad { line, kind },
-            PartFault::NoMemory => FixFault::NoMemory,
-        }
     }
 }

@@ -1,6 +1,6 @@
 ghost use Rattle.std.specs.Prelude.{◌≡◌, ◌≢◌, ℕ, ◌^◌, ◌<◌, ◌≤◌, All, IfOk, length};
 ghost use Rattle.part_text.specs.Entries.{block_entry, fix_entry, entry_in, IsEntry, block_in as block_spelt, spelled, spelled_part, spelled_fixes};
-ghost use Rattle.part_text.specs.Answers.{AnswersPart, AnswersFixes};
+ghost use Rattle.part_text.specs.Answers.{Answers};
 ghost use Rattle.hg_text.specs.Kept.{reading};
 
 use crate::{FixFault, PartFault, PartKind};
@@ -13,7 +13,7 @@ use std::alloc::Global;
 /// A refusal names the first line with a fault, and the first fault of that line.
 pub fn read_part(alloc: Global, bytes: &[u8], n: u32, k: u32) -> Result<Blocks, PartFault>
     requires { length bytes.now ≤ 2 ^ 29 }
-    ensures part { AnswersPart (spelled_part bytes.now n k) result }
+    ensures part { Answers (spelled_part bytes.now n k) result }
     ensures vertices { IfOk result (λ blocks. length blocks ≡ n) }
     ensures blocks { IfOk result (All (λ b. b < k)) }
 {
@@ -26,12 +26,12 @@ pub fn read_part(alloc: Global, bytes: &[u8], n: u32, k: u32) -> Result<Blocks, 
 /// A refusal names the first line with a fault, and the first fault of that line.
 pub fn read_fix(alloc: Global, bytes: &[u8], n: u32, k: u32) -> Result<Blocks, FixFault>
     requires { length bytes.now ≤ 2 ^ 29 }
-    ensures fixes { AnswersFixes (spelled_fixes bytes.now n k) result }
+    ensures fixes { Answers (spelled_fixes bytes.now n k) result }
     ensures vertices { IfOk result (λ fixes. length fixes ≡ n) }
     ensures below { IfOk result (All (λ fix. fix ≢ FREE → fix < k)) }
     ensures within { k ≤ FREE → IfOk result (All (λ fix. fix ≤ FREE)) }
 {
-    Ok(read_entries(alloc, bytes, n, k, Entry::Fix)?)
+    read_entries(alloc, bytes, n, k, Entry::Fix)
 }
 
 // What each line of a file holds.
@@ -50,7 +50,7 @@ fn read_entries(
     entry: Entry,
 ) -> Result<Blocks, PartFault>
     requires { length bytes.now ≤ 2 ^ 29 }
-    ensures values { AnswersPart (spelled (entry_in entry k) n (reading bytes.now)) result }
+    ensures values { Answers (spelled (entry_in entry k) n (reading bytes.now)) result }
     ensures count { IfOk result (λ values. length values ≡ n) }
     ensures each { IfOk result (All (IsEntry entry k)) }
 {

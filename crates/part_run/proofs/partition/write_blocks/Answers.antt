@@ -1,23 +1,14 @@
 use Rattle.std.proofs.Common.{sym, ◌∙◌}
-use Rattle.part_run.proofs.Nonempty.{part_text-some, not_empty, on_err, used}
-use Rattle.part_run.proofs.Flushed.{flushed}
+use Rattle.part_run.proofs.Nonempty.{part_text-some, not_empty}
+use Rattle.part_run.proofs.Flushed.{flushed, unput}
 use Rattle.part_run.proofs.partition.write_blocks.Goals as goal
 
-pub returns-clause-bytes : goal.returns-clause-bytes
-returns-clause-bytes g c = flushed c.flush.result c.in_ok-put_part.ensures.bytes c.flush.ensures.bytes
+pub returns-in_err-put_part-clause-answer : goal.returns-in_err-put_part-clause-answer
+returns-in_err-put_part-clause-answer g c =
+    unput _ _ _ _ _ _ _ (part_text-some c.args.blocks.now (not_empty c.args.blocks.now (sym c.is_empty.ensures ∙ c.if-is_empty.false))) c.in_err-put_part.ensures.bytes c.in_err-put_part.ensures.cause.failed
+    c.from_residual.result c.from_residual.ensures.0
 
-pub returns-in_err-put_part-clause-some : goal.returns-in_err-put_part-clause-some
-returns-in_err-put_part-clause-some g c =
-    on_err c.from_residual.result _ (part_text-some c.args.blocks.now (not_empty c.args.blocks.now (sym c.is_empty.ensures ∙ c.if-is_empty.false)))
-
-pub returns-clause-some : goal.returns-clause-some
-returns-clause-some g c =
-    on_err c.flush.result _ (part_text-some c.args.blocks.now (not_empty c.args.blocks.now (sym c.is_empty.ensures ∙ c.if-is_empty.false)))
-
-pub returns-in_err-put_part-clause-unused : goal.returns-in_err-put_part-clause-unused
-returns-in_err-put_part-clause-unused g c =
-    used _ _ _ (part_text-some c.args.blocks.now (not_empty c.args.blocks.now (sym c.is_empty.ensures ∙ c.if-is_empty.false)))
-
-pub returns-clause-unused : goal.returns-clause-unused
-returns-clause-unused g c =
-    used _ _ _ (part_text-some c.args.blocks.now (not_empty c.args.blocks.now (sym c.is_empty.ensures ∙ c.if-is_empty.false)))
+pub returns-clause-answer : goal.returns-clause-answer
+returns-clause-answer g c =
+    flushed _ _ _ _ _ _ _ _ _ (part_text-some c.args.blocks.now (not_empty c.args.blocks.now (sym c.is_empty.ensures ∙ c.if-is_empty.false))) c.in_ok-put_part.ensures.bytes c.in_ok-put_part.ensures.cause.kept
+    c.flush.result c.flush.ensures.bytes c.flush.ensures.cause c.flush.ensures.sent

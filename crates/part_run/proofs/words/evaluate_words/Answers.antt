@@ -1,5 +1,5 @@
 use Rattle.part_run.proofs.TooFew.{evaluate_words-short}
 use Rattle.part_run.proofs.words.evaluate_words.Goals as goal
 
-pub returns-in_default-clause-value : goal.returns-in_default-clause-value
-returns-in_default-clause-value c = evaluate_words-short c.args.words.now c.in_default.len_below
+pub returns-in_default : goal.returns-in_default
+returns-in_default c = record { value = evaluate_words-short c.args.words.now c.in_default.len_below }

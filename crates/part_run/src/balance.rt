@@ -1,0 +1,13 @@
+//! The sizes that a partition is asked for.
+
+ghost use Rattle.std.specs.Prelude.{◌≤◌};
+
+/// Into how many blocks, `k`, and how uneven they may be: `eps` thousandths.
+#[derive(Clone, Copy)]
+pub(crate) struct Balance {
+    pub k: u32,
+    pub eps: u32,
+    pub ghost some: { 2 ≤ k },
+    pub ghost few: { k ≤ 256 },
+    pub ghost near: { eps ≤ 100000 },
+}
