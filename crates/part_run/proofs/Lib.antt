@@ -6,3 +6,4 @@ pub mod Unplaced
 pub mod Nonempty
 pub mod Swept
 pub mod WordLaws
+mod CompletenessLaws

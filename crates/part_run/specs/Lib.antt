@@ -5,3 +5,4 @@ pub mod StatusText
 pub mod Reads
 pub mod Answers
 pub mod WordLaws
+pub mod Completeness
