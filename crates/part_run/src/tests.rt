@@ -1,9 +1,10 @@
 use crate::{Ended, Names, Status, names, put_status, run};
-use hg_io::{MemSink, MemSource, Place};
+use hg_io::{AnySink, AnySource, MemSink, MemSource, Place};
 use hmetis_read::{LineKind, What};
 use part_text::PartKind;
 use std::alloc::{AllocError, Global};
 use std::test::Fail;
+use std::{env, fs, io, process};
 
 /// Seven vertices, four nets of weights 2, 3, 8 and 7.
 const FIRST: &[u8] = b"4 7 1\n2 1 2\n3 1 7 5 6\n8 5 6 4\n7 2 3 4\n";
@@ -151,11 +152,25 @@ fn partitions_and_evaluates(rt: HostRuntime) -> Result<(), Fail> {
             "vertices 7\nnets 4\nweight 7\nblocks 2\nlimit 4\ncost 10\nload 0 4\nload 1 3\nfits yes\n",
         ),
         (
-            "evaluate g p 2 0",
+            "evaluate g p 2 0.2",
             FIRST,
             "0\n0\n0\n0\n0\n0\n0\n",
             "",
             "vertices 7\nnets 4\nweight 7\nblocks 2\nlimit 4\ncost 0\nload 0 7\nload 1 0\nfits no\n",
+        ),
+        (
+            "evaluate g p 2 0.75",
+            b"0 7\n".as_slice(),
+            "0\n0\n0\n0\n0\n0\n0\n",
+            "",
+            "vertices 7\nnets 0\nweight 7\nblocks 2\nlimit 7\ncost 0\nload 0 7\nload 1 0\nfits yes\n",
+        ),
+        (
+            "evaluate g p 2 100.000",
+            b"0 1\n".as_slice(),
+            "1\n",
+            "",
+            "vertices 1\nnets 0\nweight 1\nblocks 2\nlimit 101\ncost 0\nload 0 0\nload 1 1\nfits yes\n",
         ),
         (
             "evaluate g p 3 0",
@@ -300,6 +315,7 @@ fn refused_runs_write_nothing(rt: HostRuntime) -> Result<(), Fail> {
         let made = run_over(rt.alloc(), words, graph.as_bytes(), extra.as_bytes(), NONE)?;
         assert_eq!(rt; made.ended.status, status, "{words}");
         assert_eq!(rt; made.out.len() + made.report.len(), 0, "{words}");
+        assert_eq!(rt; made.ended.outcome.is_none(), true, "{words}");
     }
     Ok(())
 }
@@ -329,7 +345,10 @@ fn failing_ends(rt: HostRuntime) -> Result<(), Fail> {
         let made = run_over(rt.alloc(), "partition g 2 0", FIRST, b"", fails)?;
         assert_eq!(rt; made.ended.status, Status::WriteFault);
         assert_eq!(rt; made.out.as_slice(), text.as_slice());
-        assert_eq!(rt; made.report.len(), 3 * (call as usize - 1));
+        let got = 3 * (call as usize - 1);
+        let report = b"vertices 7\nnets 4\n";
+        assert_eq!(rt; made.report.as_slice(), report.get(..got).unwrap_or(&[]));
+        assert_eq!(rt; made.ended.outcome.is_none(), true);
     }
     for call in 1..=10 {
         let fails = Fails {
@@ -380,6 +399,61 @@ fn named_places(rt: HostRuntime) -> Result<(), Fail> {
     assert_eq!(rt; is_file(&streams.extra, "f=g"), true);
     assert_eq!(rt; matches!(streams.out, Place::Output), true);
     assert_eq!(rt; matches!(streams.report, Place::Errors), true);
+    let evaluated = names(alloc, words_of(alloc, "evaluate - p 2 0")?.as_slice())?;
+    assert_eq!(rt; matches!(evaluated.graph, Place::Input), true);
+    assert_eq!(rt; is_file(&evaluated.extra, "p"), true);
+    assert_eq!(rt; matches!(evaluated.out, Place::Nothing), true);
+    assert_eq!(rt; matches!(evaluated.report, Place::Output), true);
+    let made = names(alloc, words_of(alloc, "generate 4")?.as_slice())?;
+    assert_eq!(rt; matches!(made.out, Place::Output), true);
+    assert_eq!(rt; matches!(made.report, Place::Nothing), true);
+    Ok(())
+}
+
+/// Runs the words over the places that they name, standard streams being left out.
+fn run_over_files(rt: &HostRuntime, text: &str) -> Result<Status, Fail> {
+    let alloc = rt.alloc();
+    let words = words_of(alloc, text)?;
+    let names = names(alloc, words.as_slice())?;
+    let nothing = b"".as_slice();
+    let mut graph = AnySource::at(rt, nothing, names.graph);
+    let mut extra = AnySource::at(rt, nothing, names.extra);
+    let mut out = AnySink::at(rt, io::sink(), io::sink(), names.out);
+    let mut report = AnySink::at(rt, io::sink(), io::sink(), names.report);
+    Ok(
+        run(
+            alloc,
+            words.as_slice(),
+            &mut graph,
+            &mut extra,
+            &mut out,
+            &mut report,
+        )
+        .status,
+    )
+}
+
+#[test]
+fn runs_over_files(rt: HostRuntime) -> Result<(), Fail> {
+    let alloc = rt.alloc();
+    let dir = env::temp_dir(&rt)?;
+    let id = process::id(rt.process());
+    let graph = format!(in alloc; "{}/part_run-{id}.hgr", dir.as_str())?;
+    let part = format!(in alloc; "{graph}.part.2")?;
+    fs::write(&rt, graph.as_str(), "3 4\n1 2\n2 3\n3 4\n")?;
+    let words = format!(in alloc; "partition {graph} 2 0")?;
+    assert_eq!(rt; run_over_files(&rt, words.as_str())?, Status::Done);
+    assert_eq!(rt;
+        fs::read(&rt, part.as_str())?.as_slice(),
+        b"0\n1\n0\n1\n".as_slice()
+    );
+    let words = format!(in alloc; "evaluate {graph} {part} 2 0")?;
+    assert_eq!(rt; run_over_files(&rt, words.as_str())?, Status::Done);
+    let words = format!(in alloc; "evaluate {part} {graph} 2 0")?;
+    assert_eq!(rt; run_over_files(&rt, words.as_str())? == Status::Done, false);
+    assert_eq!(rt; run_over_files(&rt, "generate 4")?, Status::Done);
+    fs::remove_file(&rt, graph.as_str())?;
+    fs::remove_file(&rt, part.as_str())?;
     Ok(())
 }
 
