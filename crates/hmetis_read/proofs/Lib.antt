@@ -2,3 +2,4 @@ mod Each
 mod Lines
 mod Placed
 mod Counted
+mod FirstLaws

@@ -15,16 +15,16 @@ use Rattle.hmetis_read.specs.declared.fault.What.TheVariants.{Nets, Vertices, Pi
 use Rattle.hmetis_read.specs.declared.header.Shape.{Shape}
 
 -- P holds of each fault at a line of this number
-record FaultsAt (P : GraphFault → Type 0) (line : ℕ) : Type 0 where
-  bad : (kind : LineKind) → P (Bad line kind)
-  large : (what : What) → P (TooLarge line what)
+pub record FaultsAt (P : GraphFault → Type 0) (line : ℕ) : Type 0 where
+  pub bad : (kind : LineKind) → P (Bad line kind)
+  pub large : (what : What) → P (TooLarge line what)
 
 abbrev FaultsAtEach : (GraphFault → Type 0) → List Line → Type 0
 FaultsAtEach P [] = Unit {0}
 FaultsAtEach P (line ∷ lines) = FaultsAt P line.number × FaultsAtEach P lines
 
 -- a value, or a fault of which P holds
-abbrev Holds : {A : Type 0} → (GraphFault → Type 0) → Read A → Type 0
+abbrev pub Holds : {A : Type 0} → (GraphFault → Type 0) → Read A → Type 0
 Holds P (Ok value) = Unit {0}
 Holds P (Err fault) = P fault
 
@@ -67,13 +67,13 @@ module _ (P : GraphFault → Type 0) where
       (λ known. bind_holds (guarded (nat_le nets (2 ^ 22)) (TooLarge line Nets) nets) _ (guarded_holds _ (TooLarge line Nets) nets (at.large Nets))
       (λ few. guarded_holds _ (TooLarge line Vertices) _ (at.large Vertices)))
 
-  header_holds : (line : Line) → FaultsAt P line.number → Holds P (header_in line)
+  pub header_holds : (line : Line) → FaultsAt P line.number → Holds P (header_in line)
   header_holds line at =
       bind_holds (guarded (length line.fields == 2 || length line.fields == 3) (Bad line.number HeaderCount) line.fields) _ (guarded_holds _ (Bad line.number HeaderCount) line.fields (at.bad HeaderCount))
       (λ fields. bind_holds (each (value_in line.number) (map number_of fields)) _ (each_holds (value_in line.number) (λ number. value_holds line.number number at) (map number_of fields))
       (λ values. shape_holds line.number (slice_index values 0) (slice_index values 1) (slice_index values 2) at))
 
-  net_holds : (shape : Shape) (net : ℕ × Line) → FaultsAt P net.1.number → Holds P (net_in shape net)
+  pub net_holds : (shape : Shape) (net : ℕ × Line) → FaultsAt P net.1.number → Holds P (net_in shape net)
   net_holds shape net at =
       bind_holds (net_weight_in shape net.1) _ (choice_holds shape.net_weights (weight_in net.1.number (first_number net.1)) (Ok 1) (weight_holds net.1.number (first_number net.1) at) tt)
       (λ weight. bind_holds (each (pin_in shape.vertices net.1.number) (enumerate_from net.0 (pin_numbers shape net.1))) _
@@ -87,7 +87,7 @@ module _ (P : GraphFault → Type 0) where
       bind_holds (net_in shape (before, line)) (λ y. each (net_in shape) rest >>= λ ys. Ok (y ∷ ys)) (net_holds shape (before, line) at.0)
       (λ y. bind_holds (each (net_in shape) rest) (λ ys. Ok (y ∷ ys)) (nets_hold shape (before + length (pin_numbers shape line)) lines at.1) (λ ys. tt))
 
-  vertex_holds : (line : Line) → FaultsAt P line.number → Holds P (vertex_in line)
+  pub vertex_holds : (line : Line) → FaultsAt P line.number → Holds P (vertex_in line)
   vertex_holds line at =
       bind_holds (guarded (length line.fields == 1) (Bad line.number FieldCount) line.fields) _ (guarded_holds _ (Bad line.number FieldCount) line.fields (at.bad FieldCount))
       (λ fields. weight_holds line.number (first_number line) at)

@@ -149,8 +149,11 @@ first_line count (line ∷ lines) = Ok line
 abbrev pub shape_of : Reading → Read Shape
 shape_of text = first_line text.count text.kept >>= header_in
 
--- what the bytes of a file spell
+-- what a text spells, and what the bytes of a file spell
+abbrev pub graph_in : Reading → Read Hyper
+graph_in text = do
+  shape ← shape_of text
+  body_in shape (read_on 1 text)
+
 abbrev pub graph : List ℕ → Read Hyper
-graph bytes = do
-  shape ← shape_of (reading bytes)
-  body_in shape (read_on 1 (reading bytes))
+graph bytes = graph_in (reading bytes)
