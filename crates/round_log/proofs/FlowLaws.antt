@@ -1,14 +1,19 @@
 -- The laws over flow rounds.
-use Rattle.std.proofs.Common.{◌≡◌, ◌≢◌, ◌⊎◌, inl, inr, ℕ, ◌-◌, ◌<◌, Bool, true, false, ◌&&◌, not, nat_eq, nat_le, if◌then◌else◌, List, [], ◌∷◌, ◌++◌, length, filter, All, Contains, refl, sym, subst, ◌∙◌, arith}
-use Rattle.std.proofs.lemmas.Bool.{and_parts, eqb-true, cases_eq}
+use Rattle.std.proofs.Common.{◌≡◌, ◌≢◌, ◌⊎◌, inl, inr, ℕ, suc, ◌-◌, ◌<◌, Bool, true, false, ◌&&◌, not, nat_eq, nat_le, if◌then◌else◌, List, [], ◌∷◌, ◌++◌, length, filter, get_or, slice_set, All, AllPairs, Contains, refl, sym, subst, ◌∙◌, arith, get_or-set_other}
+use Rattle.std.proofs.lemmas.Bool.{and_parts, eqb-true, eqb-false, cases_eq}
+use Rattle.std.proofs.lemmas.Bool.Decides.{Decides-eqb}
+use Rattle.std.proofs.lemmas.Map.Made.{AllPairs-from_IsDistinct}
 use Rattle.std.proofs.lemmas.List.{get_or_default}
 use Rattle.std.proofs.lemmas.List.Elements.{All-nil, All-cons, All-head, All-tail, All-append, All-weaker, All-contains, All-contains_itself, filter_passes}
 use Rattle.std.proofs.lemmas.Cmp.{nat_cmp_total}
 use Rattle.hg_defs.specs.Hypergraph.{Hyper, IsFree, is_free, fix_of, vertices, weight_of}
+use Rattle.hg_defs.specs.declared.moves.Move.{Move}
 use Rattle.hg_defs.specs.Partition.{block_of, load}
+use Rattle.hg_defs.specs.Moves.{gain}
+use Rattle.hg_defs.proofs.PlacementLaws.{distinct_vertices}
 use Rattle.hg_defs.proofs.SortLaws.{Contains_head, Contains_later, Contains-from_set_of, nat_cmp_exact}
 use Rattle.round_log.specs.declared.record.LoggedRound.{LoggedRound}
-use Rattle.round_log.specs.Rounds.{after_round, IsFlowRound, IsAssignment, is_near, is_next, taken, side, region}
+use Rattle.round_log.specs.Rounds.{after_round, IsFlowRound, IsAssignment, is_near, is_next, taken, side, region, changes}
 use Rattle.round_log.specs.RoundLaws.{FlowRoundLeavesPartition, FlowRoundLeavesFixes, FlowRoundRaisesNoCost, RegionIsFree}
 
 -- ---- the vertices of a region
@@ -113,3 +118,42 @@ flow-no_dearer h k l p r s =
     let after = s.after in
     let made = s.made in
     omega arith
+
+-- ---- the moves of the round
+
+-- the vertices that change are those whose blocks differ
+changes-differ : (h : Hyper) (p q r vs : List ℕ) → AllPairs (λ u v. u ≢ v) vs → All (λ v. block_of r v ≡ block_of p v) vs → All (λ (m : Move). block_of p m.vertex ≢ block_of q m.vertex) (changes h r q vs)
+changes-differ h p q r [] apart same = All-nil (λ (m : Move). block_of p m.vertex ≢ block_of q m.vertex)
+changes-differ h p q r (v ∷ vs) apart same = by (nat_eq (block_of r v) (block_of q v)) refl (changes-differ h p q (slice_set r v (block_of q v)) vs rest later)
+  where
+    rest : AllPairs (λ u v. u ≢ v) vs
+    rest i j d l m = apart (suc i) (suc j) d (omega arith) (omega arith)
+
+    later : All (λ u. block_of (slice_set r v (block_of q v)) u ≡ block_of p u) vs
+    later i d m = get_or-set_other r v (get_or vs i d) (block_of q v) 0 (λ e. apart 0 (suc i) d (omega arith) (omega arith) (sym e)) ∙ All-tail (λ u. block_of r u ≡ block_of p u) v vs same i d m
+
+    here : block_of r v ≡ block_of p v
+    here = All-head (λ u. block_of r u ≡ block_of p u) v vs same
+
+    by : (t : Bool) → nat_eq (block_of r v) (block_of q v) ≡ t → All (λ (m : Move). block_of p m.vertex ≢ block_of q m.vertex) (changes h (slice_set r v (block_of q v)) q vs)
+        → All (λ (m : Move). block_of p m.vertex ≢ block_of q m.vertex)
+        (if t then changes h (slice_set r v (block_of q v)) q vs else
+        (record { vertex = v; from = block_of r v; to = block_of q v; worker = 0; booked = gain h r v (block_of q v) } ∷ changes h (slice_set r v (block_of q v)) q vs))
+    by true e others = others
+    by false e others =
+        All-cons (λ (m : Move). block_of p m.vertex ≢ block_of q m.vertex) (record { vertex = v; from = block_of r v; to = block_of q v; worker = 0; booked = gain h r v (block_of q v) })
+        (changes h (slice_set r v (block_of q v)) q vs) (λ f. eqb-false (block_of r v) (block_of q v) e (here ∙ f)) others
+
+-- they are free
+pub flow-free : (h : Hyper) (k l : ℕ) (p : List ℕ) (r : LoggedRound) → IsFlowRound h k l p r → All (λ (m : Move). IsFree h m.vertex) r.moves
+flow-free h k l p r s =
+    subst (All (λ (m : Move). IsFree h m.vertex)) (sym s.moves)
+    (All-weaker (λ (m : Move). block_of p m.vertex ≢ block_of (after_round p r) m.vertex) (λ (m : Move). IsFree h m.vertex) (λ m n. by m.vertex n (among m.vertex r.region)) (changes h p (after_round p r) (vertices h))
+    (changes-differ h p (after_round p r) p (vertices h) (AllPairs-from_IsDistinct Decides-eqb (vertices h) (distinct_vertices h)) (λ i d m. refl)))
+  where
+    by : (v : ℕ) → block_of p v ≢ block_of (after_round p r) v → Contains r.region v ⊎ All (λ u. u ≢ v) r.region → IsFree h v
+    by v n (inl c) = (All-contains (IsInside h p r.first r.second) r.region v (inside h k l p r s) c).0
+    by v n (inr a) = absurd (n (sym (s.assigned.outside v a)))
+
+pub flow-region_free : (h : Hyper) (k l : ℕ) (p : List ℕ) (r : LoggedRound) → IsFlowRound h k l p r → All (IsFree h) r.region
+flow-region_free h k l p r s = All-weaker (IsInside h p r.first r.second) (IsFree h) (λ v i. i.0) r.region (inside h k l p r s)

@@ -12,3 +12,4 @@ pub mod TraceLaws
 pub mod CycleLaws
 pub mod SyncLaws
 pub mod DetLaws
+pub mod CycleRows

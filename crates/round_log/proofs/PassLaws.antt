@@ -4,7 +4,8 @@ use Rattle.std.proofs.lemmas.Bool.{ltb-true, ltb-false, lt-ltb}
 use Rattle.std.proofs.lemmas.List.Elements.{All-nil, All-cons, All-head, All-tail}
 use Rattle.hg_defs.specs.declared.moves.Move.{Move}
 use Rattle.hg_defs.specs.Sums.{total}
-use Rattle.hg_defs.specs.Hypergraph.{Hyper}
+use Rattle.hg_defs.specs.Hypergraph.{Hyper, IsFree}
+use Rattle.hg_defs.proofs.MoveLaws.{sweep_allowed}
 use Rattle.hg_defs.specs.Replay.{replay}
 use Rattle.hg_defs.specs.Partition.{IsPartition, Fits, Obeys}
 use Rattle.hg_defs.specs.Cost.{cost}
@@ -13,10 +14,10 @@ use Rattle.round_log.specs.declared.record.Kind.TheVariants.{Label, Search, Flow
 use Rattle.round_log.specs.declared.record.LoggedRound.{LoggedRound}
 use Rattle.round_log.specs.Rounds.{after_round, after_rounds, IsSwept, IsRaced, IsFlowRound}
 use Rattle.round_log.specs.Passes.{IsLabelRound, AreLabelRounds, IsSearchRound, AreSearchRounds, AreFlowRounds, ArePassRounds, block_pairs, is_lower, saved}
-use Rattle.round_log.specs.RoundLaws.{PassLeavesPartition, PassLeavesFixes, PassStaysWithinLimit, PassRaisesNoCost, PassSavesInItsRounds, PassHasFewRounds, PassIsOfItsKind, PassIsPartOfPass}
+use Rattle.round_log.specs.RoundLaws.{PassLeavesPartition, PassLeavesFixes, PassStaysWithinLimit, PassRaisesNoCost, PassSavesInItsRounds, PassHasFewRounds, PassIsOfItsKind, PassIsPartOfPass, MovesFree, PassMovesFreeVertices}
 use Rattle.round_log.proofs.RoundLaws.{swept_to, swept_partition, swept_obeys, swept_fits, swept_less, raced-partition, raced-obeys, raced-fits, raced-no_dearer}
 use Rattle.round_log.proofs.PairLaws.{pairs_within}
-use Rattle.round_log.proofs.FlowLaws.{flow-partition, flow-obeys, flow-no_dearer}
+use Rattle.round_log.proofs.FlowLaws.{flow-partition, flow-obeys, flow-no_dearer, flow-free, flow-region_free}
 
 -- ---- what a round keeps
 
@@ -27,6 +28,7 @@ pub record Keeps (h : Hyper) (k l : ℕ) (p : List ℕ) (r : LoggedRound) : Type
   pub no_dearer : Fits h k l p → cost h (after_round p r) ≤ cost h p
   pub before : r.before ≡ cost h p
   pub after : r.after ≡ cost h (after_round p r)
+  pub free : MovesFree h r
 
 module _ (h : Hyper) (k l : ℕ) (p : List ℕ) (r : LoggedRound) where
   pub raced_keeps : IsRaced h k l p r → Keeps h k l p r
@@ -37,6 +39,7 @@ module _ (h : Hyper) (k l : ℕ) (p : List ℕ) (r : LoggedRound) where
     no_dearer = λ f. let a = raced-no_dearer h k l p r f s in let b = s.before in let c = s.after in omega arith;
     before = s.before;
     after = s.after;
+    free = ((λ i d m. (s.moves.each i d m).free), subst (All (IsFree h)) (sym s.no_pair.region) (All-nil (IsFree h)));
   }
 
   swept_keeps : IsSwept h k l p r → Keeps h k l p r
@@ -47,6 +50,10 @@ module _ (h : Hyper) (k l : ℕ) (p : List ℕ) (r : LoggedRound) where
     no_dearer = λ f. let a = swept_less h k l p r s in omega arith;
     before = s.before;
     after = s.after ∙ s.made ∙ ap (λ (moves : List Move). cost h (replay p moves)) s.moves ∙ ap (cost h) (sym (swept_to h k l p r s));
+    free = (
+      subst (All (λ (m : Move). IsFree h m.vertex)) (sym s.moves) (λ i d m. (sweep_allowed h k l p i d m).free),
+      subst (All (IsFree h)) (sym s.no_pair.region) (All-nil (IsFree h)),
+    );
   }
 
   flow_keeps : r.first < k → r.second < k → IsFlowRound h k l p r → Keeps h k l p r
@@ -57,6 +64,7 @@ module _ (h : Hyper) (k l : ℕ) (p : List ℕ) (r : LoggedRound) where
     no_dearer = λ f. let a = flow-no_dearer h k l p r s in let b = s.before in let c = s.after in let d = s.made in omega arith;
     before = s.before;
     after = s.after ∙ s.made;
+    free = (flow-free h k l p r s, flow-region_free h k l p r s);
   }
 
 -- ---- what rounds keep, one after the other
@@ -250,3 +258,12 @@ pass-part Label h k l workers p rounds s = label_part h k l workers 0 true p rou
 pass-part Search h k l workers p rounds s = search_part h k l workers 0 true p rounds s
 pass-part Flow h k l workers p rounds s = flow_part h k l workers (block_pairs k) p rounds s
 pass-part Sweep h k l workers p rounds s = absurd s
+
+-- ---- free vertices
+
+all_free : (h : Hyper) (k l : ℕ) (p : List ℕ) (rounds : List LoggedRound) → AllKeep h k l p rounds → All (MovesFree h) rounds
+all_free h k l p [] keep = All-nil (MovesFree h)
+all_free h k l p (r ∷ rounds) keep = All-cons (MovesFree h) r rounds keep.0.free (all_free h k l (after_round p r) rounds keep.1)
+
+pub pass-free : PassMovesFreeVertices
+pass-free whole kind h k l workers p rounds s = all_free h k l p rounds (pass_keeps whole kind h k l workers p rounds s)

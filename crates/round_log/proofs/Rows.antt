@@ -10,14 +10,14 @@ use Rattle.hg_defs.specs.Replay.{replay}
 use Rattle.round_log.specs.Rounds.{touching, region, pair_cost, changes}
 use Rattle.round_log.specs.Passes.{block_pairs}
 
-abbrev net : ℕ → List ℕ → Net
+abbrev pub net : ℕ → List ℕ → Net
 net w ps = record { weight = w; pins = ps }
 
 -- so many vertices of weight 1
-abbrev unit : Objective → List ℕ → List Net → Hyper
+abbrev pub unit : Objective → List ℕ → List Net → Hyper
 unit o fixes nets = record { weights = map (λ f. 1) fixes; nets = nets; objective = o; fixes = fixes }
 
-abbrev free : ℕ → List ℕ
+abbrev pub free : ℕ → List ℕ
 free n = replicate n 256
 
 abbrev move : ℕ → ℕ → ℕ → ℕ → Move
@@ -42,7 +42,7 @@ line-moves = refl
 
 -- ---- a pair whose blocks are full: the region is empty, and the value is what the cut net costs
 
-abbrev pair : Hyper
+abbrev pub pair : Hyper
 pair = unit Connectivity (free 2) (net 1 (0 ∷ 1 ∷ []) ∷ [])
 
 pair-region : region pair 1 (0 ∷ 1 ∷ []) 0 1 ≡ []
@@ -132,10 +132,10 @@ lines-degree_values = refl
 
 -- ---- a sweep of a path of six vertices, and the next one
 
-abbrev path : Hyper
+abbrev pub path : Hyper
 path = unit Connectivity (free 6) (map (λ v. net 1 (v ∷ suc v ∷ [])) (0 ∷ 1 ∷ 2 ∷ 3 ∷ 4 ∷ []))
 
-abbrev in_turns : List ℕ
+abbrev pub in_turns : List ℕ
 in_turns = 0 ∷ 1 ∷ 0 ∷ 1 ∷ 0 ∷ 1 ∷ []
 
 path-sweep : sweep path 2 4 in_turns ≡ move 0 0 1 1 ∷ move 3 1 0 2 ∷ move 5 1 0 1 ∷ []

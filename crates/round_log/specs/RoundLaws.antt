@@ -138,3 +138,12 @@ abbrev pub PassIsPartOfPass : Type 0
 PassIsPartOfPass =
     (kind : Kind) (h : Hyper) (k l workers : ℕ) (p : List ℕ) (rounds : List LoggedRound)
     → IsPass kind h k l workers p rounds → IsPartOfPass kind h k l workers p rounds
+
+-- the vertices that a round moved or assigned anew are free
+abbrev pub MovesFree : Hyper → LoggedRound → Type 0
+MovesFree h r = All (λ m. IsFree h m.vertex) r.moves × All (IsFree h) r.region
+
+abbrev pub PassMovesFreeVertices : Type 0
+PassMovesFreeVertices =
+    (whole : Bool) (kind : Kind) (h : Hyper) (k l workers : ℕ) (p : List ℕ) (rounds : List LoggedRound)
+    → ArePassRounds whole kind h k l workers p rounds → All (MovesFree h) rounds

@@ -1,6 +1,6 @@
 //! The laws over recorded rounds. Each is the contract of a function that does nothing.
 
-ghost use Rattle.round_log.specs.RoundLaws.{SweepsEndSettled, SweepsAreReplayed, SweepsLeadToOne, SweepsLeavePartition, SweepsLeaveFixes, SweepsStayWithinLimit, SweepsRaiseNoCost, SweepsLowerCost, RacedRoundLeavesPartition, RacedRoundLeavesFixes, RacedRoundStaysWithinLimit, RacedRoundRaisesNoCost, RacedRoundKeepsBest, RacedRoundKeepsCheapest, FlowRoundLeavesPartition, FlowRoundLeavesFixes, FlowRoundRaisesNoCost, RegionIsFree, PassLeavesPartition, PassLeavesFixes, PassStaysWithinLimit, PassRaisesNoCost, PassSavesInItsRounds, PassHasFewRounds, PassIsOfItsKind, PassIsPartOfPass};
+ghost use Rattle.round_log.specs.RoundLaws.{SweepsEndSettled, SweepsAreReplayed, SweepsLeadToOne, SweepsLeavePartition, SweepsLeaveFixes, SweepsStayWithinLimit, SweepsRaiseNoCost, SweepsLowerCost, RacedRoundLeavesPartition, RacedRoundLeavesFixes, RacedRoundStaysWithinLimit, RacedRoundRaisesNoCost, RacedRoundKeepsBest, RacedRoundKeepsCheapest, FlowRoundLeavesPartition, FlowRoundLeavesFixes, FlowRoundRaisesNoCost, RegionIsFree, PassLeavesPartition, PassLeavesFixes, PassStaysWithinLimit, PassRaisesNoCost, PassSavesInItsRounds, PassHasFewRounds, PassIsOfItsKind, PassIsPartOfPass, PassMovesFreeVertices};
 ghost use Rattle.round_log.specs.RegionLaws.{PairsAreOfBlocks, PairsRise, PairsAreHalf, TouchingHasBoth, NearIsTold, NextIsTold, TakesWhileRoom, SideFits, SideIsRanked, RegionHasSides, RegionRises, AssignmentIsPartition, AssignmentObeys, AssignmentFits};
 ghost use Rattle.round_log.specs.TraceLaws.{TraceEndsSettled, DescentRaisesNoCost, TraceEndsBelowLast, TraceEndsBelowGreedy, CycleBeginsAtCost, CycleRaisesNoCost, CycleEndsSettled, CyclesRaiseNoCost, CyclesEndSettled, SyncRoundIsRaced, SyncRoundLowersCost, SweepsEndAtFunction, FunctionEndsSettled, DetDescentEndsAtFunction, DetTraceEndsAtFunction, DetTraceIsLegal, DetEndsSettled, DetEndsBelowGreedy};
 
@@ -49,13 +49,14 @@ pub fn partition_after_pass()
     ensures no_dearer { PassRaisesNoCost }
 {}
 
-/// A pass has few rounds, all of its kind, and what they saved is what the pass saved. A whole pass is
-/// also the first rounds of one.
+/// A pass has few rounds, all of its kind, and what they saved is what the pass saved. They move free
+/// vertices alone. A whole pass is also the first rounds of one.
 pub fn rounds_of_pass()
     ensures saved { PassSavesInItsRounds }
     ensures few { PassHasFewRounds }
     ensures kind { PassIsOfItsKind }
     ensures part { PassIsPartOfPass }
+    ensures free { PassMovesFreeVertices }
 {}
 
 /// The pairs of different blocks stand each once, in rising order.

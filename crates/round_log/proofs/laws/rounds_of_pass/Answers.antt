@@ -1,4 +1,4 @@
-use Rattle.round_log.proofs.PassLaws.{pass-saves, pass-few, pass-kind, pass-part}
+use Rattle.round_log.proofs.PassLaws.{pass-saves, pass-few, pass-kind, pass-part, pass-free}
 use Rattle.round_log.proofs.laws.rounds_of_pass.Goals as goal
 
 pub returns-clause-saved : goal.returns-clause-saved
@@ -12,3 +12,6 @@ returns-clause-kind c = pass-kind
 
 pub returns-clause-part : goal.returns-clause-part
 returns-clause-part c = pass-part
+
+pub returns-clause-free : goal.returns-clause-free
+returns-clause-free c = pass-free
