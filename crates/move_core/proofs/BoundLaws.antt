@@ -18,7 +18,7 @@ use Rattle.move_core.specs.declared.account.Stage.{Stage}
 use Rattle.move_core.specs.declared.account.Stage.TheVariants.{Idle, Refused, Granted, Moving}
 use Rattle.hg_defs.specs.Incidence.{nets_of}
 use Rattle.move_core.specs.State.{Setup, Readings, times, blank}
-use Rattle.move_core.specs.Events.{moved}
+use Rattle.move_core.specs.Events.{moved_vertices}
 use Rattle.move_core.specs.Stages.{number_at, booked_at}
 use Rattle.move_core.specs.Balance.{Claims, Moves, InBalance, IsBetween, IsBookedWithin, carried, drawn, stage_vertices, reserved_weight, arrived, owed_down, weights_of}
 use Rattle.move_core.proofs.RestLaws.{seed_room}
@@ -26,12 +26,16 @@ use Rattle.move_core.proofs.HeldLaws.{carried_below, carried_once, total-by_time
 use Rattle.move_core.proofs.NetLaws.{times-nets_of, has_pin, net_at-below}
 
 -- what is summed over the vertices that passes carry is within the sum over all vertices
-pub carried_sum : (s : Setup) (r : Readings) (accounts : List Account) → Claims s.graph r accounts → Moves s accounts → (g : ℕ → ℕ) → total (λ a. total g (carried a)) accounts ≤ sum_below g (vertex_count s.graph)
+pub carried_sum : (s : Setup) (r : Readings) (accounts : List Account) → Claims s.graph r accounts → Moves s accounts → (g : ℕ → ℕ)
+    → total (λ a. total g (carried a)) accounts ≤ sum_below g (vertex_count s.graph)
 carried_sum s r accounts c m g =
     let n = vertex_count s.graph in
-    let e1 = total-same (λ a. total g (carried a)) (λ a. sum_below (λ v. times v (carried a) * g v) n) accounts (λ k d l. total-by_times g n (carried (get_or accounts k d)) (carried_below s r accounts c m k d l)) in
+    let e1 = total-same (λ a. total g (carried a)) (λ a. sum_below (λ v. times v (carried a) * g v) n) accounts
+    (λ k d l. total-by_times g n (carried (get_or accounts k d)) (carried_below s r accounts c m k d l)) in
     let e2 = sum_below-total (λ v a. times v (carried a) * g v) n accounts in
-    let e3 = sum_below-le (λ v. total (λ a. times v (carried a) * g v) accounts) g n (λ v l. subst (λ z. z ≤ g v) (sym (total-scale_right (g v) (λ a. times v (carried a)) accounts)) (within (total (λ a. times v (carried a)) accounts) (g v) (carried_once s r accounts c m v l))) in
+    let e3 = sum_below-le (λ v. total (λ a. times v (carried a) * g v) accounts) g n
+    (λ v l. subst (λ z. z ≤ g v) (sym (total-scale_right (g v) (λ a. times v (carried a)) accounts))
+    (within (total (λ a. times v (carried a)) accounts) (g v) (carried_once s r accounts c m v l))) in
     omega arith
   where
     within : (x y : ℕ) → x ≤ 1 → x * y ≤ y
@@ -51,7 +55,8 @@ listed n (x ∷ xs) =
     single : (y m : ℕ) → sum_below (λ i. weight_if y i 1) m ≤ 1
     single y m =
         elim (cases_lt y m) [
-          | inl l ↦ let e = sum_below-only (λ i. weight_if y i 1) m y l (λ j q p. weight_if-other y j 1 (λ z. p (sym z))) in let w = weight_if-le y y 1 in omega arith
+          | inl l ↦ let e = sum_below-only (λ i. weight_if y i 1) m y l (λ j q p. weight_if-other y j 1 (λ z. p (sym z))) in let w = weight_if-le y y 1 in
+              omega arith
           | inr l ↦ let e = sum_below-zero (λ i. weight_if y i 1) m (λ j q. weight_if-other y j 1 (λ z. absurd (omega arith))) in omega arith
         ]
 
@@ -79,7 +84,7 @@ module _ (s : Setup) (r : Readings) (accounts : List Account) (b : InBalance s r
       let a = get_or accounts k d in
       let e = stage_weight-le s.graph c a.stage in
       let f = arrived-le s.graph c a.moves in
-      let g = total-append (weight_of s.graph) (moved a) (stage_vertices a.stage) in
+      let g = total-append (weight_of s.graph) (moved_vertices a) (stage_vertices a.stage) in
       omega arith) in
       let y = carried_sum s r accounts b.claims b.moves (weight_of s.graph) in
       let z = weights-sum s.graph.weights in
@@ -91,7 +96,8 @@ module _ (s : Setup) (r : Readings) (accounts : List Account) (b : InBalance s r
   pub next_small : r.next ≤ vertex_count s.graph
   next_small =
       let n = r.next in
-      let a = sum_below-same (λ i. total (λ x. times i (drawn x)) accounts) (λ i. 1) n (λ i l. b.numbers.each i ∙ ap (λ t. if t then 1 else 0) (lt-ltb i n l)) in
+      let a = sum_below-same (λ i. total (λ x. times i (drawn x)) accounts) (λ i. 1) n (λ i l. b.numbers.each i ∙ ap (λ t. if t then 1 else 0) (lt-ltb i n l))
+      in
       let c = sum_below-constant 1 n in
       let d = sum_below-total (λ i x. times i (drawn x)) n accounts in
       let e = total-le (λ x. sum_below (λ i. times i (drawn x)) n) (λ x. total (λ v. 1) (carried x)) accounts
@@ -101,7 +107,7 @@ module _ (s : Setup) (r : Readings) (accounts : List Account) (b : InBalance s r
       let q = length-append x.numbers (number_at x.stage) in
       let t = b.numbers.lengths k y l in
       let u = total-ones (carried x) in
-      let v = length-append (moved x) (stage_vertices x.stage) in
+      let v = length-append (moved_vertices x) (stage_vertices x.stage) in
       let w = length-map x.moves (λ (m : Move). m.vertex) in
       let z = one_number x.stage in
       omega arith) in
@@ -181,7 +187,9 @@ vertex_weights-sum h =
     let a = sum_below-le (vertex_weights h) (λ v. sum_below (λ e. times v (net_of h e).pins * w e) m) n
     (λ v l.
     let x = total-by_times w m (nets_of h v) (λ k d q. let z = get_or_default_zero (nets_of h v) k d q in let y = net_at-below h v k q in omega arith) in
-    let y = sum_below-le (λ e. times e (nets_of h v) * w e) (λ e. times v (net_of h e).pins * w e) m (λ e q. scaled (times e (nets_of h v)) (times v (net_of h e).pins) (w e) (let z = times-nets_of h v e q in let u = has_pin-le_times h v e in omega arith)) in
+    let y = sum_below-le (λ e. times e (nets_of h v) * w e) (λ e. times v (net_of h e).pins * w e) m
+    (λ e q. scaled (times e (nets_of h v)) (times v (net_of h e).pins) (w e)
+    (let z = times-nets_of h v e q in let u = has_pin-le_times h v e in omega arith)) in
     omega arith) in
     let b = sum_below-swap (λ v e. times v (net_of h e).pins * w e) n m in
     let c = sum_below-le (λ e. sum_below (λ v. times v (net_of h e).pins * w e) n) (λ e. (net_of h e).weight * length (net_of h e).pins) m
@@ -201,7 +209,8 @@ vertex_weights-sum h =
     scaled x y z q = let u = mul-le-mul_left z q in let t = turned x z in let v = turned y z in omega arith
 
 -- a sum of bookings, each within twice a weight
-moves_between : (h : Hyper) (ms : List Move) → All (λ m. IsBetween (vertex_weights h m.vertex) (vertex_weights h m.vertex) m.booked) ms → IsBetween (total (vertex_weights h) (map (λ m. m.vertex) ms)) (total (vertex_weights h) (map (λ m. m.vertex) ms)) (total_z (λ m. m.booked) ms)
+moves_between : (h : Hyper) (ms : List Move) → All (λ m. IsBetween (vertex_weights h m.vertex) (vertex_weights h m.vertex) m.booked) ms
+    → IsBetween (total (vertex_weights h) (map (λ m. m.vertex) ms)) (total (vertex_weights h) (map (λ m. m.vertex) ms)) (total_z (λ m. m.booked) ms)
 moves_between h [] q = record { low = omega (arith, ints); high = omega (arith, ints) }
 moves_between h (m ∷ ms) q =
     let e = moves_between h ms (All-tail (λ (z : Move). IsBetween (vertex_weights h z.vertex) (vertex_weights h z.vertex) z.booked) m ms q) in
@@ -212,7 +221,8 @@ moves_between h (m ∷ ms) q =
     let high' = f.high in
     record { low = omega (arith, ints); high = omega (arith, ints) }
 
-stage_between : (h : Hyper) (stage : Stage) → IsBookedWithin h stage → IsBetween (total (vertex_weights h) (stage_vertices stage)) (total (vertex_weights h) (stage_vertices stage)) (booked_at stage)
+stage_between : (h : Hyper) (stage : Stage) → IsBookedWithin h stage → IsBetween (total (vertex_weights h) (stage_vertices stage))
+    (total (vertex_weights h) (stage_vertices stage)) (booked_at stage)
 stage_between h Idle q = record { low = omega (arith, ints); high = omega (arith, ints) }
 stage_between h (Refused v to seen) q = record { low = omega (arith, ints); high = omega (arith, ints) }
 stage_between h (Granted v from to seen) q = record { low = omega (arith, ints); high = omega (arith, ints) }
@@ -254,7 +264,7 @@ module _ (s : Setup) (r : Readings) (accounts : List Account) (limits : IsWithin
       let a = get_or accounts k d in
       let x = moves_between s.graph a.moves (b.bounds.done k d l) in
       let y = stage_between s.graph a.stage (b.bounds.stages k d l) in
-      let p = total-append (vertex_weights s.graph) (moved a) (stage_vertices a.stage) in
+      let p = total-append (vertex_weights s.graph) (moved_vertices a) (stage_vertices a.stage) in
       let q = carried_bound k d l in
       let g = b.gains k d l in
       let x0 = x.low in
@@ -267,7 +277,7 @@ module _ (s : Setup) (r : Readings) (accounts : List Account) (limits : IsWithin
   booked_small k d l =
       let a = get_or accounts k d in
       let y = stage_between s.graph a.stage (b.bounds.stages k d l) in
-      let p = total-append (vertex_weights s.graph) (moved a) (stage_vertices a.stage) in
+      let p = total-append (vertex_weights s.graph) (moved_vertices a) (stage_vertices a.stage) in
       let q = carried_bound k d l in
       let y0 = y.low in
       let y1 = y.high in

@@ -10,8 +10,11 @@ use Rattle.move_core.specs.State.{Readings, times, blank}
 use Rattle.move_core.specs.Balance.{Claims}
 use Rattle.move_core.proofs.TimesLaws.{times-insert_key, times-remove_key, All-insert_key, All-remove_key, total_changed, total_at, all_at, all_changed}
 
-module _ (h : Hyper) (r r' : Readings) (accounts : List Account) (i : ℕ) (a a' : Account) (l : i < length accounts) (at : get_or accounts i (blank false) ≡ a) (c : Claims h r accounts) where
-  pub claims_changed : ((v : ℕ) → v < vertex_count h → r'.claim v + times v a.held ≡ r.claim v + times v a'.held) → ((v : ℕ) → v < vertex_count h → r'.claim v ≤ 1) → ((v : ℕ) → v < vertex_count h → is_free h v ≡ false → r'.claim v ≡ 0) → All (λ v. v < vertex_count h) a'.held → Claims h r' (set accounts i a')
+module _ (h : Hyper) (r r' : Readings) (accounts : List Account) (i : ℕ) (a a' : Account) (l : i < length accounts) (at : get_or accounts i (blank false) ≡ a)
+    (c : Claims h r accounts) where
+  pub claims_changed : ((v : ℕ) → v < vertex_count h → r'.claim v + times v a.held ≡ r.claim v + times v a'.held)
+      → ((v : ℕ) → v < vertex_count h → r'.claim v ≤ 1) → ((v : ℕ) → v < vertex_count h → is_free h v ≡ false → r'.claim v ≡ 0)
+      → All (λ v. v < vertex_count h) a'.held → Claims h r' (set accounts i a')
   claims_changed word once free range = record {
     word = λ v m.
         let t = total_changed accounts i a a' l at (λ z. times v z.held) in
@@ -33,13 +36,16 @@ module _ (h : Hyper) (r r' : Readings) (accounts : List Account) (i : ℕ) (a a'
       (subst (All (λ v. v < vertex_count h)) (sym e) (all_at accounts i a a' l at (λ z. All (λ v. v < vertex_count h) z.held) c.range))
 
   -- Claim of a vertex that nobody has
-  pub claims_claimed : (v : ℕ) → v < vertex_count h → is_free h v ≡ true → r.claim v ≡ 0 → ((u : ℕ) → u < vertex_count h → r'.claim u ≡ (if nat_eq v u then 1 else r.claim u)) → a'.held ≡ insert_key nat_cmp a.held v → Claims h r' (set accounts i a')
+  pub claims_claimed : (v : ℕ) → v < vertex_count h → is_free h v ≡ true → r.claim v ≡ 0
+      → ((u : ℕ) → u < vertex_count h → r'.claim u ≡ (if nat_eq v u then 1 else r.claim u)) → a'.held ≡ insert_key nat_cmp a.held v
+      → Claims h r' (set accounts i a')
   claims_claimed v m f z w e =
       claims_changed
       (λ u k. subst (λ xs. r'.claim u + times u a.held ≡ r.claim u + times u xs) (sym e) (here u k))
       (λ u k. let o = c.once u k in small u (w u k) o (nat_eq v u))
       (λ u k g. by_free u k g (nat_eq v u) refl)
-      (subst (All (λ u. u < vertex_count h)) (sym e) (All-insert_key (λ u. u < vertex_count h) a.held v (all_at accounts i a a' l at (λ y. All (λ u. u < vertex_count h) y.held) c.range) m))
+      (subst (All (λ u. u < vertex_count h)) (sym e) (All-insert_key (λ u. u < vertex_count h) a.held v
+      (all_at accounts i a a' l at (λ y. All (λ u. u < vertex_count h) y.held) c.range) m))
     where
       none : times v a.held ≡ 0
       none = let t = total_at accounts i a a' l at (λ y. times v y.held) in let x = c.word v m in omega arith
@@ -73,7 +79,8 @@ module _ (h : Hyper) (r r' : Readings) (accounts : List Account) (i : ℕ) (a a'
       by_free u k g false q = w u k ∙ ap (λ t. if t then 1 else r.claim u) q ∙ c.free u k g
 
   -- Claim of a vertex that a pass has
-  pub claims_refused : (v : ℕ) → v < vertex_count h → r.claim v ≢ 0 → ((u : ℕ) → u < vertex_count h → r'.claim u ≡ (if nat_eq v u then 1 else r.claim u)) → a'.held ≡ a.held → Claims h r' (set accounts i a')
+  pub claims_refused : (v : ℕ) → v < vertex_count h → r.claim v ≢ 0 → ((u : ℕ) → u < vertex_count h → r'.claim u ≡ (if nat_eq v u then 1 else r.claim u))
+      → a'.held ≡ a.held → Claims h r' (set accounts i a')
   claims_refused v m z w e = claims_kept e (λ u k. by u k (nat_eq v u) refl)
     where
       by : (u : ℕ) → u < vertex_count h → (b : Bool) → nat_eq v u ≡ b → r'.claim u ≡ r.claim u
@@ -85,13 +92,16 @@ module _ (h : Hyper) (r r' : Readings) (accounts : List Account) (i : ℕ) (a a'
       by u k false q = w u k ∙ ap (λ t. if t then 1 else r.claim u) q
 
   -- Unclaim
-  pub claims_unclaimed : (v : ℕ) → v < vertex_count h → 0 < times v a.held → ((u : ℕ) → u < vertex_count h → r'.claim u ≡ (if nat_eq v u then 0 else r.claim u)) → a'.held ≡ remove_key (nat_eq v) a.held → Claims h r' (set accounts i a')
+  pub claims_unclaimed : (v : ℕ) → v < vertex_count h → 0 < times v a.held
+      → ((u : ℕ) → u < vertex_count h → r'.claim u ≡ (if nat_eq v u then 0 else r.claim u)) → a'.held ≡ remove_key (nat_eq v) a.held
+      → Claims h r' (set accounts i a')
   claims_unclaimed v m p w e =
       claims_changed
       (λ u k. subst (λ xs. r'.claim u + times u a.held ≡ r.claim u + times u xs) (sym e) (here u k (nat_eq v u) refl))
       (λ u k. let o = c.once u k in subst (λ y. y ≤ 1) (sym (w u k)) (small u o (nat_eq v u)))
       (λ u k g. w u k ∙ zero_at u (c.free u k g) (nat_eq v u))
-      (subst (All (λ u. u < vertex_count h)) (sym e) (All-remove_key (λ u. u < vertex_count h) a.held v (all_at accounts i a a' l at (λ y. All (λ u. u < vertex_count h) y.held) c.range)))
+      (subst (All (λ u. u < vertex_count h)) (sym e) (All-remove_key (λ u. u < vertex_count h) a.held v
+      (all_at accounts i a a' l at (λ y. All (λ u. u < vertex_count h) y.held) c.range)))
     where
       here : (u : ℕ) → u < vertex_count h → (b : Bool) → nat_eq v u ≡ b → r'.claim u + times u a.held ≡ r.claim u + times u (remove_key (nat_eq v) a.held)
       here u k true q =

@@ -13,22 +13,29 @@ use Rattle.move_core.specs.declared.account.Stage.{Stage}
 use Rattle.move_core.specs.declared.account.Stage.TheVariants.{Idle, Refused, Granted, Moving}
 use Rattle.hg_defs.specs.Incidence.{nets_of}
 use Rattle.move_core.specs.State.{Setup, Readings, times, blank}
-use Rattle.move_core.specs.Events.{moved}
-use Rattle.move_core.specs.Balance.{Claims, Moves, Counts, IsMove, IsStageMove, IsInStep, carried, stage_vertices, raises, lowers, stage_raises, stage_lowers}
+use Rattle.move_core.specs.Events.{moved_vertices}
+use Rattle.move_core.specs.Balance.{Claims, Moves, Counts, IsMoveFromOpening, IsStageMove, IsInStep, carried, stage_vertices, raises, lowers, stage_raises, stage_lowers}
 use Rattle.move_core.proofs.TimesLaws.{total_changed, total_unchanged, all_changed, pick_two, times_at, total-weight_if, total_strict}
 use Rattle.move_core.proofs.NetLaws.{times_pin, pin-below, times-nets_of-le}
 use Rattle.move_core.proofs.HeldLaws.{carried_once}
 
-module _ (s : Setup) (r r' : Readings) (accounts : List Account) (i : ℕ) (a a' : Account) (l : i < length accounts) (at : get_or accounts i (blank false) ≡ a) (c : Counts s r accounts) where
+module _ (s : Setup) (r r' : Readings) (accounts : List Account) (i : ℕ) (a a' : Account) (l : i < length accounts) (at : get_or accounts i (blank false) ≡ a)
+    (c : Counts s r accounts) where
   -- the counts stay, and what was raised and lowered too
-  pub counts_kept : ((u e b : ℕ) → e < net_count s.graph → 0 < times u (net_of s.graph e).pins → raises s.graph u e b a' ≡ raises s.graph u e b a) → ((u e : ℕ) → e < net_count s.graph → 0 < times u (net_of s.graph e).pins → lowers s.graph u e a' ≡ lowers s.graph u e a) → ((e b : ℕ) → e < net_count s.graph → b < s.blocks → r'.count e b ≡ r.count e b) → IsInStep s.graph a'.stage → Counts s r' (set accounts i a')
+  pub counts_kept : ((u e b : ℕ) → e < net_count s.graph → 0 < times u (net_of s.graph e).pins → raises s.graph u e b a' ≡ raises s.graph u e b a)
+      → ((u e : ℕ) → e < net_count s.graph → 0 < times u (net_of s.graph e).pins → lowers s.graph u e a' ≡ lowers s.graph u e a)
+      → ((e b : ℕ) → e < net_count s.graph → b < s.blocks → r'.count e b ≡ r.count e b) → IsInStep s.graph a'.stage → Counts s r' (set accounts i a')
   counts_kept up low same step = record {
     word = λ e b le lb.
         let pins = (net_of s.graph e).pins in
-        let f = total-same (λ u. if nat_eq (block_of s.opening u) b then total (lowers s.graph u e) (set accounts i a') else 0) (λ u. if nat_eq (block_of s.opening u) b then total (lowers s.graph u e) accounts else 0) pins
-        (λ k d q. ap (λ x. if nat_eq (block_of s.opening (get_or pins k d)) b then x else 0) (total_unchanged accounts i a a' l at (lowers s.graph (get_or pins k d) e) (low (get_or pins k d) e le (times_at pins k d q)))) in
-        let g = total-same (λ u. (if nat_eq (block_of s.opening u) b then 1 else 0) + total (raises s.graph u e b) (set accounts i a')) (λ u. (if nat_eq (block_of s.opening u) b then 1 else 0) + total (raises s.graph u e b) accounts) pins
-        (λ k d q. ap (λ x. (if nat_eq (block_of s.opening (get_or pins k d)) b then 1 else 0) + x) (total_unchanged accounts i a a' l at (raises s.graph (get_or pins k d) e b) (up (get_or pins k d) e b le (times_at pins k d q)))) in
+        let f = total-same (λ u. if nat_eq (block_of s.opening u) b then total (lowers s.graph u e) (set accounts i a') else 0)
+        (λ u. if nat_eq (block_of s.opening u) b then total (lowers s.graph u e) accounts else 0) pins
+        (λ k d q. ap (λ x. if nat_eq (block_of s.opening (get_or pins k d)) b then x else 0)
+        (total_unchanged accounts i a a' l at (lowers s.graph (get_or pins k d) e) (low (get_or pins k d) e le (times_at pins k d q)))) in
+        let g = total-same (λ u. (if nat_eq (block_of s.opening u) b then 1 else 0) + total (raises s.graph u e b) (set accounts i a'))
+        (λ u. (if nat_eq (block_of s.opening u) b then 1 else 0) + total (raises s.graph u e b) accounts) pins
+        (λ k d q. ap (λ x. (if nat_eq (block_of s.opening (get_or pins k d)) b then 1 else 0) + x)
+        (total_unchanged accounts i a a' l at (raises s.graph (get_or pins k d) e b) (up (get_or pins k d) e b le (times_at pins k d q)))) in
         let w = c.word e b le lb in
         let z = same e b le lb in
         omega arith;
@@ -36,14 +43,19 @@ module _ (s : Setup) (r r' : Readings) (accounts : List Account) (i : ℕ) (a a'
   }
 
   -- Raise
-  pub counts_raised : IsHypergraph s.graph → (v e0 to : ℕ) → e0 < net_count s.graph → 0 < times v (net_of s.graph e0).pins → ((u e b : ℕ) → raises s.graph u e b a' ≡ raises s.graph u e b a + weight_if v u (weight_if e0 e (weight_if to b 1))) → ((u e : ℕ) → lowers s.graph u e a' ≡ lowers s.graph u e a) → ((e b : ℕ) → e < net_count s.graph → b < s.blocks → r'.count e b ≡ (if nat_eq e0 e && nat_eq to b then r.count e0 to + 1 else r.count e b)) → IsInStep s.graph a'.stage → Counts s r' (set accounts i a')
+  pub counts_raised : IsHypergraph s.graph → (v e0 to : ℕ) → e0 < net_count s.graph → 0 < times v (net_of s.graph e0).pins
+      → ((u e b : ℕ) → raises s.graph u e b a' ≡ raises s.graph u e b a + weight_if v u (weight_if e0 e (weight_if to b 1)))
+      → ((u e : ℕ) → lowers s.graph u e a' ≡ lowers s.graph u e a) → ((e b : ℕ) → e < net_count s.graph → b < s.blocks
+      → r'.count e b ≡ (if nat_eq e0 e && nat_eq to b then r.count e0 to + 1 else r.count e b)) → IsInStep s.graph a'.stage → Counts s r' (set accounts i a')
   counts_raised ok v e0 to l0 pin up low word step = record {
     word = λ e b le lb.
         let pins = (net_of s.graph e).pins in
         let d : ℕ = weight_if e0 e (weight_if to b 1) in
-        let f = total-same_each (λ u. if nat_eq (block_of s.opening u) b then total (lowers s.graph u e) (set accounts i a') else 0) (λ u. if nat_eq (block_of s.opening u) b then total (lowers s.graph u e) accounts else 0)
+        let f = total-same_each (λ u. if nat_eq (block_of s.opening u) b then total (lowers s.graph u e) (set accounts i a') else 0)
+        (λ u. if nat_eq (block_of s.opening u) b then total (lowers s.graph u e) accounts else 0)
         (λ u. ap (λ x. if nat_eq (block_of s.opening u) b then x else 0) (total_unchanged accounts i a a' l at (lowers s.graph u e) (low u e))) pins in
-        let g = total-same_each (λ u. (if nat_eq (block_of s.opening u) b then 1 else 0) + total (raises s.graph u e b) (set accounts i a')) (λ u. ((if nat_eq (block_of s.opening u) b then 1 else 0) + total (raises s.graph u e b) accounts) + weight_if v u d)
+        let g = total-same_each (λ u. (if nat_eq (block_of s.opening u) b then 1 else 0) + total (raises s.graph u e b) (set accounts i a'))
+        (λ u. ((if nat_eq (block_of s.opening u) b then 1 else 0) + total (raises s.graph u e b) accounts) + weight_if v u d)
         (λ u. let t = total_changed accounts i a a' l at (raises s.graph u e b) in let q = up u e b in omega arith) pins in
         let h = total-add (λ u. (if nat_eq (block_of s.opening u) b then 1 else 0) + total (raises s.graph u e b) accounts) (λ u. weight_if v u d) pins in
         let j = total-weight_if v d pins in
@@ -81,16 +93,24 @@ module _ (s : Setup) (r r' : Readings) (accounts : List Account) (i : ℕ) (a a'
           ]
 
   -- Lower
-  pub counts_lowered : IsHypergraph s.graph → (v e0 from : ℕ) → e0 < net_count s.graph → 0 < times v (net_of s.graph e0).pins → block_of s.opening v ≡ from → 1 ≤ r.count e0 from → ((u e b : ℕ) → raises s.graph u e b a' ≡ raises s.graph u e b a) → ((u e : ℕ) → lowers s.graph u e a' ≡ lowers s.graph u e a + weight_if v u (weight_if e0 e 1)) → ((e b : ℕ) → e < net_count s.graph → b < s.blocks → r'.count e b ≡ (if nat_eq e0 e && nat_eq from b then r.count e0 from - 1 else r.count e b)) → IsInStep s.graph a'.stage → Counts s r' (set accounts i a')
+  pub counts_lowered : IsHypergraph s.graph → (v e0 from : ℕ) → e0 < net_count s.graph → 0 < times v (net_of s.graph e0).pins → block_of s.opening v ≡ from
+      → 1 ≤ r.count e0 from → ((u e b : ℕ) → raises s.graph u e b a' ≡ raises s.graph u e b a)
+      → ((u e : ℕ) → lowers s.graph u e a' ≡ lowers s.graph u e a + weight_if v u (weight_if e0 e 1))
+      → ((e b : ℕ) → e < net_count s.graph → b < s.blocks → r'.count e b ≡ (if nat_eq e0 e && nat_eq from b then r.count e0 from - 1 else r.count e b))
+      → IsInStep s.graph a'.stage → Counts s r' (set accounts i a')
   counts_lowered ok v e0 from l0 pin origin some up low word step = record {
     word = λ e b le lb.
         let pins = (net_of s.graph e).pins in
         let d : ℕ = weight_if e0 e 1 in
-        let g = total-same_each (λ u. (if nat_eq (block_of s.opening u) b then 1 else 0) + total (raises s.graph u e b) (set accounts i a')) (λ u. (if nat_eq (block_of s.opening u) b then 1 else 0) + total (raises s.graph u e b) accounts)
+        let g = total-same_each (λ u. (if nat_eq (block_of s.opening u) b then 1 else 0) + total (raises s.graph u e b) (set accounts i a'))
+        (λ u. (if nat_eq (block_of s.opening u) b then 1 else 0) + total (raises s.graph u e b) accounts)
         (λ u. ap (λ x. (if nat_eq (block_of s.opening u) b then 1 else 0) + x) (total_unchanged accounts i a a' l at (raises s.graph u e b) (up u e b))) pins in
-        let f = total-same_each (λ u. if nat_eq (block_of s.opening u) b then total (lowers s.graph u e) (set accounts i a') else 0) (λ u. (if nat_eq (block_of s.opening u) b then total (lowers s.graph u e) accounts else 0) + weight_if v u (weight_if from b d))
-        (λ u. at_pin u b d (total (lowers s.graph u e) (set accounts i a')) (total (lowers s.graph u e) accounts) (let t = total_changed accounts i a a' l at (lowers s.graph u e) in let q = low u e in omega arith)) pins in
-        let h = total-add (λ u. if nat_eq (block_of s.opening u) b then total (lowers s.graph u e) accounts else 0) (λ u. weight_if v u (weight_if from b d)) pins in
+        let f = total-same_each (λ u. if nat_eq (block_of s.opening u) b then total (lowers s.graph u e) (set accounts i a') else 0)
+        (λ u. (if nat_eq (block_of s.opening u) b then total (lowers s.graph u e) accounts else 0) + weight_if v u (weight_if from b d))
+        (λ u. at_pin u b d (total (lowers s.graph u e) (set accounts i a')) (total (lowers s.graph u e) accounts)
+        (let t = total_changed accounts i a a' l at (lowers s.graph u e) in let q = low u e in omega arith)) pins in
+        let h = total-add (λ u. if nat_eq (block_of s.opening u) b then total (lowers s.graph u e) accounts else 0) (λ u. weight_if v u (weight_if from b d))
+        pins in
         let j = total-weight_if v (weight_if from b d) pins in
         let w = c.word e b le lb in
         let z = word e b le lb in
@@ -125,7 +145,8 @@ module _ (s : Setup) (r r' : Readings) (accounts : List Account) (i : ℕ) (a a'
             | inr n ↦ weight_if-other o t (weight_if p q 1) n
           ]
 
-      at_pin : (u b d x y : ℕ) → x ≡ y + weight_if v u d → (if nat_eq (block_of s.opening u) b then x else 0) ≡ (if nat_eq (block_of s.opening u) b then y else 0) + weight_if v u (weight_if from b d)
+      at_pin : (u b d x y : ℕ) → x ≡ y + weight_if v u d → (if nat_eq (block_of s.opening u) b then x else 0)
+          ≡ (if nat_eq (block_of s.opening u) b then y else 0) + weight_if v u (weight_if from b d)
       at_pin u b d x y e =
           elim (cases_eq v u) [
             | inl q ↦
@@ -170,10 +191,11 @@ module _ (h : Hyper) (u e : ℕ) where
   pub lowers-le : (a : Account) → lowers h u e a ≤ times u (carried a)
   lowers-le a =
       let x = stage_lowers-le a.stage in
-      let y = total-append (λ z. weight_if z u 1) (moved a) (stage_vertices a.stage) in
+      let y = total-append (λ z. weight_if z u 1) (moved_vertices a) (stage_vertices a.stage) in
       omega arith
 
-  done_raises-le : (b : ℕ) (ms : List Move) → total (λ m. if nat_eq m.vertex u then (if nat_eq m.to b then 1 else 0) else 0) ms ≤ times u (map (λ m. m.vertex) ms)
+  done_raises-le : (b : ℕ) (ms : List Move) → total (λ m. if nat_eq m.vertex u then (if nat_eq m.to b then 1 else 0) else 0) ms
+      ≤ times u (map (λ m. m.vertex) ms)
   done_raises-le b [] = omega arith
   done_raises-le b (m ∷ ms) =
       let x = done_raises-le b ms in
@@ -194,7 +216,8 @@ module _ (h : Hyper) (u e : ℕ) where
       let o = times-nets_of-le h v e in
       by (nat_eq v u) (nat_eq to b) (omega arith)
     where
-      by : (p q : Bool) → times e (take raised (nets_of h v)) ≤ 1 → (if p then (if q then times e (take raised (nets_of h v)) else 0) else 0) ≤ (if p then 1 else 0) + 0
+      by : (p q : Bool) → times e (take raised (nets_of h v)) ≤ 1 → (if p then (if q then times e (take raised (nets_of h v)) else 0) else 0)
+          ≤ (if p then 1 else 0) + 0
       by true true z = omega arith
       by true false z = omega arith
       by false q z = omega arith
@@ -203,23 +226,25 @@ module _ (h : Hyper) (u e : ℕ) where
   raises-le b a =
       let w = done_raises-le b a.moves in
       let x = stage_raises-le b a.stage in
-      let y = total-append (λ z. weight_if z u 1) (moved a) (stage_vertices a.stage) in
+      let y = total-append (λ z. weight_if z u 1) (moved_vertices a) (stage_vertices a.stage) in
       omega arith
 
 -- nothing is raised in the block at the opening
 module _ (s : Setup) (u e : ℕ) where
-  done_raises-none : (ms : List Move) → All (λ m. IsMove s m.vertex m.from m.to) ms → total (λ m. if nat_eq m.vertex u then (if nat_eq m.to (block_of s.opening u) then 1 else 0) else 0) ms ≡ 0
+  done_raises-none : (ms : List Move) → All (λ m. IsMoveFromOpening s m.vertex m.from m.to) ms
+      → total (λ m. if nat_eq m.vertex u then (if nat_eq m.to (block_of s.opening u) then 1 else 0) else 0) ms ≡ 0
   done_raises-none [] h = refl
   done_raises-none (m ∷ ms) h =
-      let x = done_raises-none ms (All-tail (λ z. IsMove s z.vertex z.from z.to) m ms h) in
-      let o = (All-head (λ z. IsMove s z.vertex z.from z.to) m ms h).other in
+      let x = done_raises-none ms (All-tail (λ z. IsMoveFromOpening s z.vertex z.from z.to) m ms h) in
+      let o = (All-head (λ z. IsMoveFromOpening s z.vertex z.from z.to) m ms h).other in
       let y : weight_if m.vertex u (weight_if m.to (block_of s.opening u) 1) ≡ 0 = at m o in
       omega arith
     where
       at : (z : Move) → z.to ≢ block_of s.opening z.vertex → weight_if z.vertex u (weight_if z.to (block_of s.opening u) 1) ≡ 0
       at z o =
           elim (cases_eq z.vertex u) [
-            | inl q ↦ weight_if-same z.vertex u (weight_if z.to (block_of s.opening u) 1) q ∙ weight_if-other z.to (block_of s.opening u) 1 (λ p. o (p ∙ ap (block_of s.opening) (sym q)))
+            | inl q ↦ weight_if-same z.vertex u (weight_if z.to (block_of s.opening u) 1) q
+                ∙ weight_if-other z.to (block_of s.opening u) 1 (λ p. o (p ∙ ap (block_of s.opening) (sym q)))
             | inr q ↦ weight_if-other z.vertex u (weight_if z.to (block_of s.opening u) 1) q
           ]
 
@@ -230,11 +255,13 @@ module _ (s : Setup) (u e : ℕ) where
   stage_raises-none (Moving v from to number named raised lowered owed booked) h =
       let t : ℕ = times e (take raised (nets_of s.graph v)) in
       elim (cases_eq v u) [
-        | inl q ↦ weight_if-same v u (weight_if to (block_of s.opening u) t) q ∙ weight_if-other to (block_of s.opening u) t (λ p. h.other (p ∙ ap (block_of s.opening) (sym q)))
+        | inl q ↦ weight_if-same v u (weight_if to (block_of s.opening u) t) q
+            ∙ weight_if-other to (block_of s.opening u) t (λ p. h.other (p ∙ ap (block_of s.opening) (sym q)))
         | inr q ↦ weight_if-other v u (weight_if to (block_of s.opening u) t) q
       ]
 
-module _ (s : Setup) (r : Readings) (accounts : List Account) (ok : IsHypergraph s.graph) (c : Claims s.graph r accounts) (m : Moves s accounts) (w : Counts s r accounts) where
+module _ (s : Setup) (r : Readings) (accounts : List Account) (ok : IsHypergraph s.graph) (c : Claims s.graph r accounts) (m : Moves s accounts)
+    (w : Counts s r accounts) where
   lowers_once : (u e : ℕ) → u < vertex_count s.graph → total (lowers s.graph u e) accounts ≤ 1
   lowers_once u e l =
       let x = total-le (lowers s.graph u e) (λ a. times u (carried a)) accounts (λ k d q. lowers-le s.graph u e (get_or accounts k d)) in
@@ -256,19 +283,41 @@ module _ (s : Setup) (r : Readings) (accounts : List Account) (ok : IsHypergraph
       omega arith)
 
   -- a pin that no pass has lowered yet keeps the count of its block positive: no Lower finds 0
-  pub count_positive : (v e b : ℕ) → e < net_count s.graph → b < s.blocks → 0 < times v (net_of s.graph e).pins → block_of s.opening v ≡ b → total (lowers s.graph v e) accounts ≡ 0 → 1 ≤ r.count e b
+  pub count_positive : (v e b : ℕ) → e < net_count s.graph → b < s.blocks → 0 < times v (net_of s.graph e).pins → block_of s.opening v ≡ b
+      → total (lowers s.graph v e) accounts ≡ 0 → 1 ≤ r.count e b
   count_positive v e b le lb pin origin none =
       let f : ℕ → ℕ = λ u. if nat_eq (block_of s.opening u) b then total (lowers s.graph u e) accounts else 0 in
       let g : ℕ → ℕ = λ u. (if nat_eq (block_of s.opening u) b then 1 else 0) + total (raises s.graph u e b) accounts in
       let a1 = weight_if-same (block_of s.opening v) b (total (lowers s.graph v e) accounts) origin in
       let a2 = weight_if-same (block_of s.opening v) b 1 origin in
       let t = total_strict f g (net_of s.graph e).pins v
-      (λ u p. let o = lowers_once u e (pin-below s.graph ok u e le p) in by (nat_eq (block_of s.opening u) b) (total (lowers s.graph u e) accounts) (total (raises s.graph u e b) accounts) o)
+      (λ u p. let o = lowers_once u e (pin-below s.graph ok u e le p) in
+      by (nat_eq (block_of s.opening u) b) (total (lowers s.graph u e) accounts) (total (raises s.graph u e b) accounts) o)
       pin (omega arith) in
       let z = w.word e b le lb in
       omega arith
     where
       by : (q : Bool) (x y : ℕ) → x ≤ 1 → (if q then x else 0) ≤ (if q then 1 else 0) + y
+      by true x y h = omega arith
+      by false x y h = omega arith
+
+  -- all Raises stand in the count, whatever was lowered
+  pub raises_within : (e b : ℕ) → e < net_count s.graph → b < s.blocks → total (λ u. total (raises s.graph u e b) accounts) (net_of s.graph e).pins
+      ≤ r.count e b
+  raises_within e b le lb =
+      let pins = (net_of s.graph e).pins in
+      let f : ℕ → ℕ = λ u. if nat_eq (block_of s.opening u) b then total (lowers s.graph u e) accounts else 0 in
+      let g : ℕ → ℕ = λ u. (if nat_eq (block_of s.opening u) b then 1 else 0) + total (raises s.graph u e b) accounts in
+      let t = total-le (λ u. f u + total (raises s.graph u e b) accounts) g pins
+      (λ k d q.
+      let u = get_or pins k d in
+      let o = lowers_once u e (pin-below s.graph ok u e le (times_at pins k d q)) in
+      by (nat_eq (block_of s.opening u) b) (total (lowers s.graph u e) accounts) (total (raises s.graph u e b) accounts) o) in
+      let p = total-add f (λ u. total (raises s.graph u e b) accounts) pins in
+      let z = w.word e b le lb in
+      omega arith
+    where
+      by : (q : Bool) (x y : ℕ) → x ≤ 1 → (if q then x else 0) + y ≤ (if q then 1 else 0) + y
       by true x y h = omega arith
       by false x y h = omega arith
 
@@ -284,7 +333,8 @@ module _ (s : Setup) (r : Readings) (accounts : List Account) (ok : IsHypergraph
       let z = w.word e b le lb in
       omega arith
     where
-      at : (u : ℕ) → u < vertex_count s.graph → (if nat_eq (block_of s.opening u) b then 1 else 0) + total (raises s.graph u e b) accounts ≤ (if nat_eq (block_of s.opening u) b then total (lowers s.graph u e) accounts else 0) + 1
+      at : (u : ℕ) → u < vertex_count s.graph → (if nat_eq (block_of s.opening u) b then 1 else 0) + total (raises s.graph u e b) accounts
+          ≤ (if nat_eq (block_of s.opening u) b then total (lowers s.graph u e) accounts else 0) + 1
       at u l =
           elim (cases_eq (block_of s.opening u) b) [
             | inl q ↦

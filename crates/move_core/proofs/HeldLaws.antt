@@ -8,12 +8,13 @@ use Rattle.hg_defs.specs.Partition.{block_of, load}
 use Rattle.hg_defs.proofs.SumLaws.{total-le, total-set, total_at-le, total-append, total-same, total-scale_right, sum_below-total, sum_below-le, sum_below-same, sum_below-only, sum_below-add, sum_below-zero, weight_in-by_index, weight_if, weight_if-same, weight_if-other}
 use Rattle.move_core.specs.declared.account.Account.{Account}
 use Rattle.move_core.specs.State.{Setup, Readings, times, blank}
-use Rattle.move_core.specs.Events.{moved}
+use Rattle.move_core.specs.Events.{moved_vertices}
 use Rattle.move_core.specs.Balance.{Claims, Moves, carried, stage_vertices}
 use Rattle.move_core.proofs.TimesLaws.{All_at_times, All_from_times}
 
 -- two different places of a list are within the sum
-pub total_two : (f : Account → ℕ) (accounts : List Account) (i k : ℕ) (d : Account) → f (blank false) ≡ 0 → i < length accounts → k < length accounts → k ≢ i → f (get_or accounts i (blank false)) + f (get_or accounts k d) ≤ total f accounts
+pub total_two : (f : Account → ℕ) (accounts : List Account) (i k : ℕ) (d : Account) → f (blank false) ≡ 0 → i < length accounts → k < length accounts → k ≢ i
+    → f (get_or accounts i (blank false)) + f (get_or accounts k d) ≤ total f accounts
 total_two f accounts i k d z li lk q =
     let e = total-set f accounts i (blank false) (blank false) li in
     let o = get_or-set_other accounts i k (blank false) d q in
@@ -30,7 +31,8 @@ total-by_times g n (x ∷ xs) h =
     let o = sum_below-only (λ v. weight_if x v 1 * g v) n x l (λ j m q. ap (λ z. z * g j) (weight_if-other x j 1 (λ p. q (sym p))) ∙ zero-times (g j)) in
     let one : weight_if x x 1 * g x ≡ g x = ap (λ z. z * g x) (weight_if-same x x 1 refl) ∙ one-times (g x) in
     let a = sum_below-add (λ v. weight_if x v 1 * g v) (λ v. times v xs * g v) n in
-    let b = sum_below-same (λ v. times v (x ∷ xs) * g v) (λ v. weight_if x v 1 * g v + times v xs * g v) n (λ v m. spread (weight_if x v 1) (times v xs) (g v)) in
+    let b = sum_below-same (λ v. times v (x ∷ xs) * g v) (λ v. weight_if x v 1 * g v + times v xs * g v) n (λ v m. spread (weight_if x v 1) (times v xs) (g v))
+    in
     omega arith
   where
     zero-times : (y : ℕ) → 0 * y ≡ 0
@@ -49,12 +51,14 @@ module _ (s : Setup) (r : Readings) (accounts : List Account) (c : Claims s.grap
   pub carried_below : All (λ a. All (λ v. v < vertex_count s.graph) (carried a)) accounts
   carried_below k d l =
       let a = get_or accounts k d in
-      All_from_times (λ v. v < vertex_count s.graph) (carried a) (λ v p. All_at_times (λ u. u < vertex_count s.graph) a.held v (c.range k d l) (let h = m.held k d l v in omega arith))
+      All_from_times (λ v. v < vertex_count s.graph) (carried a) (λ v p.
+      All_at_times (λ u. u < vertex_count s.graph) a.held v (c.range k d l) (let h = m.held k d l v in omega arith))
 
   pub moved_below : All (λ a. All (λ z. z.vertex < vertex_count s.graph) a.moves) accounts
   moved_below k d l =
       let a = get_or accounts k d in
-      from_map a.moves (λ v p. All_at_times (λ u. u < vertex_count s.graph) (carried a) v (carried_below k d l) (let e = total-append (λ x. weight_if x v 1) (moved a) (stage_vertices a.stage) in omega arith))
+      from_map a.moves (λ v p. All_at_times (λ u. u < vertex_count s.graph) (carried a) v (carried_below k d l)
+      (let e = total-append (λ x. weight_if x v 1) (moved_vertices a) (stage_vertices a.stage) in omega arith))
     where
       from_map : (ms : List Move) → ((v : ℕ) → 0 < times v (map (λ z. z.vertex) ms) → v < vertex_count s.graph) → All (λ z. z.vertex < vertex_count s.graph) ms
       from_map [] h = All-nil (λ (z : Move). z.vertex < vertex_count s.graph)
@@ -69,8 +73,16 @@ module _ (s : Setup) (r : Readings) (accounts : List Account) (c : Claims s.grap
       let e = total-le (λ a. times v (carried a)) (λ a. times v a.held) accounts (λ k d q. m.held k d q v) in
       omega arith
 
+  pub moved_once : (v : ℕ) → v < vertex_count s.graph → total (λ a. times v (moved_vertices a)) accounts ≤ 1
+  moved_once v l =
+      let o = carried_once v l in
+      let e = total-le (λ a. times v (moved_vertices a)) (λ a. times v (carried a)) accounts
+      (λ j d m. let a = get_or accounts j d in let p = total-append (λ x. weight_if x v 1) (moved_vertices a) (stage_vertices a.stage) in omega arith) in
+      omega arith
+
   -- a vertex that one pass holds no other carries
-  pub held_alone : (v i k : ℕ) (d : Account) → v < vertex_count s.graph → i < length accounts → k < length accounts → k ≢ i → 0 < times v (get_or accounts i (blank false)).held → times v (carried (get_or accounts k d)) ≡ 0
+  pub held_alone : (v i k : ℕ) (d : Account) → v < vertex_count s.graph → i < length accounts → k < length accounts → k ≢ i
+      → 0 < times v (get_or accounts i (blank false)).held → times v (carried (get_or accounts k d)) ≡ 0
   held_alone v i k d l li lk q p =
       let o = held_once v l in
       let t = total_two (λ a. times v a.held) accounts i k d refl li lk q in
@@ -78,13 +90,17 @@ module _ (s : Setup) (r : Readings) (accounts : List Account) (c : Claims s.grap
       omega arith
 
   -- what all passes carry of a block at the opening is within its load there
-  pub carried_weight : (b : ℕ) → vertex_count s.graph ≤ length s.opening → total (λ a. total (λ v. weight_if (block_of s.opening v) b (weight_of s.graph v)) (carried a)) accounts ≤ load s.graph s.opening b
+  pub carried_weight : (b : ℕ) → vertex_count s.graph ≤ length s.opening
+      → total (λ a. total (λ v. weight_if (block_of s.opening v) b (weight_of s.graph v)) (carried a)) accounts ≤ load s.graph s.opening b
   carried_weight b wide =
       let n = vertex_count s.graph in
       let g : ℕ → ℕ = λ v. weight_if (block_of s.opening v) b (weight_of s.graph v) in
-      let e1 = total-same (λ a. total g (carried a)) (λ a. sum_below (λ v. times v (carried a) * g v) n) accounts (λ k d l. total-by_times g n (carried (get_or accounts k d)) (carried_below k d l)) in
+      let e1 = total-same (λ a. total g (carried a)) (λ a. sum_below (λ v. times v (carried a) * g v) n) accounts
+      (λ k d l. total-by_times g n (carried (get_or accounts k d)) (carried_below k d l)) in
       let e2 = sum_below-total (λ v a. times v (carried a) * g v) n accounts in
-      let e3 = sum_below-le (λ v. total (λ a. times v (carried a) * g v) accounts) g n (λ v l. subst (λ z. z ≤ g v) (sym (total-scale_right (g v) (λ a. times v (carried a)) accounts)) (within (total (λ a. times v (carried a)) accounts) (g v) (carried_once v l))) in
+      let e3 = sum_below-le (λ v. total (λ a. times v (carried a) * g v) accounts) g n
+      (λ v l. subst (λ z. z ≤ g v) (sym (total-scale_right (g v) (λ a. times v (carried a)) accounts))
+      (within (total (λ a. times v (carried a)) accounts) (g v) (carried_once v l))) in
       let e4 = weight_in-by_index s.graph.weights s.opening b wide in
       omega arith
     where

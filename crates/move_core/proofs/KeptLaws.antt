@@ -1,5 +1,5 @@
 -- What stays in balance where an event leaves a clause alone.
-use Rattle.std.proofs.Common.{◌≡◌, ℕ, ◌<◌, ◌≤◌, inl, inr, false, List, [], ◌∷◌, length, get_or, nat_lt, if◌then◌else◌, All, refl, sym, ap, ◌∙◌, subst, arith}
+use Rattle.std.proofs.Common.{◌≡◌, ℕ, ◌<◌, ◌≤◌, true, false, List, [], ◌∷◌, length, get_or, nat_lt, if◌then◌else◌, All, refl, sym, ap, ◌∙◌, subst, arith}
 use Rattle.std.proofs.lemmas.Int.{ints}
 use Rattle.hg_defs.specs.Hypergraph.{vertex_count, net_count}
 use Rattle.hg_defs.specs.Pins.{present}
@@ -8,10 +8,12 @@ use Rattle.move_core.specs.declared.account.Account.{Account}
 use Rattle.move_core.specs.declared.events.Word.{Word}
 use Rattle.move_core.specs.declared.events.Word.TheVariants as word
 use Rattle.move_core.specs.State.{Setup, Readings, times, blank, read}
-use Rattle.move_core.specs.Events.{moved, price_at}
+use Rattle.move_core.specs.Events.{moved_vertices, price_at}
 use Rattle.move_core.specs.Balance.{InBalance, carried, named_at, stage_vertices}
-use Rattle.move_core.proofs.Words.{Writes}
-use Rattle.move_core.proofs.TimesLaws.{All_at_times, all_at, total_at, pick, pick_two}
+use Rattle.move_core.specs.Events.{is_word, WritesWord}
+use Rattle.move_core.proofs.Words.{reads_same}
+use Rattle.std.proofs.lemmas.Bool.{lt-ltb, and_from}
+use Rattle.move_core.proofs.TimesLaws.{All_at_times, all_at, total_at}
 use Rattle.move_core.proofs.HeldLaws.{carried_below, moved_below, held_once}
 use Rattle.move_core.proofs.NameLaws.{names-same, stage-same, named_below}
 
@@ -26,70 +28,19 @@ pub record Same (s : Setup) (r r' : Readings) : Type 0 where
   pub cursor : r'.cursor ≡ r.cursor
 
 -- a word into which its own reading was written
-pub same_from_writes : (s : Setup) (r r' : Readings) (w : Word) (x : ℕ) → Writes s r r' w x → x ≡ read r w → Same s r r'
-same_from_writes s r r' (word.Claim v) x w e = record {
-  claim = λ u l. w.claim u l ∙ elim (pick v u x (r.claim u)) [ inl p ↦ p.1 ∙ e ∙ ap r.claim p.0 | inr p ↦ p.1 ];
-  name = w.name;
-  load = w.load;
-  count = w.count;
-  spread = w.spread;
-  next = w.next;
-  cursor = w.cursor;
+pub same_from_write : (s : Setup) (w : Word) (r r' : Readings) → WritesWord s w (read r w) r r' → Same s r r'
+same_from_write s w r r' q = record {
+  claim = λ v l. same (word.Claim v) (lt-ltb v (vertex_count s.graph) l);
+  name = λ v l. same (word.Name v) (lt-ltb v (vertex_count s.graph) l);
+  load = λ b l. same (word.Load b) (lt-ltb b s.blocks l);
+  count = λ e b l m. same (word.Count e b) (and_from (nat_lt e (net_count s.graph)) (nat_lt b s.blocks) (lt-ltb e (net_count s.graph) l) (lt-ltb b s.blocks m));
+  spread = λ e l. same (word.Spread e) (lt-ltb e (net_count s.graph) l);
+  next = same word.Next refl;
+  cursor = same word.Cursor refl;
 }
-same_from_writes s r r' (word.Name v) x w e = record {
-  claim = w.claim;
-  name = λ u l. w.name u l ∙ elim (pick v u x (r.name u)) [ inl p ↦ p.1 ∙ e ∙ ap r.name p.0 | inr p ↦ p.1 ];
-  load = w.load;
-  count = w.count;
-  spread = w.spread;
-  next = w.next;
-  cursor = w.cursor;
-}
-same_from_writes s r r' (word.Load b) x w e = record {
-  claim = w.claim;
-  name = w.name;
-  load = λ u l. w.load u l ∙ elim (pick b u x (r.load u)) [ inl p ↦ p.1 ∙ e ∙ ap r.load p.0 | inr p ↦ p.1 ];
-  count = w.count;
-  spread = w.spread;
-  next = w.next;
-  cursor = w.cursor;
-}
-same_from_writes s r r' (word.Count f b) x w e = record {
-  claim = w.claim;
-  name = w.name;
-  load = w.load;
-  count = λ g c l m. w.count g c l m ∙ elim (pick_two f g b c x (r.count g c)) [ inl p ↦ p.2 ∙ e ∙ ap (λ z. r.count z b) p.0 ∙ ap (r.count g) p.1 | inr p ↦ p.1 ];
-  spread = w.spread;
-  next = w.next;
-  cursor = w.cursor;
-}
-same_from_writes s r r' (word.Spread f) x w e = record {
-  claim = w.claim;
-  name = w.name;
-  load = w.load;
-  count = w.count;
-  spread = λ u l. w.spread u l ∙ elim (pick f u x (r.spread u)) [ inl p ↦ p.1 ∙ e ∙ ap r.spread p.0 | inr p ↦ p.1 ];
-  next = w.next;
-  cursor = w.cursor;
-}
-same_from_writes s r r' word.Next x w e = record {
-  claim = w.claim;
-  name = w.name;
-  load = w.load;
-  count = w.count;
-  spread = w.spread;
-  next = w.next ∙ e;
-  cursor = w.cursor;
-}
-same_from_writes s r r' word.Cursor x w e = record {
-  claim = w.claim;
-  name = w.name;
-  load = w.load;
-  count = w.count;
-  spread = w.spread;
-  next = w.next;
-  cursor = w.cursor ∙ e;
-}
+  where
+    same : (u : Word) → is_word s u ≡ true → read r' u ≡ read r u
+    same = reads_same s w r r' q
 
 -- words that read as before keep the books in balance
 pub balance_same : (s : Setup) (r r' : Readings) (accounts : List Account) → Same s r r' → InBalance s r accounts → InBalance s r' accounts
@@ -105,8 +56,11 @@ balance_same s r r' accounts e b = record {
     limit = λ c l. let x = e.load c l in let y = b.loads.limit c l in omega arith;
   };
   names = record {
-    done = λ k d l. names-same r.name r'.name (get_or accounts k d).moves (λ j y p. e.name (get_or (get_or accounts k d).moves j y).vertex (moved_below s r accounts b.claims b.moves k d l j y p)) (b.names.done k d l);
-    stages = λ k d l. stage-same r.name r'.name (get_or accounts k d).stage (λ j y p. e.name (get_or (named_at (get_or accounts k d).stage) j y) (named_below s r r' accounts b.claims b.moves b.names k d l j y p)) (b.names.stages k d l);
+    done = λ k d l. names-same r.name r'.name (get_or accounts k d).moves
+        (λ j y p. e.name (get_or (get_or accounts k d).moves j y).vertex (moved_below s r accounts b.claims b.moves k d l j y p)) (b.names.done k d l);
+    stages = λ k d l. stage-same r.name r'.name (get_or accounts k d).stage
+        (λ j y p. e.name (get_or (named_at (get_or accounts k d).stage) j y) (named_below s r r' accounts b.claims b.moves b.names k d l j y p))
+        (b.names.stages k d l);
     others = λ v l z. e.name v l ∙ b.names.others v l z;
   };
   counts = record {
@@ -122,7 +76,8 @@ balance_same s r r' accounts e b = record {
   sum = record {
     gains =
         let x = b.sum.gains in
-        let y = sum_below-same (λ f. price_at s.graph f (r'.spread f)) (λ f. price_at s.graph f (r.spread f)) (net_count s.graph) (λ f l. ap (price_at s.graph f) (e.spread f l)) in
+        let y = sum_below-same (λ f. price_at s.graph f (r'.spread f)) (λ f. price_at s.graph f (r.spread f)) (net_count s.graph)
+        (λ f l. ap (price_at s.graph f) (e.spread f l)) in
         omega (arith, ints);
   };
   rest = record { made = b.rest.made; cursor = e.cursor ∙ b.rest.cursor; seeds = b.rest.seeds; ended = b.rest.ended };
@@ -135,20 +90,23 @@ balance_same s r r' accounts e b = record {
     owed = b.spreads.owed;
   };
   bounds = b.bounds;
+  workers = b.workers;
+  prefixes = b.prefixes;
 }
 
 -- what a pass holds of the vertex of its stage
 pub record IsCarried (s : Setup) (a : Account) (v : ℕ) : Type 0 where
   pub vertex : v < vertex_count s.graph
   pub held : 0 < times v a.held
-  pub unmoved : times v (moved a) ≡ 0
+  pub unmoved : times v (moved_vertices a) ≡ 0
 
-module _ (s : Setup) (r : Readings) (accounts : List Account) (i : ℕ) (a : Account) (l : i < length accounts) (at : get_or accounts i (blank false) ≡ a) (b : InBalance s r accounts) where
+module _ (s : Setup) (r : Readings) (accounts : List Account) (i : ℕ) (a : Account) (l : i < length accounts) (at : get_or accounts i (blank false) ≡ a)
+    (b : InBalance s r accounts) where
   pub stage_carried : (v : ℕ) → stage_vertices a.stage ≡ v ∷ [] → IsCarried s a v
   stage_carried v e =
       let w = weight_if-same v v 1 refl in
       let one : times v (stage_vertices a.stage) ≡ 1 = ap (times v) e ∙ (omega arith) in
-      let parts = total-append (λ x. weight_if x v 1) (moved a) (stage_vertices a.stage) in
+      let parts = total-append (λ x. weight_if x v 1) (moved_vertices a) (stage_vertices a.stage) in
       let inside = all_at accounts i a a l at (λ x. (u : ℕ) → times u (carried x) ≤ times u x.held) b.moves.held v in
       let below : v < vertex_count s.graph =
       All_at_times (λ x. x < vertex_count s.graph) (carried a) v

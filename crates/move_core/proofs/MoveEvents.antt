@@ -1,5 +1,5 @@
 -- The books stay in balance over GiveBack.
-use Rattle.std.proofs.Common.{◌≡◌, ℕ, ◌-◌, ◌<◌, ◌≤◌, inl, inr, true, false, List, [], ◌∷◌, ◌++◌, map, length, length-append, get_or, set, nat_eq, if◌then◌else◌, All, ℤ, refl, sym, ap, ◌∙◌, subst, arith}
+use Rattle.std.proofs.Common.{◌≡◌, ℕ, ◌-◌, ◌<◌, ◌≤◌, inl, inr, true, false, List, [], ◌∷◌, ◌++◌, map, length, length-append, get_or, set, nat_eq, if◌then◌else◌, All, ℤ, refl, sym, ap, ◌∙◌, subst, arith, nat_lt, Bool}
 use Rattle.std.proofs.lemmas.Int.{ints}
 use Rattle.std.proofs.lemmas.Bool.{cases_eq}
 use Rattle.hg_defs.specs.declared.moves.Move.{Move}
@@ -13,8 +13,8 @@ use Rattle.move_core.specs.declared.account.Stage.TheVariants.{Idle, Moving}
 use Rattle.move_core.specs.declared.events.Word.TheVariants as word
 use Rattle.hg_defs.specs.Incidence.{nets_of}
 use Rattle.move_core.specs.State.{Setup, Readings, times, blank}
-use Rattle.move_core.specs.Balance.{InBalance, IsSetup, IsGain, IsMove, IsStageMove, IsInStep, IsBetween, IsBookedWithin, carried, weights_of}
-use Rattle.move_core.proofs.Words.{Writes}
+use Rattle.move_core.specs.Balance.{InBalance, IsSetup, IsGain, IsMoveFromOpening, IsStageMove, IsInStep, IsBetween, IsBookedWithin, carried, weights_of}
+use Rattle.move_core.proofs.Words.{WordsAfter}
 use Rattle.move_core.proofs.TimesLaws.{all_changed, all_at}
 use Rattle.move_core.proofs.ClaimLaws.{claims_kept}
 use Rattle.move_core.proofs.LoadLaws.{loads_given, load_leaving}
@@ -23,6 +23,8 @@ use Rattle.move_core.proofs.CountLaws.{counts_kept}
 use Rattle.move_core.proofs.NumberLaws.{numbers_kept}
 use Rattle.move_core.proofs.CostLaws.{sum_kept}
 use Rattle.move_core.proofs.RestLaws.{rest_kept}
+use Rattle.move_core.proofs.WorkerLaws.{workers_done}
+use Rattle.move_core.proofs.PrefixLaws.{prefixes_kept, total-numbered, total-numbered_push}
 use Rattle.move_core.proofs.SpreadLaws.{spreads_kept}
 use Rattle.move_core.proofs.KeptLaws.{stage_carried}
 use Rattle.move_core.proofs.StageEvents.{staged, lengths_at}
@@ -31,24 +33,36 @@ use Rattle.std.proofs.lemmas.List.{take_all, map-append}
 use Rattle.std.proofs.lemmas.List.Elements.{All-append, All-cons, All-nil}
 use Rattle.move_core.proofs.NetLaws.{times-nets_of_pin}
 
-module _ (s : Setup) (ok : IsSetup s) (r r' : Readings) (accounts : List Account) (i : ℕ) (l : i < length accounts) (b : InBalance s r accounts) (held : List ℕ) (moves : List Move) (numbers : List ℕ) (seeds : ℕ) (gain : ℤ) where
+module _ (s : Setup) (ok : IsSetup s) (r r' : Readings) (accounts : List Account) (i : ℕ) (l : i < length accounts) (b : InBalance s r accounts)
+    (held : List ℕ) (moves : List Move) (numbers : List ℕ) (seeds : ℕ) (gain : ℤ) where
   abbrev acc : Stage → Account
   acc = staged held moves numbers seeds gain
 
   -- GiveBack
-  pub give_back_kept : (v from to number raised lowered worker : ℕ) (booked : ℤ) → get_or accounts i (blank false) ≡ acc (Moving v from to number true raised lowered Nothing booked) → lowered ≡ length (nets_of s.graph v) → Writes s r r' (word.Load from) (r.load from - weight_of s.graph v) → InBalance s r' (set accounts i (record {
-    live = true;
-    held = held;
-    stage = Idle;
-    moves = moves ++ record { vertex = v; from = from; to = to; worker = worker; booked = booked } ∷ [];
-    numbers = numbers ++ number ∷ [];
-    seeds = seeds;
-    gain = gain;
-  }))
-  give_back_kept v from to number raised lowered worker booked at full w =
+  pub give_back_kept : (v from to number raised lowered : ℕ) (booked : ℤ)
+      → get_or accounts i (blank false) ≡ acc (Moving v from to number true raised lowered Nothing booked) → lowered ≡ length (nets_of s.graph v)
+      → WordsAfter s r r' (word.Load from) (r.load from - weight_of s.graph v) → InBalance s r' (set accounts i (record {
+        live = true;
+        held = held;
+        stage = Idle;
+        moves = moves ++ record { vertex = v; from = from; to = to; worker = i; booked = booked } ∷ [];
+        numbers = numbers ++ number ∷ [];
+        seeds = seeds;
+        gain = gain;
+      }))
+  give_back_kept v from to number raised lowered booked at full w =
       let a = acc (Moving v from to number true raised lowered Nothing booked) in
-      let m : Move = record { vertex = v; from = from; to = to; worker = worker; booked = booked } in
-      let a' : Account = record { live = true; held = held; stage = Idle; moves = moves ++ m ∷ []; numbers = numbers ++ number ∷ []; seeds = seeds; gain = gain } in
+      let m : Move = record { vertex = v; from = from; to = to; worker = i; booked = booked } in
+      let a' : Account = record {
+        live = true;
+        held = held;
+        stage = Idle;
+        moves = moves ++ m ∷ [];
+        numbers = numbers ++ number ∷ [];
+        seeds = seeds;
+        gain =
+            gain;
+      } in
       let step = all_at accounts i a a' l at (λ x. IsInStep s.graph x.stage) b.counts.steps in
       let least = step.0 in
       let most = step.2 in
@@ -75,7 +89,11 @@ module _ (s : Setup) (ok : IsSetup s) (r r' : Readings) (accounts : List Account
             let x = ap (times u) (map-append (λ (z : Move). z.vertex) moves (m ∷ [])) in
             let y = total-append (λ z. weight_if z u 1) (map (λ (z : Move). z.vertex) (moves ++ m ∷ [])) [] in
             omega arith)
-            (λ d n. (All-append (λ (z : Move). r.name z.vertex ≡ z.to) moves (m ∷ []) d (All-cons (λ (z : Move). r.name z.vertex ≡ z.to) m [] (n refl) (All-nil (λ (z : Move). r.name z.vertex ≡ z.to))), tt));
+            (λ d n. (
+              All-append (λ (z : Move). r.name z.vertex ≡ z.to) moves (m ∷ []) d
+                  (All-cons (λ (z : Move). r.name z.vertex ≡ z.to) m [] (n refl) (All-nil (λ (z : Move). r.name z.vertex ≡ z.to))),
+              tt,
+            ));
         counts =
             counts_kept s r r' accounts i a a' l at b.counts
             (λ u e c k pin.
@@ -99,8 +117,11 @@ module _ (s : Setup) (ok : IsSetup s) (r r' : Readings) (accounts : List Account
               let o = all_at accounts i a a' l at (λ z. (t : ℕ) → times t (carried z) ≤ times t z.held) b.moves.held u in
               omega arith);
           done =
-              all_changed accounts i a a' l at (λ x. All (λ z. IsMove s z.vertex z.from z.to) x.moves) b.moves.done
-              (All-append (λ (z : Move). IsMove s z.vertex z.from z.to) moves (m ∷ []) (all_at accounts i a a' l at (λ x. All (λ z. IsMove s z.vertex z.from z.to) x.moves) b.moves.done) (All-cons (λ (z : Move). IsMove s z.vertex z.from z.to) m [] move (All-nil (λ (z : Move). IsMove s z.vertex z.from z.to))));
+              all_changed accounts i a a' l at (λ x. All (λ z. IsMoveFromOpening s z.vertex z.from z.to) x.moves) b.moves.done
+              (All-append (λ (z : Move). IsMoveFromOpening s z.vertex z.from z.to) moves (m ∷ [])
+              (all_at accounts i a a' l at (λ x. All (λ z. IsMoveFromOpening s z.vertex z.from z.to) x.moves) b.moves.done)
+              (All-cons (λ (z : Move). IsMoveFromOpening s z.vertex z.from z.to) m [] move
+              (All-nil (λ (z : Move). IsMoveFromOpening s z.vertex z.from z.to))));
           stages = all_changed accounts i a a' l at (λ x. IsStageMove s x.stage) b.moves.stages tt;
         };
         numbers =
@@ -121,9 +142,12 @@ module _ (s : Setup) (ok : IsSetup s) (r r' : Readings) (accounts : List Account
         spreads = spreads_kept s r r' accounts i a a' l at b.spreads (λ e. refl) (λ e. refl) w.spread w.count tt;
         bounds = record {
           done =
-              all_changed accounts i a a' l at (λ x. All (λ z. IsBetween (weights_of s.graph (nets_of s.graph z.vertex)) (weights_of s.graph (nets_of s.graph z.vertex)) z.booked) x.moves) b.bounds.done
-              (All-append (λ (z : Move). IsBetween (weights_of s.graph (nets_of s.graph z.vertex)) (weights_of s.graph (nets_of s.graph z.vertex)) z.booked) moves (m ∷ [])
-              (all_at accounts i a a' l at (λ x. All (λ z. IsBetween (weights_of s.graph (nets_of s.graph z.vertex)) (weights_of s.graph (nets_of s.graph z.vertex)) z.booked) x.moves) b.bounds.done)
+              all_changed accounts i a a' l at (λ x. All (λ z. IsBetween (weights_of s.graph (nets_of s.graph z.vertex))
+              (weights_of s.graph (nets_of s.graph z.vertex)) z.booked) x.moves) b.bounds.done
+              (All-append (λ (z : Move). IsBetween (weights_of s.graph (nets_of s.graph z.vertex)) (weights_of s.graph (nets_of s.graph z.vertex)) z.booked)
+              moves (m ∷ [])
+              (all_at accounts i a a' l at (λ x. All (λ z. IsBetween (weights_of s.graph (nets_of s.graph z.vertex))
+              (weights_of s.graph (nets_of s.graph z.vertex)) z.booked) x.moves) b.bounds.done)
               (All-cons (λ (z : Move). IsBetween (weights_of s.graph (nets_of s.graph z.vertex)) (weights_of s.graph (nets_of s.graph z.vertex)) z.booked) m []
               (let x = ap (weights_of s.graph) all_raised in
               let y = ap (weights_of s.graph) all_lowered in
@@ -133,16 +157,31 @@ module _ (s : Setup) (ok : IsSetup s) (r r' : Readings) (accounts : List Account
               (All-nil (λ (z : Move). IsBetween (weights_of s.graph (nets_of s.graph z.vertex)) (weights_of s.graph (nets_of s.graph z.vertex)) z.booked))));
           stages = all_changed accounts i a a' l at (λ x. IsBookedWithin s.graph x.stage) b.bounds.stages tt;
         };
+        workers = workers_done accounts i a a' l at b.workers refl m refl refl;
+        prefixes =
+            prefixes_kept s accounts i a a' l at b.prefixes
+            (λ f j.
+            let t : ℕ → Bool = λ n. nat_lt n j in
+            let size = lengths_at s ok r r' accounts i l b held moves numbers seeds gain (Moving v from to number true raised lowered Nothing booked) at in
+            let x = total-numbered (λ (z : Move). f z.vertex z.from z.to) t (numbers ++ number ∷ []) [] (moves ++ m ∷ []) []
+            (let p = length-append numbers (number ∷ []) in let q = length-append moves (m ∷ []) in omega arith) in
+            let y = total-numbered_push (λ (z : Move). f z.vertex z.from z.to) t numbers moves number m size in
+            let z = total-numbered_push (λ (z : Move). f z.vertex z.from z.to) t numbers moves number (record m { worker = 0 }) size in
+            omega arith);
       }
     where
-      raised_once : (v u e to c : ℕ) → e < net_count s.graph → 0 < times u (net_of s.graph e).pins → (if nat_eq v u then (if nat_eq to c then times e (nets_of s.graph v) else 0) else 0) ≡ (if nat_eq v u then (if nat_eq to c then 1 else 0) else 0)
+      raised_once : (v u e to c : ℕ) → e < net_count s.graph → 0 < times u (net_of s.graph e).pins
+          → (if nat_eq v u then (if nat_eq to c then times e (nets_of s.graph v) else 0) else 0) ≡ (if nat_eq v u then (if nat_eq to c then 1 else 0) else 0)
       raised_once v u e to c k pin =
           elim (cases_eq v u) [
-            | inl q ↦ ap (λ z. if nat_eq v u then (if nat_eq to c then z else 0) else 0) (times-nets_of_pin s.graph v e k (subst (λ z. 0 < times z (net_of s.graph e).pins) (sym q) pin))
-            | inr q ↦ weight_if-other v u (if nat_eq to c then times e (nets_of s.graph v) else 0) q ∙ sym (weight_if-other v u (if nat_eq to c then 1 else 0) q)
+            | inl q ↦ ap (λ z. if nat_eq v u then (if nat_eq to c then z else 0) else 0)
+                (times-nets_of_pin s.graph v e k (subst (λ z. 0 < times z (net_of s.graph e).pins) (sym q) pin))
+            | inr q ↦ weight_if-other v u (if nat_eq to c then times e (nets_of s.graph v) else 0) q
+                ∙ sym (weight_if-other v u (if nat_eq to c then 1 else 0) q)
           ]
 
-      lowered_once : (v u e : ℕ) → e < net_count s.graph → 0 < times u (net_of s.graph e).pins → (if nat_eq v u then times e (nets_of s.graph v) else 0) ≡ (if nat_eq v u then 1 else 0)
+      lowered_once : (v u e : ℕ) → e < net_count s.graph → 0 < times u (net_of s.graph e).pins
+          → (if nat_eq v u then times e (nets_of s.graph v) else 0) ≡ (if nat_eq v u then 1 else 0)
       lowered_once v u e k pin =
           elim (cases_eq v u) [
             | inl q ↦ ap (λ z. if nat_eq v u then z else 0) (times-nets_of_pin s.graph v e k (subst (λ z. 0 < times z (net_of s.graph e).pins) (sym q) pin))

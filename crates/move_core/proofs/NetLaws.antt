@@ -56,7 +56,11 @@ module _ (h : Hyper) (v : ℕ) where
       by false = omega arith
 
   pub times-nets_of-le : (e : ℕ) → times e (nets_of h v) ≤ 1
-  times-nets_of-le e = elim (cases_lt e (net_count h)) [ inl l ↦ subst (λ n. n ≤ 1) (sym (times-nets_of e l)) (has_pin-le e) | inr l ↦ subst (λ n. n ≤ 1) (sym (times-nets_of_past e l)) (omega arith) ]
+  times-nets_of-le e = elim (cases_lt e (net_count h)) [
+    | inl l ↦ subst (λ n. n ≤ 1) (sym (times-nets_of e l)) (has_pin-le e)
+    | inr l ↦ subst (λ n. n ≤ 1)
+        (sym (times-nets_of_past e l)) (omega arith)
+  ]
 
   -- a net with the vertex stands among its nets
   pub times-nets_of_pin : (e : ℕ) → e < net_count h → 0 < times v (net_of h e).pins → times e (nets_of h v) ≡ 1
@@ -83,7 +87,8 @@ module _ (h : Hyper) (v : ℕ) where
       let z = times-nets_of e (net_at-below j l) in
       by (nat_lt 0 (times v (net_of h e).pins)) refl (subst (λ n. 0 < n) z k)
     where
-      by : (b : Bool) → nat_lt 0 (times v (net_of h (slice_index (nets_of h v) j)).pins) ≡ b → 0 < (if b then 1 else 0) → 0 < times v (net_of h (slice_index (nets_of h v) j)).pins
+      by : (b : Bool) → nat_lt 0 (times v (net_of h (slice_index (nets_of h v) j)).pins) ≡ b → 0 < (if b then 1 else 0)
+          → 0 < times v (net_of h (slice_index (nets_of h v) j)).pins
       by true e k = ltb-true 0 (times v (net_of h (slice_index (nets_of h v) j)).pins) e
       by false e k = absurd (omega arith)
 
@@ -97,7 +102,8 @@ module _ (h : Hyper) (v : ℕ) where
       omega arith
 
   -- one place more
-  pub times-take_more : (e j : ℕ) → j < length (nets_of h v) → times e (take (j + 1) (nets_of h v)) ≡ times e (take j (nets_of h v)) + weight_if (slice_index (nets_of h v) j) e 1
+  pub times-take_more : (e j : ℕ) → j < length (nets_of h v) → times e (take (j + 1) (nets_of h v)) ≡ times e (take j (nets_of h v))
+      + weight_if (slice_index (nets_of h v) j) e 1
   times-take_more e j l = total-take_more (λ x. weight_if x e 1) (nets_of h v) j 0 l
 
 -- a pin stands once in its net

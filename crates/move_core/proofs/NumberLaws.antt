@@ -38,15 +38,18 @@ below-more i n =
           ]
     ]
 
-module _ (r r' : Readings) (accounts : List Account) (i : ℕ) (a a' : Account) (l : i < length accounts) (at : get_or accounts i (blank false) ≡ a) (c : Numbers r accounts) where
-  pub numbers_kept : ((j : ℕ) → times j (drawn a') ≡ times j (drawn a)) → r'.next ≡ r.next → length a'.numbers ≡ length a'.moves → Numbers r' (set accounts i a')
+module _ (r r' : Readings) (accounts : List Account) (i : ℕ) (a a' : Account) (l : i < length accounts) (at : get_or accounts i (blank false) ≡ a)
+    (c : Numbers r accounts) where
+  pub numbers_kept : ((j : ℕ) → times j (drawn a') ≡ times j (drawn a)) → r'.next ≡ r.next → length a'.numbers ≡ length a'.moves
+      → Numbers r' (set accounts i a')
   numbers_kept e same own = record {
     each = λ j. total_unchanged accounts i a a' l at (λ x. times j (drawn x)) (e j) ∙ c.each j ∙ ap (λ n. if nat_lt j n then 1 else 0) (sym same);
     lengths = all_changed accounts i a a' l at (λ x. length x.numbers ≡ length x.moves) c.lengths own;
   }
 
   -- Draw
-  pub numbers_drawn : ((j : ℕ) → times j (drawn a') ≡ times j (drawn a) + weight_if r.next j 1) → r'.next ≡ r.next + 1 → length a'.numbers ≡ length a'.moves → Numbers r' (set accounts i a')
+  pub numbers_drawn : ((j : ℕ) → times j (drawn a') ≡ times j (drawn a) + weight_if r.next j 1) → r'.next ≡ r.next + 1 → length a'.numbers ≡ length a'.moves
+      → Numbers r' (set accounts i a')
   unfolding below
   numbers_drawn e more own = record {
     each = λ j.

@@ -33,7 +33,9 @@ fits_by_all h k l p loads e a b m =
     let r = ap (λ xs. get_or xs b 0) e ∙ get_or-map-range_with_len (load h p) 0 k b b 0 m (omega arith) in
     omega arith
 
-pub loads_more : (ws p loads : List ℕ) (v k x : ℕ) → length loads ≡ k → v < length ws → v < length p → slice_index p v < k → ((b : ℕ) → b < k → get_or loads b 0 ≡ weight_in (take v ws) (take v p) b) → x ≡ get_or loads (slice_index p v) 0 + slice_index ws v → (b : ℕ) → b < k → get_or (set loads (slice_index p v) x) b 0 ≡ weight_in (take (v + 1) ws) (take (v + 1) p) b
+pub loads_more : (ws p loads : List ℕ) (v k x : ℕ) → length loads ≡ k → v < length ws → v < length p → slice_index p v < k
+    → ((b : ℕ) → b < k → get_or loads b 0 ≡ weight_in (take v ws) (take v p) b) → x ≡ get_or loads (slice_index p v) 0 + slice_index ws v → (b : ℕ) → b < k
+    → get_or (set loads (slice_index p v) x) b 0 ≡ weight_in (take (v + 1) ws) (take (v + 1) p) b
 loads_more ws p loads v k x w lw lp lk each e b lb =
     let m = weight_in-take_more ws p v b lw lp in
     let o = each b lb in
@@ -72,7 +74,9 @@ map-same (x ∷ xs) = ap (λ ys. x ∷ ys) (map-same xs)
 pub nets_below_all : (h : Hyper) (v : ℕ) → nets_below h v (net_count h) ≡ nets_of h v
 nets_below_all h v = ap (filter (λ x. nat_lt 0 (times v (net_of h x).pins))) (map-same (range_with_len 0 (net_count h))) ∙ sym (on_by_times h v)
 
-pub index_more : (h : Hyper) (index : List (List ℕ)) (e n j v : ℕ) (pins : List ℕ) (old new : List ℕ) → length index ≡ n → j < length pins → v ≡ slice_index pins j → v < n → times v pins ≤ 1 → ((u : ℕ) (d : List ℕ) → u < n → get_or index u d ≡ nets_with h u e (take j pins)) → old ≡ get_or index v old → new ≡ old ++ e ∷ [] → (u : ℕ) (d : List ℕ) → u < n → get_or (set index v new) u d ≡ nets_with h u e (take (j + 1) pins)
+pub index_more : (h : Hyper) (index : List (List ℕ)) (e n j v : ℕ) (pins : List ℕ) (old new : List ℕ) → length index ≡ n → j < length pins
+    → v ≡ slice_index pins j → v < n → times v pins ≤ 1 → ((u : ℕ) (d : List ℕ) → u < n → get_or index u d ≡ nets_with h u e (take j pins))
+    → old ≡ get_or index v old → new ≡ old ++ e ∷ [] → (u : ℕ) (d : List ℕ) → u < n → get_or (set index v new) u d ≡ nets_with h u e (take (j + 1) pins)
 index_more h index e n j v pins old new w lj ev lv once each eo en u d lu =
     let more = total-take_more (λ x. weight_if x u 1) pins j 0 lj in
     elim (cases_eq v u) [
@@ -81,9 +85,11 @@ index_more h index e n j v pins old new w lj ev lv once each eo en u d lu =
           let s = weight_if-same (get_or pins j 0) v 1 (sym ev) in
           let z : times v (take j pins) ≡ 0 = omega arith in
           let here : get_or (set index v new) u d ≡ new = ap (λ y. get_or (set index y new) u d) q ∙ get_or-set_same index u new d (omega arith) in
-          let was : old ≡ nets_below h v e = eo ∙ each v old lv ∙ ap (λ b. nets_below h v e ++ (if b then e ∷ [] else [])) (le-ltb 0 (times v (take j pins)) (omega arith)) ∙ append-nil (nets_below h v e) in
+          let was : old ≡ nets_below h v e = eo ∙ each v old lv ∙ ap (λ b. nets_below h v e ++ (if b then e ∷ [] else []))
+          (le-ltb 0 (times v (take j pins)) (omega arith)) ∙ append-nil (nets_below h v e) in
           let s' = weight_if-same (get_or pins j 0) u 1 (sym ev ∙ q) in
-          here ∙ en ∙ ap (λ xs. xs ++ e ∷ []) (was ∙ ap (λ y. nets_below h y e) q) ∙ sym (ap (λ b. nets_below h u e ++ (if b then e ∷ [] else [])) (lt-ltb 0 (times u (take (j + 1) pins)) (omega arith)))
+          here ∙ en ∙ ap (λ xs. xs ++ e ∷ []) (was ∙ ap (λ y. nets_below h y e) q)
+          ∙ sym (ap (λ b. nets_below h u e ++ (if b then e ∷ [] else [])) (lt-ltb 0 (times u (take (j + 1) pins)) (omega arith)))
       | inr q ↦
           let s = weight_if-other (get_or pins j 0) u 1 (λ y. q (ev ∙ y)) in
           let same : times u (take j pins) ≡ times u (take (j + 1) pins) = omega arith in
@@ -114,7 +120,8 @@ pins_with_more h p e f b =
                 let k : e + 1 ≤ f = grind arith in
                 ap (λ t. if t then pins_in p (net_of h f).pins b else (if nat_eq f e then pins_in p (net_of h e).pins b else 0)) (le-ltb f e m)
                 ∙ ap (λ t. if t then pins_in p (net_of h e).pins b else 0) (ne_eqb f e q)
-                ∙ sym (ap (λ t. if t then pins_in p (net_of h f).pins b else (if nat_eq f (e + 1) then pins_in p [] b else 0)) (le-ltb f (e + 1) k) ∙ zero_both (nat_eq f (e + 1)))
+                ∙ sym (ap (λ t. if t then pins_in p (net_of h f).pins b else (if nat_eq f (e + 1) then pins_in p [] b else 0)) (le-ltb f (e + 1) k)
+                ∙ zero_both (nat_eq f (e + 1)))
           ]
     ]
   where
@@ -139,7 +146,10 @@ pub pins_with_all : (h : Hyper) (p : List ℕ) (e f b : ℕ) → f < e → pins_
 pins_with_all h p e f b l = ap (λ t. if t then pins_in p (net_of h f).pins b else (if nat_eq f e then pins_in p [] b else 0)) (lt-ltb f e l)
 
 -- one pin more
-pub counts_more : (h : Hyper) (p counts : List ℕ) (e m k j v x : ℕ) (pins : List ℕ) → length counts ≡ m * k → e < m → j < length pins → v ≡ slice_index pins j → block_of p v < k → ((f b : ℕ) → f < m → b < k → get_or counts (count_place k f b) 0 ≡ pins_with h p e (take j pins) f b) → x ≡ get_or counts (count_place k e (block_of p v)) 0 + 1 → (f b : ℕ) → f < m → b < k → get_or (set counts (count_place k e (block_of p v)) x) (count_place k f b) 0 ≡ pins_with h p e (take (j + 1) pins) f b
+pub counts_more : (h : Hyper) (p counts : List ℕ) (e m k j v x : ℕ) (pins : List ℕ) → length counts ≡ m * k → e < m → j < length pins → v ≡ slice_index pins j
+    → block_of p v < k → ((f b : ℕ) → f < m → b < k → get_or counts (count_place k f b) 0 ≡ pins_with h p e (take j pins) f b)
+    → x ≡ get_or counts (count_place k e (block_of p v)) 0 + 1 → (f b : ℕ) → f < m → b < k
+    → get_or (set counts (count_place k e (block_of p v)) x) (count_place k f b) 0 ≡ pins_with h p e (take (j + 1) pins) f b
 counts_more h p counts e m k j v x pins w le lj ev lb each ex f b lf lc =
     let more = total-take_more (λ u. weight_if (block_of p u) b 1) pins j 0 lj in
     let inside = place-below k e (block_of p v) m le lb in
@@ -152,12 +162,15 @@ counts_more h p counts e m k j v x pins w le lj ev lb each ex f b lf lc =
             | inl t ↦
                 let s = weight_if-same (block_of p (get_or pins j 0)) b 1 (ap (block_of p) (sym ev) ∙ t) in
                 let place : count_place k f b ≡ count_place k e (block_of p v) = ap (λ z. count_place k z b) q ∙ ap (count_place k e) (sym t) in
-                let g : get_or (set counts (count_place k e (block_of p v)) x) (count_place k f b) 0 ≡ x = ap (λ z. get_or (set counts (count_place k e (block_of p v)) x) z 0) place ∙ get_or-set_same counts (count_place k e (block_of p v)) x 0 (omega arith) in
+                let g : get_or (set counts (count_place k e (block_of p v)) x) (count_place k f b) 0 ≡ x =
+                ap (λ z. get_or (set counts (count_place k e (block_of p v)) x) z 0) place
+                ∙ get_or-set_same counts (count_place k e (block_of p v)) x 0 (omega arith) in
                 let y = ap (λ z. get_or counts z 0) place in
                 omega arith
             | inr t ↦
                 let s = weight_if-other (block_of p (get_or pins j 0)) b 1 (λ z. t (ap (block_of p) ev ∙ z)) in
-                let g = get_or-set_other counts (count_place k e (block_of p v)) (count_place k f b) x 0 (λ z. t (sym (same_from_place f b e (block_of p v) k lc lb z).1)) in
+                let g = get_or-set_other counts (count_place k e (block_of p v)) (count_place k f b) x 0
+                (λ z. t (sym (same_from_place f b e (block_of p v) k lc lb z).1)) in
                 omega arith
           ]
       | inr q ↦
@@ -199,16 +212,22 @@ row_of j k m l =
         ]
 
 -- the counts of all nets
-pub counts_all : (h : Hyper) (p counts : List ℕ) (k : ℕ) → length counts ≡ net_count h * k → ((f b : ℕ) → f < net_count h → b < k → get_or counts (count_place k f b) 0 ≡ pins_in p (net_of h f).pins b) → counts ≡ flat_map (λ e. map (pins_in p (net_of h e).pins) (range_with_len 0 k)) (range_with_len 0 (net_count h))
+pub counts_all : (h : Hyper) (p counts : List ℕ) (k : ℕ) → length counts ≡ net_count h * k
+    → ((f b : ℕ) → f < net_count h → b < k → get_or counts (count_place k f b) 0 ≡ pins_in p (net_of h f).pins b)
+    → counts ≡ flat_map (λ e. map (pins_in p (net_of h e).pins) (range_with_len 0 k)) (range_with_len 0 (net_count h))
 counts_all h p counts k w each =
-    same_number_lists counts (flat_map (λ e. map (pins_in p (net_of h e).pins) (range_with_len 0 k)) (range_with_len 0 (net_count h))) (w ∙ sym (length-opened_counts (setup_of h k 0 p)))
+    same_number_lists counts (flat_map (λ e. map (pins_in p (net_of h e).pins) (range_with_len 0 k)) (range_with_len 0 (net_count h)))
+    (w ∙ sym (length-opened_counts (setup_of h k 0 p)))
     (λ j l.
     let r = row_of j k (net_count h) (omega arith) in
     let o = opened-count (setup_of h k 0 p) 0 (j / k) (j % k) r.1 r.2 in
-    ap (λ z. get_or counts z 0) (sym r.3) ∙ each (j / k) (j % k) r.1 r.2 ∙ sym o ∙ ap (λ z. get_or (flat_map (λ e. map (pins_in p (net_of h e).pins) (range_with_len 0 k)) (range_with_len 0 (net_count h))) z 0) r.3)
+    ap (λ z. get_or counts z 0) (sym r.3) ∙ each (j / k) (j % k) r.1 r.2 ∙ sym o
+    ∙ ap (λ z. get_or (flat_map (λ e. map (pins_in p (net_of h e).pins) (range_with_len 0 k)) (range_with_len 0 (net_count h))) z 0) r.3)
 
 -- the spreads, read off the counts
-pub spreads_all : (s : Setup) (m : ℕ) (counts : List ℕ) → m ≡ net_count s.graph → counts ≡ (opened s 0).counts → map (λ e. 64 + present_below (λ b. slice_index counts (count_place s.blocks e b)) s.blocks) (range_with_len 0 m) ≡ map (λ e. 64 + present_below (opening_pins s e) s.blocks) (range_with_len 0 (net_count s.graph))
+pub spreads_all : (s : Setup) (m : ℕ) (counts : List ℕ) → m ≡ net_count s.graph → counts ≡ (opened s 0).counts
+    → map (λ e. 64 + present_below (λ b. slice_index counts (count_place s.blocks e b)) s.blocks) (range_with_len 0 m)
+    ≡ map (λ e. 64 + present_below (opening_pins s e) s.blocks) (range_with_len 0 (net_count s.graph))
 spreads_all s m counts em ec =
     let f : ℕ → ℕ = λ e. 64 + present_below (λ b. slice_index counts (count_place s.blocks e b)) s.blocks in
     let g : ℕ → ℕ = λ e. 64 + present_below (opening_pins s e) s.blocks in
@@ -216,7 +235,8 @@ spreads_all s m counts em ec =
     ∙ fill_by_all g (map f (range_with_len 0 (net_count s.graph))) (net_count s.graph) 0 (length-map-range_with_len f 0 (net_count s.graph))
     (λ e l.
     let a = get_or-map-range_with_len f 0 (net_count s.graph) e e 0 l (omega arith) in
-    let q = sum_below-same (λ b. present (slice_index counts (count_place s.blocks e b))) (λ b. present (opening_pins s e b)) s.blocks (λ b k. ap present (ap (λ xs. slice_index xs (count_place s.blocks e b)) ec ∙ opened-count s 0 e b l k)) in
+    let q = sum_below-same (λ b. present (slice_index counts (count_place s.blocks e b))) (λ b. present (opening_pins s e b)) s.blocks
+    (λ b k. ap present (ap (λ xs. slice_index xs (count_place s.blocks e b)) ec ∙ opened-count s 0 e b l k)) in
     a ∙ ap (λ n. 64 + n) q)
 
 -- a state with nothing drawn
@@ -234,7 +254,10 @@ opened_with blocks limit h opening claims names loads counts spreads accounts = 
 }
 
 -- the state at the opening, word by word
-pub opened_from : (s : Setup) (passes : ℕ) (h : Hyper) (opening claims names loads counts spreads : List ℕ) (accounts : List Account) → h ≡ s.graph → opening ≡ s.opening → claims ≡ (opened s passes).claims → names ≡ s.opening → loads ≡ (opened s passes).loads → counts ≡ (opened s passes).counts → spreads ≡ (opened s passes).spreads → accounts ≡ replicate passes (blank true) → opened_with s.blocks s.limit h opening claims names loads counts spreads accounts ≡ opened s passes
+pub opened_from : (s : Setup) (passes : ℕ) (h : Hyper) (opening claims names loads counts spreads : List ℕ) (accounts : List Account) → h ≡ s.graph
+    → opening ≡ s.opening → claims ≡ (opened s passes).claims → names ≡ s.opening → loads ≡ (opened s passes).loads → counts ≡ (opened s passes).counts
+    → spreads ≡ (opened s passes).spreads → accounts ≡ replicate passes (blank true)
+    → opened_with s.blocks s.limit h opening claims names loads counts spreads accounts ≡ opened s passes
 opened_from s passes h opening claims names loads counts spreads accounts e1 e2 e3 e4 e5 e6 e7 e8 =
     ap (λ z. opened_with s.blocks s.limit z opening claims names loads counts spreads accounts) e1
     ∙ ap (λ z. opened_with s.blocks s.limit s.graph z claims names loads counts spreads accounts) e2
@@ -243,4 +266,5 @@ opened_from s passes h opening claims names loads counts spreads accounts e1 e2 
     ∙ ap (λ z. opened_with s.blocks s.limit s.graph s.opening (opened s passes).claims s.opening z counts spreads accounts) e5
     ∙ ap (λ z. opened_with s.blocks s.limit s.graph s.opening (opened s passes).claims s.opening (opened s passes).loads z spreads accounts) e6
     ∙ ap (λ z. opened_with s.blocks s.limit s.graph s.opening (opened s passes).claims s.opening (opened s passes).loads (opened s passes).counts z accounts) e7
-    ∙ ap (λ z. opened_with s.blocks s.limit s.graph s.opening (opened s passes).claims s.opening (opened s passes).loads (opened s passes).counts (opened s passes).spreads z) e8
+    ∙ ap (λ z. opened_with s.blocks s.limit s.graph s.opening (opened s passes).claims s.opening (opened s passes).loads (opened s passes).counts
+    (opened s passes).spreads z) e8

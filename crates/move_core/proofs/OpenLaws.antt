@@ -1,9 +1,9 @@
 -- The books of a round at its opening are in balance.
-use Rattle.std.proofs.Common.{◌≡◌, ℕ, ◌+◌, ◌-◌, ◌*◌, ◌^◌, ◌<◌, ◌≤◌, Bool, true, false, List, [], ◌∷◌, map, length, length-append, take, get_or, replicate, slice_index, nat_eq, if◌then◌else◌, All, pos, refl, sym, ap, ◌∙◌, subst, arith}
+use Rattle.std.proofs.Common.{◌≡◌, ℕ, ◌+◌, ◌-◌, ◌*◌, ◌^◌, ◌<◌, ◌≤◌, inl, inr, Bool, true, false, List, [], ◌∷◌, map, length, length-append, take, get_or, replicate, slice_index, nat_eq, nat_lt, if◌then◌else◌, All, pos, refl, sym, ap, ◌∙◌, subst, arith}
 use Rattle.std.specs.List.{range_with_len, flat_map}
 use Rattle.std.proofs.lemmas.Int.{ints}
-use Rattle.std.proofs.lemmas.Bool.{true≢false, le-ltb}
-use Rattle.std.proofs.lemmas.List.{get_or-replicate, length-replicate, length-take-le}
+use Rattle.std.proofs.lemmas.Bool.{true≢false, le-ltb, cases_lt}
+use Rattle.std.proofs.lemmas.List.{get_or_past, get_or-replicate, length-replicate, length-take-le}
 use Rattle.std.proofs.lemmas.List.Elements.{All-nil}
 use Rattle.std.proofs.lemmas.List.Concat.{get_or-flat_map}
 use Rattle.std.proofs.lemmas.List.FromFn.{length-range_with_len, get_or-range_with_len, get_or-map-range_with_len, length-map-range_with_len}
@@ -17,10 +17,11 @@ use Rattle.hg_defs.proofs.SumLaws.{total-replicate, total-zero, total-same_each,
 use Rattle.hg_defs.proofs.DistinctLaws.{connectivity-sum}
 use Rattle.move_core.specs.declared.account.Account.{Account}
 use Rattle.hg_defs.specs.Incidence.{nets_of}
-use Rattle.move_core.specs.State.{Setup, Readings, readings, blank, times, opened, opening_pins, present_below}
+use Rattle.move_core.specs.State.{Setup, Readings, account_in, readings, blank, times, opened, opening_pins, IsOpening, present_below}
 use Rattle.move_core.specs.Events.{price_at}
-use Rattle.move_core.specs.Balance.{InBalance, IsSetup, IsBooks, IsGain, IsNamed, IsInStep, IsMove, IsStageMove, IsOwing, IsBetween, IsBookedWithin, carried, drawn, raises, lowers, departed, arrived, reserved_weight, owed_up, owed_down, weights_of}
+use Rattle.move_core.specs.Balance.{InBalance, IsSetup, IsShaped, IsBooks, IsGain, IsNamed, IsInStep, IsMoveFromOpening, IsStageMove, IsOwing, IsBetween, IsBookedWithin, carried, drawn, raises, lowers, departed, arrived, reserved_weight, owed_up, owed_down, weights_of, moves_before}
 use Rattle.move_core.proofs.RestLaws.{seed_room}
+use Rattle.move_core.proofs.WorkerLaws.{workers_blank}
 
 -- all accounts are blank
 All_blank : (P : Account → Type 0) (n : ℕ) → P (blank true) → All P (replicate n (blank true))
@@ -41,9 +42,11 @@ length-rows f k h (x ∷ xs) =
     let b = h x in
     omega arith
 
-pub length-opened_counts : (s : Setup) → length (flat_map (λ e. map (opening_pins s e) (range_with_len 0 s.blocks)) (range_with_len 0 (net_count s.graph))) ≡ net_count s.graph * s.blocks
+pub length-opened_counts : (s : Setup) → length (flat_map (λ e. map (opening_pins s e) (range_with_len 0 s.blocks)) (range_with_len 0 (net_count s.graph)))
+    ≡ net_count s.graph * s.blocks
 length-opened_counts s =
-    length-rows (λ e. map (opening_pins s e) (range_with_len 0 s.blocks)) s.blocks (λ e. length-map-range_with_len (opening_pins s e) 0 s.blocks) (range_with_len 0 (net_count s.graph))
+    length-rows (λ e. map (opening_pins s e) (range_with_len 0 s.blocks)) s.blocks (λ e. length-map-range_with_len (opening_pins s e) 0 s.blocks)
+    (range_with_len 0 (net_count s.graph))
     ∙ ap (λ n. n * s.blocks) (length-range_with_len 0 (net_count s.graph))
 
 pub opened-count : (s : Setup) (passes e b : ℕ) → e < net_count s.graph → b < s.blocks → (readings (opened s passes)).count e b ≡ opening_pins s e b
@@ -53,22 +56,30 @@ opened-count s passes e b le lb =
     let nets = length-range_with_len 0 (net_count s.graph) in
     let here : get_or xs e 0 ≡ e = get_or-range_with_len 0 (net_count s.graph) e 0 le ∙ (omega arith) in
     let row = λ (x : ℕ). length-map-range_with_len (opening_pins s x) 0 s.blocks in
-    let before : length (flat_map f (take e xs)) ≡ e * s.blocks = length-rows f s.blocks row (take e xs) ∙ ap (λ n. n * s.blocks) (length-take-le e xs (omega arith)) in
+    let before : length (flat_map f (take e xs)) ≡ e * s.blocks = length-rows f s.blocks row (take e xs)
+    ∙ ap (λ n. n * s.blocks) (length-take-le e xs (omega arith)) in
     let a = get_or-flat_map f xs e b 0 0 (omega arith) (let q = row (get_or xs e 0) in omega arith) in
-    ap (λ n. slice_index (flat_map f xs) (n + b)) (sym before) ∙ a ∙ ap (λ x. get_or (f x) b 0) here ∙ get_or-map-range_with_len (opening_pins s e) 0 s.blocks b b 0 lb (omega arith)
+    ap (λ n. slice_index (flat_map f xs) (n + b)) (sym before) ∙ a ∙ ap (λ x. get_or (f x) b 0) here
+    ∙ get_or-map-range_with_len (opening_pins s e) 0 s.blocks b b 0 lb (omega arith)
 
-module _ (s : Setup) (ok : IsSetup s) (passes : ℕ) (few : passes ≤ 64) where
-  abbrev r : Readings
-  r = readings (opened s passes)
+-- the words of the state at the opening read so
+pub opened_reads : (s : Setup) (passes : ℕ) → IsOpening s (readings (opened s passes))
+opened_reads s passes = record {
+  claim = λ v l. get_or-replicate (vertex_count s.graph) v 0 0 l;
+  name = λ v l. refl;
+  load = λ b l. get_or-map-range_with_len (load s.graph s.opening) 0 s.blocks b b 0 l (omega arith);
+  count = λ e b le lb. opened-count s passes e b le lb;
+  spread = λ e l. get_or-map-range_with_len (λ x. 64 + present_below (opening_pins s x) s.blocks) 0 (net_count s.graph) e e 0 l (omega arith);
+  next = refl;
+  cursor = refl;
+}
 
+module _ (s : Setup) (ok : IsSetup s) (r : Readings) (o : IsOpening s r) (passes : ℕ) (few : passes ≤ 64) where
   abbrev all : List Account
   all = replicate passes (blank true)
 
   none : (f : Account → ℕ) → f (blank true) ≡ 0 → total f all ≡ 0
   none f z = total_blank f passes z
-
-  spread_at : (e : ℕ) → e < net_count s.graph → r.spread e ≡ 64 + present_below (opening_pins s e) s.blocks
-  spread_at e l = get_or-map-range_with_len (λ x. 64 + present_below (opening_pins s x) s.blocks) 0 (net_count s.graph) e e 0 l (omega arith)
 
   pins_below : (e : ℕ) → e < net_count s.graph → All (λ v. block_of s.opening v < s.blocks) (net_of s.graph e).pins
   pins_below e l k d q =
@@ -79,65 +90,77 @@ module _ (s : Setup) (ok : IsSetup s) (passes : ℕ) (few : passes ≤ 64) where
 
   price_opened : (e : ℕ) → e < net_count s.graph → price_at s.graph e (r.spread e) ≡ net_cost s.graph.objective s.opening (net_of s.graph e)
   price_opened e l =
-      let a = spread_at e l in
+      let a = o.spread e l in
       let c = connectivity-sum s.blocks s.opening (net_of s.graph e).pins (pins_below e l) in
       let q : r.spread e - 64 ≡ connectivity s.opening (net_of s.graph e).pins = omega arith in
       ap (λ x. (net_of s.graph e).weight * price s.graph.objective x) q
 
-  pub opened_balance : InBalance s r all
-  opened_balance = record {
+  blank_moves : (i : ℕ) → (account_in all i).moves ≡ []
+  blank_moves i =
+      elim (cases_lt i passes) [
+        | inl l ↦ ap (λ (a : Account). a.moves) (get_or-replicate passes i (blank true) (blank false) l)
+        | inr m ↦ ap (λ (a : Account). a.moves) (get_or_past all i (blank false) (let e = length-replicate passes (blank true) in omega arith))
+      ]
+
+  pub opening_balance : InBalance s r all
+  opening_balance = record {
     claims = record {
-      word = λ v l. get_or-replicate (vertex_count s.graph) v 0 0 l ∙ sym (none (λ a. times v a.held) refl);
-      once = λ v l. subst (λ x. x ≤ 1) (sym (get_or-replicate (vertex_count s.graph) v 0 0 l)) (omega arith);
-      free = λ v l f. get_or-replicate (vertex_count s.graph) v 0 0 l;
+      word = λ v l. o.claim v l ∙ sym (none (λ a. times v a.held) refl);
+      once = λ v l. let e = o.claim v l in omega arith;
+      free = λ v l f. o.claim v l;
       range = All_blank (λ a. All (λ v. v < vertex_count s.graph) a.held) passes (All-nil (λ v. v < vertex_count s.graph));
     };
     loads = record {
       word = λ b l.
-          let e = get_or-map-range_with_len (load s.graph s.opening) 0 s.blocks b b 0 l (omega arith) in
+          let e = o.load b l in
           let x = none (λ a. departed s.graph b a.moves) refl in
           let y = none (λ a. reserved_weight s.graph b a.stage + arrived s.graph b a.moves) refl in
           omega arith;
       limit = λ b l.
-          let e = get_or-map-range_with_len (load s.graph s.opening) 0 s.blocks b b 0 l (omega arith) in
+          let e = o.load b l in
           let f = ok.fits b l in
           omega arith;
     };
     names = record {
       done = All_blank (λ a. All (λ m. r.name m.vertex ≡ m.to) a.moves) passes (All-nil (λ (m : Move). r.name m.vertex ≡ m.to));
       stages = All_blank (λ a. IsNamed r.name a.stage) passes tt;
-      others = λ v l z. refl;
+      others = λ v l z. o.name v l;
     };
     counts = record {
       word = λ e b le lb.
           let pins = (net_of s.graph e).pins in
-          let c = opened-count s passes e b le lb in
+          let c = o.count e b le lb in
           let x = total-zero (λ u. if nat_eq (block_of s.opening u) b then total (lowers s.graph u e) all else 0) pins
-          (λ k d q. ap (λ z. if nat_eq (block_of s.opening (get_or pins k d)) b then z else 0) (none (lowers s.graph (get_or pins k d) e) refl) ∙ zero_if (nat_eq (block_of s.opening (get_or pins k d)) b)) in
-          let y = total-same_each (λ u. (if nat_eq (block_of s.opening u) b then 1 else 0) + total (raises s.graph u e b) all) (λ u. if nat_eq (block_of s.opening u) b then 1 else 0) (λ u. let z = none (raises s.graph u e b) refl in omega arith) pins in
+          (λ k d q. ap (λ z. if nat_eq (block_of s.opening (get_or pins k d)) b then z else 0) (none (lowers s.graph (get_or pins k d) e) refl)
+          ∙ zero_if (nat_eq (block_of s.opening (get_or pins k d)) b)) in
+          let y = total-same_each (λ u. (if nat_eq (block_of s.opening u) b then 1 else 0) + total (raises s.graph u e b) all)
+          (λ u. if nat_eq (block_of s.opening u) b then 1 else 0) (λ u. let z = none (raises s.graph u e b) refl in omega arith) pins in
           omega arith;
       steps = All_blank (λ a. IsInStep s.graph a.stage) passes tt;
     };
     moves = record {
       held = All_blank (λ a. (v : ℕ) → times v (carried a) ≤ times v a.held) passes (λ v. omega arith);
-      done = All_blank (λ a. All (λ m. IsMove s m.vertex m.from m.to) a.moves) passes (All-nil (λ (m : Move). IsMove s m.vertex m.from m.to));
+      done = All_blank (λ a. All (λ m. IsMoveFromOpening s m.vertex m.from m.to) a.moves) passes
+          (All-nil (λ (m : Move). IsMoveFromOpening s m.vertex m.from m.to));
       stages = All_blank (λ a. IsStageMove s a.stage) passes tt;
     };
     numbers = record {
-      each = λ i. none (λ a. times i (drawn a)) refl ∙ sym (ap (λ b. if b then 1 else 0) (le-ltb i 0 (omega arith)));
+      each = λ i. none (λ a. times i (drawn a)) refl ∙ sym (ap (λ n. if nat_lt i n then 1 else 0) o.next
+          ∙ ap (λ b. if b then 1 else 0) (le-ltb i 0 (omega arith)));
       lengths = All_blank (λ a. length a.numbers ≡ length a.moves) passes refl;
     };
     gains = All_blank IsGain passes refl;
     sum = record {
       gains =
           let a = total_z-zero (λ (x : Account). x.gain) all (All_blank (λ x. x.gain ≡ pos 0) passes refl) in
-          let b = sum_below-same (λ e. price_at s.graph e (r.spread e)) (λ e. net_cost s.graph.objective s.opening (net_of s.graph e)) (net_count s.graph) price_opened in
+          let b = sum_below-same (λ e. price_at s.graph e (r.spread e)) (λ e. net_cost s.graph.objective s.opening (net_of s.graph e)) (net_count s.graph)
+          price_opened in
           let c = total-by_index (net_cost s.graph.objective s.opening) (record { weight = 0; pins = [] }) s.graph.nets in
           omega (arith, ints);
     };
     rest = record {
       made = let e = length-replicate passes (blank true) in omega arith;
-      cursor = sym (none (λ a. a.seeds) refl);
+      cursor = o.cursor ∙ sym (none (λ a. a.seeds) refl);
       seeds =
           let e = total-replicate seed_room passes (blank true) in
           let q : 2 ^ 32 * length all ≡ 2 ^ 32 * passes = ap (λ n. 2 ^ 32 * n) (length-replicate passes (blank true)) in
@@ -147,16 +170,25 @@ module _ (s : Setup) (ok : IsSetup s) (passes : ℕ) (few : passes ≤ 64) where
     };
     spreads = record {
       word = λ e le.
-          let a = spread_at e le in
+          let a = o.spread e le in
           let x = none (λ y. owed_up s.graph e y.stage) refl in
           let y = none (λ z. owed_down s.graph e z.stage) refl in
-          let p = sum_below-same (λ b. present (r.count e b)) (λ b. present (opening_pins s e b)) s.blocks (λ b lb. ap present (opened-count s passes e b le lb)) in
+          let p = sum_below-same (λ b. present (r.count e b)) (λ b. present (opening_pins s e b)) s.blocks (λ b lb. ap present (o.count e b le lb)) in
           omega arith;
       owed = All_blank (λ a. IsOwing a.stage) passes tt;
     };
     bounds = record {
-      done = All_blank (λ a. All (λ m. IsBetween (weights_of s.graph (nets_of s.graph m.vertex)) (weights_of s.graph (nets_of s.graph m.vertex)) m.booked) a.moves) passes (All-nil (λ (m : Move). IsBetween (weights_of s.graph (nets_of s.graph m.vertex)) (weights_of s.graph (nets_of s.graph m.vertex)) m.booked));
+      done = All_blank (λ a. All (λ m. IsBetween (weights_of s.graph (nets_of s.graph m.vertex)) (weights_of s.graph (nets_of s.graph m.vertex)) m.booked)
+          a.moves) passes (All-nil (λ (m : Move). IsBetween (weights_of s.graph (nets_of s.graph m.vertex)) (weights_of s.graph (nets_of s.graph m.vertex))
+          m.booked));
       stages = All_blank (λ a. IsBookedWithin s.graph a.stage) passes tt;
+    };
+    workers = workers_blank all (λ i. blank_moves i);
+    prefixes = record {
+      fit = λ i b l.
+          let x = none (λ a. arrived s.graph b (moves_before i a)) refl in
+          let f = ok.fits b l in
+          omega arith;
     };
   }
     where
@@ -164,16 +196,19 @@ module _ (s : Setup) (ok : IsSetup s) (passes : ℕ) (few : passes ≤ 64) where
       zero_if true = refl
       zero_if false = refl
 
-  -- the books at the opening
-  pub opened_books : IsBooks (opened s passes)
-  opened_books = record {
-    setup = ok;
-    shape = record {
-      claims = length-replicate (vertex_count s.graph) 0;
-      names = ok.opening.vertices;
-      loads = length-map-range_with_len (load s.graph s.opening) 0 s.blocks;
-      counts = length-opened_counts s;
-      spreads = length-map-range_with_len (λ e. 64 + present_below (opening_pins s e) s.blocks) 0 (net_count s.graph);
-    };
-    balance = opened_balance;
-  }
+pub opened_shape : (s : Setup) → IsSetup s → (passes : ℕ) → IsShaped (opened s passes)
+opened_shape s ok passes = record {
+  claims = length-replicate (vertex_count s.graph) 0;
+  names = ok.opening.vertices;
+  loads = length-map-range_with_len (load s.graph s.opening) 0 s.blocks;
+  counts = length-opened_counts s;
+  spreads = length-map-range_with_len (λ e. 64 + present_below (opening_pins s e) s.blocks) 0 (net_count s.graph);
+}
+
+-- the books at the opening
+pub opened_books : (s : Setup) → IsSetup s → (passes : ℕ) → passes ≤ 64 → IsBooks (opened s passes)
+opened_books s ok passes few = record {
+  setup = ok;
+  shape = opened_shape s ok passes;
+  balance = opening_balance s ok (readings (opened s passes)) (opened_reads s passes) passes few;
+}

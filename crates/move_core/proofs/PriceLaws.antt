@@ -20,14 +20,16 @@ product w p q n s e l f k =
     spread : (x y z : ℕ) → x * (y + z) ≡ x * y + x * z
     spread x y z = omega arith
 
-pub widen_value : (o : Objective) (w found n s : ℕ) → 64 ≤ found → n ≡ w → n < 2 ^ 54 → price o (found - 64) + s ≡ price o (found - 64 + 1) → s ≤ 2 → (pos 0 -ℤ pos (n * s) ≡ pos (w * price o (found - 64)) -ℤ pos (w * price o (found + 1 - 64))) × (n * s < 2 ^ 55)
+pub widen_value : (o : Objective) (w found n s : ℕ) → 64 ≤ found → n ≡ w → n < 2 ^ 54 → price o (found - 64) + s ≡ price o (found - 64 + 1) → s ≤ 2
+    → (pos 0 -ℤ pos (n * s) ≡ pos (w * price o (found - 64)) -ℤ pos (w * price o (found + 1 - 64))) × (n * s < 2 ^ 55)
 widen_value o w found n s g e l f k =
     let t : found - 64 + 1 ≡ found + 1 - 64 = omega arith in
     let p = product w (price o (found - 64)) (price o (found + 1 - 64)) n s e l (f ∙ ap (price o) t) k in
     let a = p.products in
     (omega (arith, ints), p.small)
 
-pub narrow_value : (o : Objective) (w found n s : ℕ) → 65 ≤ found → n ≡ w → n < 2 ^ 54 → price o (found - 65) + s ≡ price o (found - 65 + 1) → s ≤ 2 → (pos (n * s) ≡ pos (w * price o (found - 64)) -ℤ pos (w * price o (found - 1 - 64))) × (n * s < 2 ^ 55)
+pub narrow_value : (o : Objective) (w found n s : ℕ) → 65 ≤ found → n ≡ w → n < 2 ^ 54 → price o (found - 65) + s ≡ price o (found - 65 + 1) → s ≤ 2
+    → (pos (n * s) ≡ pos (w * price o (found - 64)) -ℤ pos (w * price o (found - 1 - 64))) × (n * s < 2 ^ 55)
 narrow_value o w found n s g e l f k =
     let t : found - 65 + 1 ≡ found - 64 = omega arith in
     let u : found - 65 ≡ found - 1 - 64 = omega arith in

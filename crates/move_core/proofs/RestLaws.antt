@@ -13,7 +13,8 @@ seed_room a = if a.live then max (2 ^ 32) a.seeds else 0
 room_at : (a : Account) → a.live ≡ true → seed_room a ≡ max (2 ^ 32) a.seeds
 room_at a e = ap (λ b. if b then max (2 ^ 32) a.seeds else 0) e
 
-module _ (r r' : Readings) (accounts : List Account) (i : ℕ) (a a' : Account) (l : i < length accounts) (at : get_or accounts i (blank false) ≡ a) (c : Rest r accounts) (live : a.live ≡ true) (live' : a'.live ≡ true) where
+module _ (r r' : Readings) (accounts : List Account) (i : ℕ) (a a' : Account) (l : i < length accounts) (at : get_or accounts i (blank false) ≡ a)
+    (c : Rest r accounts) (live : a.live ≡ true) (live' : a'.live ≡ true) where
   rest_changed : r'.cursor + a.seeds ≡ r.cursor + a'.seeds → seed_room a' ≡ seed_room a → Rest r' (set accounts i a')
   rest_changed e q = record {
     made = let m = c.made in let n = length-set accounts i a' in omega arith;

@@ -1,5 +1,5 @@
 -- The books stay in balance over Widen and Narrow.
-use Rattle.std.proofs.Common.{◌≡◌, ℕ, zero, suc, ◌+◌, ◌-◌, ◌*◌, ◌<◌, ◌≤◌, inl, inr, Bool, false, List, length, get_or, slice_index, take, set, All, ℤ, ◌+ℤ◌, refl, ap, arith}
+use Rattle.std.proofs.Common.{◌≡◌, ℕ, zero, suc, ◌+◌, ◌-◌, ◌*◌, ◌<◌, ◌≤◌, inl, inr, Bool, false, List, length, get_or, slice_index, take, set, ℤ, ◌+ℤ◌, refl, ap, ◌∙◌, arith, nat_lt, sym}
 use Rattle.std.proofs.lemmas.Int.{ints}
 use Rattle.std.proofs.lemmas.Bool.{cases_lt}
 use Rattle.hg_defs.specs.declared.moves.Move.{Move}
@@ -13,18 +13,17 @@ use Rattle.move_core.specs.declared.account.Stage.TheVariants.{Idle, Moving}
 use Rattle.move_core.specs.declared.events.Word.TheVariants as word
 use Rattle.hg_defs.specs.Incidence.{nets_of}
 use Rattle.move_core.specs.State.{Setup, Readings, times, blank}
-use Rattle.move_core.specs.Balance.{Sum, Spreads, InBalance, IsSetup, IsGain, IsMove, IsStageMove, IsInStep, IsOwing, IsBetween, IsBookedWithin, carried, weights_of}
-use Rattle.move_core.proofs.Words.{Writes}
-use Rattle.move_core.proofs.TimesLaws.{all_changed, all_at}
-use Rattle.move_core.proofs.ClaimLaws.{claims_kept}
+use Rattle.move_core.specs.Balance.{Sum, Spreads, InBalance, IsSetup, IsStageMove, IsInStep, IsOwing, IsBetween, IsBookedWithin, carried, weights_of}
+use Rattle.move_core.proofs.Words.{WordsAfter}
+use Rattle.move_core.proofs.TimesLaws.{all_at}
 use Rattle.move_core.proofs.LoadLaws.{loads_kept}
 use Rattle.move_core.proofs.NameLaws.{names_kept}
 use Rattle.move_core.proofs.CountLaws.{counts_kept}
 use Rattle.move_core.proofs.NumberLaws.{numbers_kept}
 use Rattle.move_core.proofs.CostLaws.{sum_booked}
-use Rattle.move_core.proofs.RestLaws.{rest_kept}
+use Rattle.move_core.proofs.PrefixLaws.{prefixes_kept, total-numbered_push}
 use Rattle.move_core.proofs.SpreadLaws.{spreads_widened, spreads_narrowed, spread_positive}
-use Rattle.move_core.proofs.StageEvents.{staged}
+use Rattle.move_core.proofs.StageEvents.{staged, stage_to}
 use Rattle.move_core.proofs.NetLaws.{net_at-below}
 use Rattle.hg_defs.proofs.SumLaws.{total-take_more}
 use Rattle.std.proofs.Math.Nat.{mul-le-mul_left}
@@ -67,46 +66,52 @@ price_at-more h e x =
           (omega arith, omega arith)
     ]
 
-module _ (s : Setup) (ok : IsSetup s) (r r' : Readings) (accounts : List Account) (i : ℕ) (l : i < length accounts) (b : InBalance s r accounts) (held : List ℕ) (moves : List Move) (numbers : List ℕ) (seeds : ℕ) (gain : ℤ) where
+module _ (s : Setup) (ok : IsSetup s) (r r' : Readings) (accounts : List Account) (i : ℕ) (l : i < length accounts) (b : InBalance s r accounts)
+    (held : List ℕ) (moves : List Move) (numbers : List ℕ) (seeds : ℕ) (gain : ℤ) where
   abbrev acc : ℤ → Stage → Account
   acc g = staged held moves numbers seeds g
 
-  module _ (v from to number raised lowered : ℕ) (named : Bool) (owed : Owed) (booked : ℤ) (at : get_or accounts i (blank false) ≡ acc gain (Moving v from to number named raised lowered owed booked)) where
+  module _ (v from to number raised lowered : ℕ) (named : Bool) (owed : Owed) (booked : ℤ)
+      (at : get_or accounts i (blank false) ≡ acc gain (Moving v from to number named raised lowered owed booked)) where
     abbrev net : ℕ → ℕ
     net j = slice_index (nets_of s.graph v) j
 
     step : IsInStep s.graph (Moving v from to number named raised lowered owed booked)
-    step = all_at accounts i (acc gain (Moving v from to number named raised lowered owed booked)) (acc gain Idle) l at (λ x. IsInStep s.graph x.stage) b.counts.steps
+    step = all_at accounts i (acc gain (Moving v from to number named raised lowered owed booked)) (acc gain Idle) l at (λ x. IsInStep s.graph x.stage)
+        b.counts.steps
 
     -- what a step on a spread word leaves alone
-    on_spreads : (g : ℤ) (e0 x : ℕ) → Writes s r r' (word.Spread e0) x → Sum s r' (set accounts i (acc (gain +ℤ g) (Moving v from to number named raised lowered Nothing (booked +ℤ g)))) → Spreads s r' (set accounts i (acc (gain +ℤ g) (Moving v from to number named raised lowered Nothing (booked +ℤ g)))) → IsBetween (weights_of s.graph (take raised (nets_of s.graph v))) (weights_of s.graph (take lowered (nets_of s.graph v))) (booked +ℤ g) → InBalance s r' (set accounts i (acc (gain +ℤ g) (Moving v from to number named raised lowered Nothing (booked +ℤ g))))
+    on_spreads : (g : ℤ) (e0 x : ℕ) → WordsAfter s r r' (word.Spread e0) x
+        → Sum s r' (set accounts i (acc (gain +ℤ g) (Moving v from to number named raised lowered Nothing (booked +ℤ g))))
+        → Spreads s r' (set accounts i (acc (gain +ℤ g) (Moving v from to number named raised lowered Nothing (booked +ℤ g))))
+        → IsBetween (weights_of s.graph (take raised (nets_of s.graph v))) (weights_of s.graph (take lowered (nets_of s.graph v))) (booked +ℤ g)
+        → InBalance s r' (set accounts i (acc (gain +ℤ g) (Moving v from to number named raised lowered Nothing (booked +ℤ g))))
     on_spreads g e0 x w sum spreads within =
         let a = acc gain (Moving v from to number named raised lowered owed booked) in
         let a' = acc (gain +ℤ g) (Moving v from to number named raised lowered Nothing (booked +ℤ g)) in
-        record {
-          claims = claims_kept s.graph r r' accounts i a a' l at b.claims refl w.claim;
-          loads = loads_kept s r r' accounts i a a' l at b.loads refl (λ k q. refl) (λ k q. refl) w.load;
-          names = names_kept s r r' accounts b.claims b.moves b.names i a a' l at w.name (λ u. refl) (λ d n. (d, n));
-          counts = counts_kept s r r' accounts i a a' l at b.counts (λ u e c k o. refl) (λ u e k o. refl) w.count step;
-          moves = record {
-            held = all_changed accounts i a a' l at (λ y. (u : ℕ) → times u (carried y) ≤ times u y.held) b.moves.held (all_at accounts i a a' l at (λ y. (u : ℕ) → times u (carried y) ≤ times u y.held) b.moves.held);
-            done = all_changed accounts i a a' l at (λ y. All (λ m. IsMove s m.vertex m.from m.to) y.moves) b.moves.done (all_at accounts i a a' l at (λ y. All (λ m. IsMove s m.vertex m.from m.to) y.moves) b.moves.done);
-            stages = all_changed accounts i a a' l at (λ y. IsStageMove s y.stage) b.moves.stages (all_at accounts i a a' l at (λ y. IsStageMove s y.stage) b.moves.stages);
-          };
-          numbers = numbers_kept r r' accounts i a a' l at b.numbers (λ j. refl) w.next (all_at accounts i a a' l at (λ y. length y.numbers ≡ length y.moves) b.numbers.lengths);
-          gains = all_changed accounts i a a' l at IsGain b.gains (let old = all_at accounts i a a' l at IsGain b.gains in omega (arith, ints));
-          sum = sum;
-          rest = rest_kept r r' accounts i a a' l at b.rest refl refl refl w.cursor;
-          spreads = spreads;
-          bounds = record {
-            done = all_changed accounts i a a' l at (λ y. All (λ m. IsBetween (weights_of s.graph (nets_of s.graph m.vertex)) (weights_of s.graph (nets_of s.graph m.vertex)) m.booked) y.moves) b.bounds.done (all_at accounts i a a' l at (λ y. All (λ m. IsBetween (weights_of s.graph (nets_of s.graph m.vertex)) (weights_of s.graph (nets_of s.graph m.vertex)) m.booked) y.moves) b.bounds.done);
-            stages = all_changed accounts i a a' l at (λ y. IsBookedWithin s.graph y.stage) b.bounds.stages within;
-          };
-        }
+        let m : Move = record { vertex = v; from = from; to = to; worker = 0; booked = booked } in
+        let size = all_at accounts i a a' l at (λ y. length y.numbers ≡ length y.moves) b.numbers.lengths in
+        stage_to s ok r r' accounts i l b held moves numbers seeds gain (Moving v from to number named raised lowered owed booked)
+        (Moving v from to number named raised lowered Nothing (booked +ℤ g)) (gain +ℤ g) at
+        w.claim w.cursor (omega (arith, ints))
+        (all_at accounts i a a' l at (λ y. (u : ℕ) → times u (carried y) ≤ times u y.held) b.moves.held)
+        (all_at accounts i a a' l at (λ y. IsStageMove s y.stage) b.moves.stages) within
+        (loads_kept s r r' accounts i a a' l at b.loads refl (λ k q. refl) (λ k q. refl) w.load)
+        (names_kept s r r' accounts b.claims b.moves b.names i a a' l at w.name (λ u. refl) (λ d n. (d, n)))
+        (counts_kept s r r' accounts i a a' l at b.counts (λ u e c k o. refl) (λ u e k o. refl) w.count step)
+        (numbers_kept r r' accounts i a a' l at b.numbers (λ j. refl) w.next size)
+        sum spreads
+        (prefixes_kept s accounts i a a' l at b.prefixes
+        (λ f j.
+        total-numbered_push (λ (z : Move). f z.vertex z.from z.to) (λ n. nat_lt n j) numbers moves number (record m { booked = booked +ℤ g }) size
+        ∙ sym (total-numbered_push (λ (z : Move). f z.vertex z.from z.to) (λ n. nat_lt n j) numbers moves number m size)))
 
   module _ (v from to number raised lowered : ℕ) (named : Bool) (booked : ℤ) where
     -- Widen
-    pub widen_kept : (at : get_or accounts i (blank false) ≡ acc gain (Moving v from to number named raised lowered Up booked)) → (g : ℤ) → g ≡ widen_gain s.graph (slice_index (nets_of s.graph v) (raised - 1)) (r.spread (slice_index (nets_of s.graph v) (raised - 1))) → Writes s r r' (word.Spread (slice_index (nets_of s.graph v) (raised - 1))) (r.spread (slice_index (nets_of s.graph v) (raised - 1)) + 1) → InBalance s r' (set accounts i (acc (gain +ℤ g) (Moving v from to number named raised lowered Nothing (booked +ℤ g))))
+    pub widen_kept : (at : get_or accounts i (blank false) ≡ acc gain (Moving v from to number named raised lowered Up booked)) → (g : ℤ)
+        → g ≡ widen_gain s.graph (slice_index (nets_of s.graph v) (raised - 1)) (r.spread (slice_index (nets_of s.graph v) (raised - 1)))
+        → WordsAfter s r r' (word.Spread (slice_index (nets_of s.graph v) (raised - 1))) (r.spread (slice_index (nets_of s.graph v) (raised - 1)) + 1)
+        → InBalance s r' (set accounts i (acc (gain +ℤ g) (Moving v from to number named raised lowered Nothing (booked +ℤ g))))
     widen_kept at g is w =
         let a = acc gain (Moving v from to number named raised lowered Up booked) in
         let a' = acc (gain +ℤ g) (Moving v from to number named raised lowered Nothing (booked +ℤ g)) in
@@ -130,7 +135,10 @@ module _ (s : Setup) (ok : IsSetup s) (r r' : Readings) (accounts : List Account
         record { low = omega (arith, ints); high = omega (arith, ints) })
 
     -- Narrow
-    pub narrow_kept : (at : get_or accounts i (blank false) ≡ acc gain (Moving v from to number named raised lowered Down booked)) → (g : ℤ) → g ≡ narrow_gain s.graph (slice_index (nets_of s.graph v) (lowered - 1)) (r.spread (slice_index (nets_of s.graph v) (lowered - 1))) → Writes s r r' (word.Spread (slice_index (nets_of s.graph v) (lowered - 1))) (r.spread (slice_index (nets_of s.graph v) (lowered - 1)) - 1) → InBalance s r' (set accounts i (acc (gain +ℤ g) (Moving v from to number named raised lowered Nothing (booked +ℤ g))))
+    pub narrow_kept : (at : get_or accounts i (blank false) ≡ acc gain (Moving v from to number named raised lowered Down booked)) → (g : ℤ)
+        → g ≡ narrow_gain s.graph (slice_index (nets_of s.graph v) (lowered - 1)) (r.spread (slice_index (nets_of s.graph v) (lowered - 1)))
+        → WordsAfter s r r' (word.Spread (slice_index (nets_of s.graph v) (lowered - 1))) (r.spread (slice_index (nets_of s.graph v) (lowered - 1)) - 1)
+        → InBalance s r' (set accounts i (acc (gain +ℤ g) (Moving v from to number named raised lowered Nothing (booked +ℤ g))))
     narrow_kept at g is w =
         let a = acc gain (Moving v from to number named raised lowered Down booked) in
         let a' = acc (gain +ℤ g) (Moving v from to number named raised lowered Nothing (booked +ℤ g)) in
@@ -142,10 +150,12 @@ module _ (s : Setup) (ok : IsSetup s) (r r' : Readings) (accounts : List Account
         let most = st.2 in
         let place : lowered - 1 < length (nets_of s.graph v) = omega arith in
         let within = all_at accounts i a a' l at (λ x. IsBookedWithin s.graph x.stage) b.bounds.stages in
-        let some = spread_positive s r r' accounts i a a' l at b.spreads e0 (net_at-below s.graph v (lowered - 1) place) b.rest.made (let o = weight_if-same e0 e0 1 refl in omega arith) in
+        let some = spread_positive s r r' accounts i a a' l at b.spreads e0 (net_at-below s.graph v (lowered - 1) place) b.rest.made
+        (let o = weight_if-same e0 e0 1 refl in omega arith) in
         on_spreads v from to number raised lowered named Down booked at g e0 (r.spread e0 - 1) w
         (sum_booked s r r' accounts i a a' l at b.sum e0 (r.spread e0 - 1) (net_at-below s.graph v (lowered - 1) place) (ap (λ z. gain +ℤ z) is) w.spread)
-        (spreads_narrowed s r r' accounts i a a' l at b.spreads e0 (net_at-below s.graph v (lowered - 1) place) b.rest.made (λ e. refl) (λ e. omega arith) w.spread w.count tt)
+        (spreads_narrowed s r r' accounts i a a' l at b.spreads e0 (net_at-below s.graph v (lowered - 1) place) b.rest.made (λ e. refl) (λ e. omega arith)
+        w.spread w.count tt)
         (let p = price_at-more s.graph e0 (r.spread e0 - 1) in
         let more : r.spread e0 - 1 + 1 ≡ r.spread e0 = omega arith in
         let again = ap (price_at s.graph e0) more in

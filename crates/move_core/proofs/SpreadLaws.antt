@@ -42,9 +42,12 @@ module _ (f g : ℕ → ℕ) (k b : ℕ) (l : b < k) (same : (j : ℕ) → j < k
         | inr z ↦ let x = present-positive (f b) (omega arith) in let y = weight_if-other (g b) 1 1 z in omega arith
       ]
 
-module _ (s : Setup) (r r' : Readings) (accounts : List Account) (i : ℕ) (a a' : Account) (l : i < length accounts) (at : get_or accounts i (blank false) ≡ a) (c : Spreads s r accounts) where
+module _ (s : Setup) (r r' : Readings) (accounts : List Account) (i : ℕ) (a a' : Account) (l : i < length accounts) (at : get_or accounts i (blank false) ≡ a)
+    (c : Spreads s r accounts) where
   -- the spreads, the counts and what is owed stay
-  pub spreads_kept : ((e : ℕ) → owed_up s.graph e a'.stage ≡ owed_up s.graph e a.stage) → ((e : ℕ) → owed_down s.graph e a'.stage ≡ owed_down s.graph e a.stage) → ((e : ℕ) → e < net_count s.graph → r'.spread e ≡ r.spread e) → ((e b : ℕ) → e < net_count s.graph → b < s.blocks → r'.count e b ≡ r.count e b) → IsOwing a'.stage → Spreads s r' (set accounts i a')
+  pub spreads_kept : ((e : ℕ) → owed_up s.graph e a'.stage ≡ owed_up s.graph e a.stage)
+      → ((e : ℕ) → owed_down s.graph e a'.stage ≡ owed_down s.graph e a.stage) → ((e : ℕ) → e < net_count s.graph → r'.spread e ≡ r.spread e)
+      → ((e b : ℕ) → e < net_count s.graph → b < s.blocks → r'.count e b ≡ r.count e b) → IsOwing a'.stage → Spreads s r' (set accounts i a')
   spreads_kept up down spread count own = record {
     word = λ e le.
         let w = c.word e le in
@@ -57,7 +60,11 @@ module _ (s : Setup) (r r' : Readings) (accounts : List Account) (i : ℕ) (a a'
   }
 
   -- Raise: where it found 0, a block more is owed
-  pub spreads_raised : (e0 to : ℕ) → e0 < net_count s.graph → to < s.blocks → ((e : ℕ) → owed_up s.graph e a'.stage ≡ owed_up s.graph e a.stage + weight_if e0 e (weight_if (r.count e0 to) 0 1)) → ((e : ℕ) → owed_down s.graph e a'.stage ≡ owed_down s.graph e a.stage) → ((e : ℕ) → e < net_count s.graph → r'.spread e ≡ r.spread e) → ((e b : ℕ) → e < net_count s.graph → b < s.blocks → r'.count e b ≡ (if nat_eq e0 e && nat_eq to b then r.count e0 to + 1 else r.count e b)) → IsOwing a'.stage → Spreads s r' (set accounts i a')
+  pub spreads_raised : (e0 to : ℕ) → e0 < net_count s.graph → to < s.blocks
+      → ((e : ℕ) → owed_up s.graph e a'.stage ≡ owed_up s.graph e a.stage + weight_if e0 e (weight_if (r.count e0 to) 0 1))
+      → ((e : ℕ) → owed_down s.graph e a'.stage ≡ owed_down s.graph e a.stage) → ((e : ℕ) → e < net_count s.graph → r'.spread e ≡ r.spread e)
+      → ((e b : ℕ) → e < net_count s.graph → b < s.blocks → r'.count e b ≡ (if nat_eq e0 e && nat_eq to b then r.count e0 to + 1 else r.count e b))
+      → IsOwing a'.stage → Spreads s r' (set accounts i a')
   spreads_raised e0 to l0 lt up down spread count own = record {
     word = λ e le.
         let w = c.word e le in
@@ -88,7 +95,11 @@ module _ (s : Setup) (r r' : Readings) (accounts : List Account) (i : ℕ) (a a'
   }
 
   -- Lower: where it found 1, a block less is owed
-  pub spreads_lowered : (e0 from : ℕ) → e0 < net_count s.graph → from < s.blocks → 1 ≤ r.count e0 from → ((e : ℕ) → owed_up s.graph e a'.stage ≡ owed_up s.graph e a.stage) → ((e : ℕ) → owed_down s.graph e a'.stage ≡ owed_down s.graph e a.stage + weight_if e0 e (weight_if (r.count e0 from) 1 1)) → ((e : ℕ) → e < net_count s.graph → r'.spread e ≡ r.spread e) → ((e b : ℕ) → e < net_count s.graph → b < s.blocks → r'.count e b ≡ (if nat_eq e0 e && nat_eq from b then r.count e0 from - 1 else r.count e b)) → IsOwing a'.stage → Spreads s r' (set accounts i a')
+  pub spreads_lowered : (e0 from : ℕ) → e0 < net_count s.graph → from < s.blocks → 1 ≤ r.count e0 from
+      → ((e : ℕ) → owed_up s.graph e a'.stage ≡ owed_up s.graph e a.stage)
+      → ((e : ℕ) → owed_down s.graph e a'.stage ≡ owed_down s.graph e a.stage + weight_if e0 e (weight_if (r.count e0 from) 1 1))
+      → ((e : ℕ) → e < net_count s.graph → r'.spread e ≡ r.spread e) → ((e b : ℕ) → e < net_count s.graph → b < s.blocks
+      → r'.count e b ≡ (if nat_eq e0 e && nat_eq from b then r.count e0 from - 1 else r.count e b)) → IsOwing a'.stage → Spreads s r' (set accounts i a')
   spreads_lowered e0 from l0 lf some up down spread count own = record {
     word = λ e le.
         let w = c.word e le in
@@ -112,14 +123,18 @@ module _ (s : Setup) (r r' : Readings) (accounts : List Account) (i : ℕ) (a a'
           | inr x ↦
               let y = weight_if-other e0 e (weight_if (r.count e0 from) 1 1) x in
               let p = sum_below-same (λ b. present (r'.count e b)) (λ b. present (r.count e b)) s.blocks
-              (λ b lb. ap present (elim (pick_two e0 e from b (r.count e0 from - 1) (r.count e b)) [ inl t ↦ absurd (x t.0) | inr t ↦ count e b le lb ∙ t.1 ])) in
+              (λ b lb. ap present (elim (pick_two e0 e from b (r.count e0 from - 1) (r.count e b)) [ inl t ↦ absurd (x t.0) | inr t ↦ count e b le lb ∙ t.1 ]))
+              in
               omega arith
         ];
     owed = all_changed accounts i a a' l at (λ x. IsOwing x.stage) c.owed own;
   }
 
   -- Widen: what was owed is booked
-  pub spreads_widened : (e0 : ℕ) → ((e : ℕ) → owed_up s.graph e a'.stage + weight_if e0 e 1 ≡ owed_up s.graph e a.stage) → ((e : ℕ) → owed_down s.graph e a'.stage ≡ owed_down s.graph e a.stage) → ((e : ℕ) → e < net_count s.graph → r'.spread e ≡ (if nat_eq e0 e then r.spread e0 + 1 else r.spread e)) → ((e b : ℕ) → e < net_count s.graph → b < s.blocks → r'.count e b ≡ r.count e b) → IsOwing a'.stage → Spreads s r' (set accounts i a')
+  pub spreads_widened : (e0 : ℕ) → ((e : ℕ) → owed_up s.graph e a'.stage + weight_if e0 e 1 ≡ owed_up s.graph e a.stage)
+      → ((e : ℕ) → owed_down s.graph e a'.stage ≡ owed_down s.graph e a.stage)
+      → ((e : ℕ) → e < net_count s.graph → r'.spread e ≡ (if nat_eq e0 e then r.spread e0 + 1 else r.spread e))
+      → ((e b : ℕ) → e < net_count s.graph → b < s.blocks → r'.count e b ≡ r.count e b) → IsOwing a'.stage → Spreads s r' (set accounts i a')
   spreads_widened e0 up down spread count own = record {
     word = λ e le.
         let w = c.word e le in
@@ -144,7 +159,10 @@ module _ (s : Setup) (r r' : Readings) (accounts : List Account) (i : ℕ) (a a'
       let n = total-ones accounts in
       omega arith
 
-  pub spreads_narrowed : (e0 : ℕ) → e0 < net_count s.graph → length accounts ≤ 64 → ((e : ℕ) → owed_up s.graph e a'.stage ≡ owed_up s.graph e a.stage) → ((e : ℕ) → owed_down s.graph e a'.stage + weight_if e0 e 1 ≡ owed_down s.graph e a.stage) → ((e : ℕ) → e < net_count s.graph → r'.spread e ≡ (if nat_eq e0 e then r.spread e0 - 1 else r.spread e)) → ((e b : ℕ) → e < net_count s.graph → b < s.blocks → r'.count e b ≡ r.count e b) → IsOwing a'.stage → Spreads s r' (set accounts i a')
+  pub spreads_narrowed : (e0 : ℕ) → e0 < net_count s.graph → length accounts ≤ 64 → ((e : ℕ) → owed_up s.graph e a'.stage ≡ owed_up s.graph e a.stage)
+      → ((e : ℕ) → owed_down s.graph e a'.stage + weight_if e0 e 1 ≡ owed_down s.graph e a.stage)
+      → ((e : ℕ) → e < net_count s.graph → r'.spread e ≡ (if nat_eq e0 e then r.spread e0 - 1 else r.spread e))
+      → ((e b : ℕ) → e < net_count s.graph → b < s.blocks → r'.count e b ≡ r.count e b) → IsOwing a'.stage → Spreads s r' (set accounts i a')
   spreads_narrowed e0 l0 made up down spread count own = record {
     word = λ e le.
         let w = c.word e le in

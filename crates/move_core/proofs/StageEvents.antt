@@ -1,10 +1,10 @@
 -- The books stay in balance over Reserve, TakeBack, Draw and Name.
-use Rattle.std.proofs.Common.{◌≡◌, ℕ, ◌+◌, ◌-◌, ◌<◌, ◌≤◌, ◌≢◌, inl, inr, Bool, true, false, List, [], ◌∷◌, ◌++◌, map, length, get_or, take, set, nat_eq, if◌then◌else◌, All, ℤ, pos, ◌+ℤ◌, refl, sym, ap, ◌∙◌, subst, arith}
+use Rattle.std.proofs.Common.{◌≡◌, ℕ, ◌+◌, ◌-◌, ◌<◌, ◌≤◌, ◌≢◌, inl, inr, Bool, true, false, List, [], ◌∷◌, ◌++◌, map, length, get_or, take, set, nat_eq, if◌then◌else◌, All, ℤ, pos, ◌+ℤ◌, refl, sym, ap, ◌∙◌, subst, arith, nat_lt}
 use Rattle.std.proofs.lemmas.Int.{ints}
 use Rattle.std.proofs.lemmas.Bool.{true≢false, cases_eq}
 use Rattle.hg_defs.specs.declared.moves.Move.{Move}
-use Rattle.hg_defs.specs.Sums.{total, total_z}
-use Rattle.hg_defs.specs.Hypergraph.{Hyper, weight_of}
+use Rattle.hg_defs.specs.Sums.{total}
+use Rattle.hg_defs.specs.Hypergraph.{Hyper, vertex_count, weight_of}
 use Rattle.hg_defs.specs.Partition.{block_of}
 use Rattle.hg_defs.proofs.SumLaws.{weight_if, weight_if-same, weight_if-other, total-append}
 use Rattle.move_core.specs.declared.account.Account.{Account}
@@ -15,10 +15,10 @@ use Rattle.move_core.specs.declared.account.Stage.TheVariants.{Idle, Refused, Gr
 use Rattle.move_core.specs.declared.events.Word.TheVariants as word
 use Rattle.hg_defs.specs.Incidence.{nets_of}
 use Rattle.move_core.specs.State.{Setup, Readings, times, blank}
-use Rattle.move_core.specs.Stages.{number_at}
-use Rattle.move_core.specs.Balance.{Loads, Names, Counts, Moves, Spreads, Bounds, InBalance, IsSetup, IsGain, IsMove, IsStageMove, IsInStep, IsOwing, IsBetween, IsBookedWithin, carried, stage_vertices, weights_of}
+use Rattle.move_core.specs.Stages.{number_at, move_at}
+use Rattle.move_core.specs.Balance.{Loads, Names, Counts, Numbers, Sum, Spreads, Prefixes, InBalance, IsSetup, IsGain, IsMoveFromOpening, IsStageMove, IsInStep, IsOwing, IsBetween, IsBookedWithin, numbered_by, carried, stage_vertices, owed_up, owed_down, weights_of}
 use Rattle.move_core.specs.Stages.{booked_at}
-use Rattle.move_core.proofs.Words.{Writes}
+use Rattle.move_core.proofs.Words.{WordsAfter}
 use Rattle.move_core.proofs.TimesLaws.{all_changed, all_at}
 use Rattle.move_core.proofs.ClaimLaws.{claims_kept}
 use Rattle.move_core.proofs.LoadLaws.{loads_kept, loads_added, loads_taken, load_reserved}
@@ -27,6 +27,8 @@ use Rattle.move_core.proofs.CountLaws.{counts_kept}
 use Rattle.move_core.proofs.NumberLaws.{numbers_kept, numbers_drawn}
 use Rattle.move_core.proofs.CostLaws.{sum_kept}
 use Rattle.move_core.proofs.RestLaws.{rest_kept}
+use Rattle.move_core.proofs.WorkerLaws.{workers_kept}
+use Rattle.move_core.proofs.PrefixLaws.{prefixes_kept, prefixes_drawn}
 use Rattle.move_core.proofs.SpreadLaws.{spreads_kept}
 use Rattle.move_core.proofs.KeptLaws.{stage_carried}
 
@@ -59,7 +61,8 @@ nothing_lowered h v u e = by (nat_eq v u)
     by false = refl
 
 -- a vertex that is held and not moved may be carried
-pub carries_one : (held done : List ℕ) (v : ℕ) → ((u : ℕ) → times u (done ++ []) ≤ times u held) → 0 < times v held → times v done ≡ 0 → (u : ℕ) → times u (done ++ v ∷ []) ≤ times u held
+pub carries_one : (held done : List ℕ) (v : ℕ) → ((u : ℕ) → times u (done ++ []) ≤ times u held) → 0 < times v held → times v done ≡ 0 → (u : ℕ)
+    → times u (done ++ v ∷ []) ≤ times u held
 carries_one held done v h p z u =
     let e = total-append (λ x. weight_if x u 1) done (v ∷ []) in
     let f = total-append (λ x. weight_if x u 1) done [] in
@@ -80,55 +83,85 @@ carries_none held done v h u =
     let g = h u in
     omega arith
 
-module _ (s : Setup) (ok : IsSetup s) (r r' : Readings) (accounts : List Account) (i : ℕ) (l : i < length accounts) (b : InBalance s r accounts) (held : List ℕ) (moves : List Move) (numbers : List ℕ) (seeds : ℕ) (gain : ℤ) where
+module _ (s : Setup) (ok : IsSetup s) (r r' : Readings) (accounts : List Account) (i : ℕ) (l : i < length accounts) (b : InBalance s r accounts)
+    (held : List ℕ) (moves : List Move) (numbers : List ℕ) (seeds : ℕ) (gain : ℤ) where
   abbrev acc : Stage → Account
   acc = staged held moves numbers seeds gain
 
   -- what the account says of moves before
-  pub moves_at : (stage : Stage) → get_or accounts i (blank false) ≡ acc stage → (u : ℕ) → times u (map (λ (m : Move). m.vertex) moves ++ stage_vertices stage) ≤ times u held
+  pub moves_at : (stage : Stage) → get_or accounts i (blank false) ≡ acc stage → (u : ℕ)
+      → times u (map (λ (m : Move). m.vertex) moves ++ stage_vertices stage) ≤ times u held
   moves_at stage at = all_at accounts i (acc stage) (acc stage) l at (λ x. (u : ℕ) → times u (carried x) ≤ times u x.held) b.moves.held
-
-  pub moves_to : (stage stage' : Stage) → get_or accounts i (blank false) ≡ acc stage → ((u : ℕ) → times u (map (λ (m : Move). m.vertex) moves ++ stage_vertices stage') ≤ times u held) → IsStageMove s stage' → Moves s (set accounts i (acc stage'))
-  moves_to stage stage' at h q = record {
-    held = all_changed accounts i (acc stage) (acc stage') l at (λ x. (u : ℕ) → times u (carried x) ≤ times u x.held) b.moves.held h;
-    done = all_changed accounts i (acc stage) (acc stage') l at (λ x. All (λ m. IsMove s m.vertex m.from m.to) x.moves) b.moves.done
-        (all_at accounts i (acc stage) (acc stage) l at (λ x. All (λ m. IsMove s m.vertex m.from m.to) x.moves) b.moves.done);
-    stages = all_changed accounts i (acc stage) (acc stage') l at (λ x. IsStageMove s x.stage) b.moves.stages q;
-  }
 
   pub lengths_at : (stage : Stage) → get_or accounts i (blank false) ≡ acc stage → length numbers ≡ length moves
   lengths_at stage at = all_at accounts i (acc stage) (acc stage) l at (λ x. length x.numbers ≡ length x.moves) b.numbers.lengths
 
-  pub gains_to : (stage stage' : Stage) → get_or accounts i (blank false) ≡ acc stage → booked_at stage' ≡ booked_at stage → All IsGain (set accounts i (acc stage'))
-  gains_to stage stage' at e =
-      all_changed accounts i (acc stage) (acc stage') l at IsGain b.gains
-      (all_at accounts i (acc stage) (acc stage) l at IsGain b.gains ∙ ap (λ z. total_z (λ (m : Move). m.booked) moves +ℤ z) (sym e))
+  abbrev done : List ℕ
+  done = map (λ (m : Move). m.vertex) moves
 
-  pub bounds_to : (stage stage' : Stage) → get_or accounts i (blank false) ≡ acc stage → IsBookedWithin s.graph stage' → Bounds s.graph (set accounts i (acc stage'))
-  bounds_to stage stage' at q = record {
-    done = all_changed accounts i (acc stage) (acc stage') l at (λ x. All (λ m. IsBetween (weights_of s.graph (nets_of s.graph m.vertex)) (weights_of s.graph (nets_of s.graph m.vertex)) m.booked) x.moves) b.bounds.done
-        (all_at accounts i (acc stage) (acc stage) l at (λ x. All (λ m. IsBetween (weights_of s.graph (nets_of s.graph m.vertex)) (weights_of s.graph (nets_of s.graph m.vertex)) m.booked) x.moves) b.bounds.done);
-    stages = all_changed accounts i (acc stage) (acc stage') l at (λ x. IsBookedWithin s.graph x.stage) b.bounds.stages q;
-  }
+  -- what a clause on stages alone says here
+  pub here : (P : Stage → Type 0) (stage : Stage) → get_or accounts i (blank false) ≡ acc stage → All (λ a. P a.stage) accounts → P stage
+  here P stage at h = all_at accounts i (acc stage) (acc stage) l at (λ a. P a.stage) h
+
+  -- a stage takes the place of another, and what is booked on it is gained
+  pub stage_to : (stage stage' : Stage) (gain' : ℤ) (at : get_or accounts i (blank false) ≡ acc stage)
+      → ((v : ℕ) → v < vertex_count s.graph → r'.claim v ≡ r.claim v) → r'.cursor ≡ r.cursor → gain' +ℤ booked_at stage ≡ gain +ℤ booked_at stage'
+      → ((u : ℕ) → times u (done ++ stage_vertices stage') ≤ times u held) → IsStageMove s stage' → IsBookedWithin s.graph stage'
+      → Loads s r' (set accounts i (record (acc stage') { gain = gain' })) → Names s r' (set accounts i (record (acc stage') { gain = gain' }))
+      → Counts s r' (set accounts i (record (acc stage') { gain = gain' })) → Numbers r' (set accounts i (record (acc stage') { gain = gain' }))
+      → Sum s r' (set accounts i (record (acc stage') { gain = gain' })) → Spreads s r' (set accounts i (record (acc stage') { gain = gain' }))
+      → Prefixes s (set accounts i (record (acc stage') { gain = gain' }))
+      → InBalance s r' (set accounts i (record (acc stage') { gain = gain' }))
+  stage_to stage stage' gain' at claim cursor booked carries move within loads names counts numbers' sum spreads prefixes =
+      let a' : Account = record (acc stage') { gain = gain' } in
+      record {
+        claims = claims_kept s.graph r r' accounts i (acc stage) a' l at b.claims refl claim;
+        loads = loads;
+        names = names;
+        counts = counts;
+        moves = record {
+          held = all_changed accounts i (acc stage) a' l at (λ x. (u : ℕ) → times u (carried x) ≤ times u x.held) b.moves.held carries;
+          done = all_changed accounts i (acc stage) a' l at (λ x. All (λ m. IsMoveFromOpening s m.vertex m.from m.to) x.moves) b.moves.done
+              (all_at accounts i (acc stage) a' l at (λ x. All (λ m. IsMoveFromOpening s m.vertex m.from m.to) x.moves) b.moves.done);
+          stages = all_changed accounts i (acc stage) a' l at (λ x. IsStageMove s x.stage) b.moves.stages move;
+        };
+        numbers = numbers';
+        gains = all_changed accounts i (acc stage) a' l at IsGain b.gains (let e = all_at accounts i (acc stage) a' l at IsGain b.gains in omega (arith, ints));
+        sum = sum;
+        rest = rest_kept r r' accounts i (acc stage) a' l at b.rest refl refl refl cursor;
+        spreads = spreads;
+        bounds = record {
+          done = all_changed accounts i (acc stage) a' l at (λ x. All (λ m.
+              IsBetween (weights_of s.graph (nets_of s.graph m.vertex)) (weights_of s.graph (nets_of s.graph m.vertex)) m.booked) x.moves) b.bounds.done
+              (all_at accounts i (acc stage) a' l at (λ x. All (λ m. IsBetween (weights_of s.graph (nets_of s.graph m.vertex))
+              (weights_of s.graph (nets_of s.graph m.vertex)) m.booked) x.moves) b.bounds.done);
+          stages = all_changed accounts i (acc stage) a' l at (λ x. IsBookedWithin s.graph x.stage) b.bounds.stages within;
+        };
+        workers = workers_kept accounts i (acc stage) a' l at b.workers refl refl;
+        prefixes = prefixes;
+      }
 
   -- a stage before a move takes the place of another, and one load changes
-  before_move : (stage stage' : Stage) (at : get_or accounts i (blank false) ≡ acc stage) (to x : ℕ) → Writes s r r' (word.Load to) x → Loads s r' (set accounts i (acc stage')) → Names s r' (set accounts i (acc stage')) → Counts s r' (set accounts i (acc stage')) → Spreads s r' (set accounts i (acc stage')) → Moves s (set accounts i (acc stage')) → number_at stage' ≡ number_at stage → booked_at stage' ≡ booked_at stage → IsBookedWithin s.graph stage' → InBalance s r' (set accounts i (acc stage'))
-  before_move stage stage' at to x w loads names counts spreads moves n g q = record {
-    claims = claims_kept s.graph r r' accounts i (acc stage) (acc stage') l at b.claims refl w.claim;
-    loads = loads;
-    names = names;
-    counts = counts;
-    moves = moves;
-    numbers = numbers_kept r r' accounts i (acc stage) (acc stage') l at b.numbers (λ j. ap (λ z. times j (numbers ++ z)) n) w.next (lengths_at stage at);
-    gains = gains_to stage stage' at g;
-    sum = sum_kept s r r' accounts i (acc stage) (acc stage') l at b.sum refl w.spread;
-    rest = rest_kept r r' accounts i (acc stage) (acc stage') l at b.rest refl refl refl w.cursor;
-    spreads = spreads;
-    bounds = bounds_to stage stage' at q;
-  }
+  before_move : (stage stage' : Stage) (at : get_or accounts i (blank false) ≡ acc stage) (to x : ℕ) → WordsAfter s r r' (word.Load to) x
+      → Loads s r' (set accounts i (acc stage')) → Names s r' (set accounts i (acc stage')) → Counts s r' (set accounts i (acc stage'))
+      → Spreads s r' (set accounts i (acc stage')) → ((u : ℕ) → times u (done ++ stage_vertices stage') ≤ times u held) → IsStageMove s stage'
+      → number_at stage' ≡ number_at stage → move_at 0 stage' ≡ move_at 0 stage → booked_at stage' ≡ booked_at stage → IsBookedWithin s.graph stage'
+      → InBalance s r' (set accounts i (acc stage'))
+  before_move stage stage' at to x w loads names counts spreads carries move n e g q =
+      stage_to stage stage' gain at w.claim w.cursor (ap (λ z. gain +ℤ z) (sym g)) carries move q loads names counts
+      (numbers_kept r r' accounts i (acc stage) (acc stage') l at b.numbers (λ j. ap (λ z. times j (numbers ++ z)) n) w.next (lengths_at stage at))
+      (sum_kept s r r' accounts i (acc stage) (acc stage') l at b.sum refl w.spread)
+      spreads
+      (prefixes_kept s accounts i (acc stage) (acc stage') l at b.prefixes
+      (λ f j.
+      ap (λ z. total (λ (m : Move). f m.vertex m.from m.to) (numbered_by (λ y. nat_lt y j) (numbers ++ z) (moves ++ move_at 0 stage'))) n
+      ∙ ap (λ z. total (λ (m : Move). f m.vertex m.from m.to) (numbered_by (λ y. nat_lt y j) (numbers ++ number_at stage) (moves ++ z))) e))
 
   -- Reserve that is granted
-  pub reserve_granted : get_or accounts i (blank false) ≡ acc Idle → (v to : ℕ) → 0 < times v held → times v (map (λ (m : Move). m.vertex) moves) ≡ 0 → to < s.blocks → to ≢ block_of s.opening v → r.load to + weight_of s.graph v ≤ s.limit → Writes s r r' (word.Load to) (r.load to + weight_of s.graph v) → InBalance s r' (set accounts i (acc (Granted v (block_of s.opening v) to (r.load to))))
+  pub reserve_granted : get_or accounts i (blank false) ≡ acc Idle → (v to : ℕ) → 0 < times v held → times v (map (λ (m : Move). m.vertex) moves) ≡ 0
+      → to < s.blocks → to ≢ block_of s.opening v → r.load to + weight_of s.graph v ≤ s.limit
+      → WordsAfter s r r' (word.Load to) (r.load to + weight_of s.graph v)
+      → InBalance s r' (set accounts i (acc (Granted v (block_of s.opening v) to (r.load to))))
   reserve_granted at v to p z lt q room w =
       let stage' = Granted v (block_of s.opening v) to (r.load to) in
       before_move Idle stage' at to (r.load to + weight_of s.graph v) w
@@ -136,11 +169,13 @@ module _ (s : Setup) (ok : IsSetup s) (r r' : Readings) (accounts : List Account
       (names_kept s r r' accounts b.claims b.moves b.names i (acc Idle) (acc stage') l at w.name (λ u. refl) (λ d n. (d, tt)))
       (counts_kept s r r' accounts i (acc Idle) (acc stage') l at b.counts (λ u e c k o. refl) (λ u e k o. refl) w.count tt)
       (spreads_kept s r r' accounts i (acc Idle) (acc stage') l at b.spreads (λ e. refl) (λ e. refl) w.spread w.count tt)
-      (moves_to Idle stage' at (carries_one held (map (λ (m : Move). m.vertex) moves) v (moves_at Idle at) p z) (record { block = lt; other = q; origin = refl }))
-      refl refl tt
+      (carries_one held done v (moves_at Idle at) p z) (record { block = lt; other = q; origin = refl })
+      refl refl refl tt
 
   -- Reserve that is refused
-  pub reserve_refused : get_or accounts i (blank false) ≡ acc Idle → (v to : ℕ) → 0 < times v held → times v (map (λ (m : Move). m.vertex) moves) ≡ 0 → to < s.blocks → to ≢ block_of s.opening v → Writes s r r' (word.Load to) (r.load to + weight_of s.graph v) → InBalance s r' (set accounts i (acc (Refused v to (r.load to))))
+  pub reserve_refused : get_or accounts i (blank false) ≡ acc Idle → (v to : ℕ) → 0 < times v held → times v (map (λ (m : Move). m.vertex) moves) ≡ 0
+      → to < s.blocks → to ≢ block_of s.opening v → WordsAfter s r r' (word.Load to) (r.load to + weight_of s.graph v)
+      → InBalance s r' (set accounts i (acc (Refused v to (r.load to))))
   reserve_refused at v to p z lt q w =
       let stage' = Refused v to (r.load to) in
       before_move Idle stage' at to (r.load to + weight_of s.graph v) w
@@ -148,95 +183,114 @@ module _ (s : Setup) (ok : IsSetup s) (r r' : Readings) (accounts : List Account
       (names_kept s r r' accounts b.claims b.moves b.names i (acc Idle) (acc stage') l at w.name (λ u. refl) (λ d n. (d, tt)))
       (counts_kept s r r' accounts i (acc Idle) (acc stage') l at b.counts (λ u e c k o. refl) (λ u e k o. refl) w.count tt)
       (spreads_kept s r r' accounts i (acc Idle) (acc stage') l at b.spreads (λ e. refl) (λ e. refl) w.spread w.count tt)
-      (moves_to Idle stage' at (carries_one held (map (λ (m : Move). m.vertex) moves) v (moves_at Idle at) p z) (record { block = lt; other = q; origin = refl }))
-      refl refl tt
+      (carries_one held done v (moves_at Idle at) p z) (record { block = lt; other = q; origin = refl })
+      refl refl refl tt
 
   -- TakeBack of a refused weight
-  pub take_back_refused : (v to seen : ℕ) → get_or accounts i (blank false) ≡ acc (Refused v to seen) → Writes s r r' (word.Load to) (r.load to - weight_of s.graph v) → InBalance s r' (set accounts i (acc Idle))
+  pub take_back_refused : (v to seen : ℕ) → get_or accounts i (blank false) ≡ acc (Refused v to seen)
+      → WordsAfter s r r' (word.Load to) (r.load to - weight_of s.graph v) → InBalance s r' (set accounts i (acc Idle))
   take_back_refused v to seen at w =
       let stage = Refused v to seen in
       let move = all_at accounts i (acc stage) (acc stage) l at (λ x. IsStageMove s x.stage) b.moves.stages in
       let room = load_reserved s r accounts b.claims b.moves b.loads (let e = ok.opening.vertices in omega arith) i (acc stage) l at to move.block in
       let one = weight_if-same to to (weight_of s.graph v) refl in
       before_move stage Idle at to (r.load to - weight_of s.graph v) w
-      (loads_taken s r r' accounts i (acc stage) (acc Idle) l at b.loads to (weight_of s.graph v) (omega arith) refl (λ c k. omega arith) w.load (λ c k. omega arith))
+      (loads_taken s r r' accounts i (acc stage) (acc Idle) l at b.loads to (weight_of s.graph v) (omega arith) refl (λ c k. omega arith) w.load
+      (λ c k. omega arith))
       (names_kept s r r' accounts b.claims b.moves b.names i (acc stage) (acc Idle) l at w.name (λ u. refl) (λ d n. (d, tt)))
       (counts_kept s r r' accounts i (acc stage) (acc Idle) l at b.counts (λ u e c k o. refl) (λ u e k o. refl) w.count tt)
       (spreads_kept s r r' accounts i (acc stage) (acc Idle) l at b.spreads (λ e. refl) (λ e. refl) w.spread w.count tt)
-      (moves_to stage Idle at (carries_none held (map (λ (m : Move). m.vertex) moves) v (moves_at stage at)) tt)
-      refl refl tt
+      (carries_none held done v (moves_at stage at)) tt
+      refl refl refl tt
 
   -- TakeBack of a granted weight
-  pub take_back_granted : (v from to seen : ℕ) → get_or accounts i (blank false) ≡ acc (Granted v from to seen) → Writes s r r' (word.Load to) (r.load to - weight_of s.graph v) → InBalance s r' (set accounts i (acc Idle))
+  pub take_back_granted : (v from to seen : ℕ) → get_or accounts i (blank false) ≡ acc (Granted v from to seen)
+      → WordsAfter s r r' (word.Load to) (r.load to - weight_of s.graph v) → InBalance s r' (set accounts i (acc Idle))
   take_back_granted v from to seen at w =
       let stage = Granted v from to seen in
       let move = all_at accounts i (acc stage) (acc stage) l at (λ x. IsStageMove s x.stage) b.moves.stages in
       let room = load_reserved s r accounts b.claims b.moves b.loads (let e = ok.opening.vertices in omega arith) i (acc stage) l at to move.block in
       let one = weight_if-same to to (weight_of s.graph v) refl in
       before_move stage Idle at to (r.load to - weight_of s.graph v) w
-      (loads_taken s r r' accounts i (acc stage) (acc Idle) l at b.loads to (weight_of s.graph v) (omega arith) refl (λ c k. omega arith) w.load (λ c k. omega arith))
+      (loads_taken s r r' accounts i (acc stage) (acc Idle) l at b.loads to (weight_of s.graph v) (omega arith) refl (λ c k. omega arith) w.load
+      (λ c k. omega arith))
       (names_kept s r r' accounts b.claims b.moves b.names i (acc stage) (acc Idle) l at w.name (λ u. refl) (λ d n. (d, tt)))
       (counts_kept s r r' accounts i (acc stage) (acc Idle) l at b.counts (λ u e c k o. refl) (λ u e k o. refl) w.count tt)
       (spreads_kept s r r' accounts i (acc stage) (acc Idle) l at b.spreads (λ e. refl) (λ e. refl) w.spread w.count tt)
-      (moves_to stage Idle at (carries_none held (map (λ (m : Move). m.vertex) moves) v (moves_at stage at)) tt)
-      refl refl tt
+      (carries_none held done v (moves_at stage at)) tt
+      refl refl refl tt
 
   -- Draw
-  pub draw_kept : (v from to seen : ℕ) → get_or accounts i (blank false) ≡ acc (Granted v from to seen) → Writes s r r' word.Next (r.next + 1) → InBalance s r' (set accounts i (acc (Moving v from to r.next false 0 0 Nothing (pos 0))))
+  pub draw_kept : (v from to seen : ℕ) → get_or accounts i (blank false) ≡ acc (Granted v from to seen) → WordsAfter s r r' word.Next (r.next + 1)
+      → InBalance s r' (set accounts i (acc (Moving v from to r.next false 0 0 Nothing (pos 0))))
   draw_kept v from to seen at w =
       let stage = Granted v from to seen in
       let stage' = Moving v from to r.next false 0 0 Nothing (pos 0) in
-      record {
-        claims = claims_kept s.graph r r' accounts i (acc stage) (acc stage') l at b.claims refl w.claim;
-        loads = loads_kept s r r' accounts i (acc stage) (acc stage') l at b.loads refl (λ c k. refl) (λ c k. refl) w.load;
-        names = names_kept s r r' accounts b.claims b.moves b.names i (acc stage) (acc stage') l at w.name (λ u. refl) (λ d n. (d, λ q. absurd (true≢false (sym q))));
-        counts = counts_kept s r r' accounts i (acc stage) (acc stage') l at b.counts
-            (λ u e c k o. ap (λ z. total (λ (m : Move). if nat_eq m.vertex u then (if nat_eq m.to c then 1 else 0) else 0) moves + z) (nothing_raised s.graph v u e to c))
-            (λ u e k o. ap (λ z. times u (map (λ (m : Move). m.vertex) moves) + z) (nothing_lowered s.graph v u e))
-            w.count
-            (omega arith, omega arith, omega arith, λ q. refl);
-        moves = moves_to stage stage' at (moves_at stage at) (all_at accounts i (acc stage) (acc stage) l at (λ x. IsStageMove s x.stage) b.moves.stages);
-        numbers = numbers_drawn r r' accounts i (acc stage) (acc stage') l at b.numbers
-            (λ j.
-            let e = total-append (λ x. weight_if x j 1) numbers (r.next ∷ []) in
-            let f = total-append (λ x. weight_if x j 1) numbers [] in
-            omega arith)
-            w.next
-            (lengths_at stage at);
-        gains = gains_to stage stage' at refl;
-        sum = sum_kept s r r' accounts i (acc stage) (acc stage') l at b.sum refl w.spread;
-        rest = rest_kept r r' accounts i (acc stage) (acc stage') l at b.rest refl refl refl w.cursor;
-        spreads = spreads_kept s r r' accounts i (acc stage) (acc stage') l at b.spreads (λ e. refl) (λ e. refl) w.spread w.count tt;
-        bounds = bounds_to stage stage' at (record { low = omega (arith, ints); high = omega (arith, ints) });
-      }
+      let loads = loads_kept s r r' accounts i (acc stage) (acc stage') l at b.loads refl (λ c k. refl) (λ c k. refl) w.load in
+      let drawn = numbers_drawn r r' accounts i (acc stage) (acc stage') l at b.numbers
+      (λ j.
+      let e = total-append (λ x. weight_if x j 1) numbers (r.next ∷ []) in
+      let f = total-append (λ x. weight_if x j 1) numbers [] in
+      omega arith)
+      w.next
+      (lengths_at stage at) in
+      stage_to stage stage' gain at w.claim w.cursor refl (moves_at stage at) (here (IsStageMove s) stage at b.moves.stages)
+      (record { low = omega (arith, ints); high = omega (arith, ints) }) loads
+      (names_kept s r r' accounts b.claims b.moves b.names i (acc stage) (acc stage') l at w.name (λ u. refl) (λ d n. (d, λ q. absurd (true≢false (sym q)))))
+      (counts_kept s r r' accounts i (acc stage) (acc stage') l at b.counts
+      (λ u e c k o. ap (λ z. total (λ (m : Move). if nat_eq m.vertex u then (if nat_eq m.to c then 1 else 0) else 0) moves + z)
+      (nothing_raised s.graph v u e to c))
+      (λ u e k o. ap (λ z. times u done + z) (nothing_lowered s.graph v u e))
+      w.count (omega arith, omega arith, omega arith, λ q. refl))
+      drawn
+      (sum_kept s r r' accounts i (acc stage) (acc stage') l at b.sum refl w.spread)
+      (spreads_kept s r r' accounts i (acc stage) (acc stage') l at b.spreads (λ e. refl) (λ e. refl) w.spread w.count tt)
+      (prefixes_drawn s accounts i (acc stage) (acc stage') l at b.prefixes r' r.next (record { vertex = v; from = from; to = to; worker = 0; booked = pos 0 })
+      (lengths_at stage at) refl refl refl refl refl refl w.next loads drawn)
 
   -- Name
-  pub name_kept : (v from to number raised lowered : ℕ) (owed : Owed) (booked : ℤ) → get_or accounts i (blank false) ≡ acc (Moving v from to number false raised lowered owed booked) → Writes s r r' (word.Name v) to → InBalance s r' (set accounts i (acc (Moving v from to number true raised lowered owed booked)))
+  pub name_kept : (v from to number raised lowered : ℕ) (owed : Owed) (booked : ℤ)
+      → get_or accounts i (blank false) ≡ acc (Moving v from to number false raised lowered owed booked) → WordsAfter s r r' (word.Name v) to
+      → InBalance s r' (set accounts i (acc (Moving v from to number true raised lowered owed booked)))
   name_kept v from to number raised lowered owed booked at w =
       let stage = Moving v from to number false raised lowered owed booked in
       let stage' = Moving v from to number true raised lowered owed booked in
       let c = stage_carried s r accounts i (acc stage) l at b v refl in
-      let step = all_at accounts i (acc stage) (acc stage) l at (λ x. IsInStep s.graph x.stage) b.counts.steps in
-      record {
-        claims = claims_kept s.graph r r' accounts i (acc stage) (acc stage') l at b.claims refl w.claim;
-        loads = loads_kept s r r' accounts i (acc stage) (acc stage') l at b.loads refl (λ k q. refl) (λ k q. refl) w.load;
-        names = names_written s r r' accounts b.claims b.moves b.names i (acc stage) (acc stage') l at v to c.vertex w.name c.held c.unmoved refl (λ u. omega arith) (λ e q. e);
-        counts = counts_kept s r r' accounts i (acc stage) (acc stage') l at b.counts (λ u e k q o. refl) (λ u e q o. refl) w.count (step.0, step.1, step.2, λ q. absurd (true≢false q));
-        moves = moves_to stage stage' at (moves_at stage at) (all_at accounts i (acc stage) (acc stage) l at (λ x. IsStageMove s x.stage) b.moves.stages);
-        numbers = numbers_kept r r' accounts i (acc stage) (acc stage') l at b.numbers (λ j. refl) w.next (lengths_at stage at);
-        gains = gains_to stage stage' at refl;
-        sum = sum_kept s r r' accounts i (acc stage) (acc stage') l at b.sum refl w.spread;
-        rest = rest_kept r r' accounts i (acc stage) (acc stage') l at b.rest refl refl refl w.cursor;
-        spreads = spreads_named owed at w;
-        bounds = bounds_named owed at;
-      }
+      let step = here (IsInStep s.graph) stage at b.counts.steps in
+      stage_to stage stage' gain at w.claim w.cursor refl (moves_at stage at) (here (IsStageMove s) stage at b.moves.stages)
+      (within owed (here (IsBookedWithin s.graph) stage at b.bounds.stages))
+      (loads_kept s r r' accounts i (acc stage) (acc stage') l at b.loads refl (λ k q. refl) (λ k q. refl) w.load)
+      (names_written s r r' accounts b.claims b.moves b.names i (acc stage) (acc stage') l at v to c.vertex w.name c.held c.unmoved refl (λ u. omega arith)
+      (λ e q. e))
+      (counts_kept s r r' accounts i (acc stage) (acc stage') l at b.counts (λ u e k q o. refl) (λ u e q o. refl) w.count
+      (step.0, step.1, step.2, λ q. absurd (true≢false q)))
+      (numbers_kept r r' accounts i (acc stage) (acc stage') l at b.numbers (λ j. refl) w.next (lengths_at stage at))
+      (sum_kept s r r' accounts i (acc stage) (acc stage') l at b.sum refl w.spread)
+      (spreads_kept s r r' accounts i (acc stage) (acc stage') l at b.spreads (up owed) (down owed) w.spread w.count
+      (owing owed (here IsOwing stage at b.spreads.owed)))
+      (prefixes_kept s accounts i (acc stage) (acc stage') l at b.prefixes (λ f j. refl))
     where
-      spreads_named : (owed : Owed) → get_or accounts i (blank false) ≡ acc (Moving v from to number false raised lowered owed booked) → Writes s r r' (word.Name v) to → Spreads s r' (set accounts i (acc (Moving v from to number true raised lowered owed booked)))
-      spreads_named Nothing at w = spreads_kept s r r' accounts i (acc (Moving v from to number false raised lowered Nothing booked)) (acc (Moving v from to number true raised lowered Nothing booked)) l at b.spreads (λ e. refl) (λ e. refl) w.spread w.count tt
-      spreads_named Up at w = spreads_kept s r r' accounts i (acc (Moving v from to number false raised lowered Up booked)) (acc (Moving v from to number true raised lowered Up booked)) l at b.spreads (λ e. refl) (λ e. refl) w.spread w.count (all_at accounts i (acc (Moving v from to number false raised lowered Up booked)) (acc Idle) l at (λ x. IsOwing x.stage) b.spreads.owed)
-      spreads_named Down at w = spreads_kept s r r' accounts i (acc (Moving v from to number false raised lowered Down booked)) (acc (Moving v from to number true raised lowered Down booked)) l at b.spreads (λ e. refl) (λ e. refl) w.spread w.count (all_at accounts i (acc (Moving v from to number false raised lowered Down booked)) (acc Idle) l at (λ x. IsOwing x.stage) b.spreads.owed)
+      -- no name plays a part in what is owed or booked
+      within : (owed : Owed) → IsBookedWithin s.graph (Moving v from to number false raised lowered owed booked)
+          → IsBookedWithin s.graph (Moving v from to number true raised lowered owed booked)
+      within Nothing q = q
+      within Up q = q
+      within Down q = q
 
-      bounds_named : (owed : Owed) → get_or accounts i (blank false) ≡ acc (Moving v from to number false raised lowered owed booked) → Bounds s.graph (set accounts i (acc (Moving v from to number true raised lowered owed booked)))
-      bounds_named Nothing at = bounds_to (Moving v from to number false raised lowered Nothing booked) (Moving v from to number true raised lowered Nothing booked) at (all_at accounts i (acc (Moving v from to number false raised lowered Nothing booked)) (acc Idle) l at (λ x. IsBookedWithin s.graph x.stage) b.bounds.stages)
-      bounds_named Up at = bounds_to (Moving v from to number false raised lowered Up booked) (Moving v from to number true raised lowered Up booked) at (all_at accounts i (acc (Moving v from to number false raised lowered Up booked)) (acc Idle) l at (λ x. IsBookedWithin s.graph x.stage) b.bounds.stages)
-      bounds_named Down at = bounds_to (Moving v from to number false raised lowered Down booked) (Moving v from to number true raised lowered Down booked) at (all_at accounts i (acc (Moving v from to number false raised lowered Down booked)) (acc Idle) l at (λ x. IsBookedWithin s.graph x.stage) b.bounds.stages)
+      owing : (owed : Owed) → IsOwing (Moving v from to number false raised lowered owed booked)
+          → IsOwing (Moving v from to number true raised lowered owed booked)
+      owing Nothing q = q
+      owing Up q = q
+      owing Down q = q
+
+      up : (owed : Owed) (e : ℕ) → owed_up s.graph e (Moving v from to number true raised lowered owed booked)
+          ≡ owed_up s.graph e (Moving v from to number false raised lowered owed booked)
+      up Nothing e = refl
+      up Up e = refl
+      up Down e = refl
+
+      down : (owed : Owed) (e : ℕ) → owed_down s.graph e (Moving v from to number true raised lowered owed booked)
+          ≡ owed_down s.graph e (Moving v from to number false raised lowered owed booked)
+      down Nothing e = refl
+      down Up e = refl
+      down Down e = refl

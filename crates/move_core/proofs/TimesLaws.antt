@@ -1,5 +1,5 @@
 -- How often a number stands in a list: after an insertion, after a removal, and in all accounts after a change of one.
-use Rattle.std.proofs.Common.{◌≡◌, ℕ, ◌+◌, ◌*◌, ◌<◌, ◌≤◌, ◌⊎◌, inl, inr, Bool, true, false, ◌&&◌, cond, if◌then◌else◌, nat_eq, List, [], ◌∷◌, length, length-set, get_or, get_or-set_same, get_or-set_other, set, ℤ, ◌+ℤ◌, All, refl, sym, ap, ◌∙◌, subst, arith, nat_cmp}
+use Rattle.std.proofs.Common.{◌≡◌, ℕ, zero, suc, ◌+◌, ◌*◌, ◌<◌, ◌≤◌, ◌⊎◌, inl, inr, Bool, true, false, ◌&&◌, cond, if◌then◌else◌, nat_eq, List, [], ◌∷◌, length, length-set, get_or, get_or-set_same, get_or-set_other, set, ℤ, ◌+ℤ◌, All, refl, sym, ap, ◌∙◌, subst, arith, nat_cmp}
 use Rattle.std.specs.BTreeSet.{insert_key}
 use Rattle.std.specs.Set.{remove_key}
 use Rattle.std.specs.Ordering.{match_ordering}
@@ -19,7 +19,8 @@ pub times-insert_key : (xs : List ℕ) (v u : ℕ) → times v xs ≡ 0 → time
 times-insert_key [] v u h = omega arith
 times-insert_key (x ∷ xs) v u h = by (nat_cmp v x) refl (times-insert_key xs v u)
   where
-    by : (o : Ordering) → nat_cmp v x ≡ o → (times v xs ≡ 0 → times u (insert_key nat_cmp xs v) ≡ times u xs + weight_if v u 1) → times u (match_ordering o (v ∷ x ∷ xs) (x ∷ xs) (x ∷ insert_key nat_cmp xs v)) ≡ times u (x ∷ xs) + weight_if v u 1
+    by : (o : Ordering) → nat_cmp v x ≡ o → (times v xs ≡ 0 → times u (insert_key nat_cmp xs v) ≡ times u xs + weight_if v u 1)
+        → times u (match_ordering o (v ∷ x ∷ xs) (x ∷ xs) (x ∷ insert_key nat_cmp xs v)) ≡ times u (x ∷ xs) + weight_if v u 1
     by Less e r = omega arith
     by Equal e r =
         let s = weight_if-same x v 1 (sym (nat_cmp_exact v x e)) in
@@ -31,7 +32,8 @@ pub times-remove_key : (xs : List ℕ) (v u : ℕ) → 0 < times v xs → times 
 times-remove_key [] v u h = absurd (omega arith)
 times-remove_key (x ∷ xs) v u h = by (nat_eq v x) refl (times-remove_key xs v u)
   where
-    by : (b : Bool) → nat_eq v x ≡ b → (0 < times v xs → times u (remove_key (nat_eq v) xs) + weight_if v u 1 ≡ times u xs) → times u (cond b xs (x ∷ remove_key (nat_eq v) xs)) + weight_if v u 1 ≡ times u (x ∷ xs)
+    by : (b : Bool) → nat_eq v x ≡ b → (0 < times v xs → times u (remove_key (nat_eq v) xs) + weight_if v u 1 ≡ times u xs)
+        → times u (cond b xs (x ∷ remove_key (nat_eq v) xs)) + weight_if v u 1 ≡ times u (x ∷ xs)
     by true e r = subst (λ z. times u xs + weight_if z u 1 ≡ times u (x ∷ xs)) (sym (eqb-true v x e)) (omega arith)
     by false e r =
         let s = weight_if-other x v 1 (λ q. eqb-false v x e (sym q)) in
@@ -88,6 +90,12 @@ All_from_times P (x ∷ xs) h =
     (h x (let s = weight_if-same x x 1 refl in omega arith))
     (All_from_times P xs (λ v k. h v (omega arith)))
 
+-- a place of a list reads the same whatever would stand past its end
+pub same_default : {A : Type 0} (xs : List A) (i : ℕ) (d e : A) → i < length xs → get_or xs i d ≡ get_or xs i e
+same_default [] i d e l = absurd (omega arith)
+same_default (x ∷ xs) zero d e l = refl
+same_default (x ∷ xs) (suc i) d e l = same_default xs i d e (omega arith)
+
 -- one account changed
 module _ (accounts : List Account) (i : ℕ) (a a' : Account) (l : i < length accounts) (at : get_or accounts i (blank false) ≡ a) where
   pub total_changed : (f : Account → ℕ) → total f (set accounts i a') + f a ≡ total f accounts + f a'
@@ -113,7 +121,8 @@ module _ (accounts : List Account) (i : ℕ) (a a' : Account) (l : i < length ac
   all_changed P h p = All-set P accounts i a' p h
 
   -- the same, where the others are looked at one by one
-  pub all_changed_others : (P : Account → Type 0) → ((k : ℕ) (d : Account) → k < length accounts → (k ≡ i → ⊥) → P (get_or accounts k d)) → P a' → All P (set accounts i a')
+  pub all_changed_others : (P : Account → Type 0) → ((k : ℕ) (d : Account) → k < length accounts → (k ≡ i → ⊥) → P (get_or accounts k d)) → P a'
+      → All P (set accounts i a')
   all_changed_others P h p k d o =
       elim (cases_eq k i) [
         | inl e ↦ subst P (sym (ap (λ j. get_or (set accounts i a') j d) e ∙ get_or-set_same accounts i a' d l)) p
@@ -129,10 +138,12 @@ pick p q x y = by (nat_eq p q) refl
     by false e = inr (eqb-false p q e, refl)
 
 -- the two cases of a number that stands at two places
-pub pick_two : (p q o t x y : ℕ) → ((p ≡ q) × (o ≡ t) × ((if nat_eq p q && nat_eq o t then x else y) ≡ x)) ⊎ (((p ≡ q) × (o ≡ t) → ⊥) × ((if nat_eq p q && nat_eq o t then x else y) ≡ y))
+pub pick_two : (p q o t x y : ℕ) → ((p ≡ q) × (o ≡ t) × ((if nat_eq p q && nat_eq o t then x else y) ≡ x)) ⊎
+    (((p ≡ q) × (o ≡ t) → ⊥) × ((if nat_eq p q && nat_eq o t then x else y) ≡ y))
 pick_two p q o t x y = by (nat_eq p q) refl (nat_eq o t) refl
   where
-    by : (b : Bool) → nat_eq p q ≡ b → (d : Bool) → nat_eq o t ≡ d → ((p ≡ q) × (o ≡ t) × ((if b && d then x else y) ≡ x)) ⊎ (((p ≡ q) × (o ≡ t) → ⊥) × ((if b && d then x else y) ≡ y))
+    by : (b : Bool) → nat_eq p q ≡ b → (d : Bool) → nat_eq o t ≡ d → ((p ≡ q) × (o ≡ t) × ((if b && d then x else y) ≡ x)) ⊎
+        (((p ≡ q) × (o ≡ t) → ⊥) × ((if b && d then x else y) ≡ y))
     by true e true f = inl (eqb-true p q e, eqb-true o t f, refl)
     by true e false f = inr (λ h. eqb-false o t f h.1, refl)
     by false e d f = inr (λ h. eqb-false p q e h.0, refl)

@@ -1,5 +1,5 @@
 -- The books in balance: what holds of the words and of the accounts of all passes at every moment.
-use Rattle.std.specs.Prelude.{◌≡◌, ◌≢◌, ℕ, ◌+◌, ◌-◌, ◌*◌, ◌^◌, ◌<◌, ◌≤◌, List, [], ◌∷◌, ◌++◌, length, take, All, ℤ, pos, ◌+ℤ◌, ◌-ℤ◌, ◌≤ℤ◌, true, false, max, nat_eq, nat_lt, slice_index, if◌then◌else◌}
+use Rattle.std.specs.Prelude.{◌≡◌, ◌≢◌, ℕ, ◌+◌, ◌-◌, ◌*◌, ◌^◌, ◌<◌, ◌≤◌, List, [], ◌∷◌, ◌++◌, length, take, All, ℤ, pos, ◌+ℤ◌, ◌-ℤ◌, ◌≤ℤ◌, Bool, true, false, max, nat_eq, nat_lt, slice_index, if◌then◌else◌}
 use Rattle.hg_defs.specs.declared.moves.Move.{Move}
 use Rattle.hg_defs.specs.Sums.{total, total_z, sum_below}
 use Rattle.hg_defs.specs.Hypergraph.{Hyper, vertex_count, net_count, net_of, weight_of, is_free, IsHypergraph, IsWithinLimits}
@@ -10,9 +10,9 @@ use Rattle.move_core.specs.declared.account.Owed.TheVariants.{Nothing, Up, Down}
 use Rattle.move_core.specs.declared.account.Stage.{Stage}
 use Rattle.move_core.specs.declared.account.Stage.TheVariants.{Idle, Refused, Granted, Moving}
 use Rattle.hg_defs.specs.Incidence.{nets_of}
-use Rattle.move_core.specs.State.{Setup, Readings, State, readings, times, blank, present_below}
-use Rattle.move_core.specs.Events.{moved, price_at}
-use Rattle.move_core.specs.Stages.{number_at, booked_at}
+use Rattle.move_core.specs.State.{Setup, Readings, State, account_in, readings, times, blank, present_below}
+use Rattle.move_core.specs.Events.{moved_vertices, price_at}
+use Rattle.move_core.specs.Stages.{number_at, booked_at, move_at}
 
 -- the vertex of a stage that isn't idle
 abbrev pub stage_vertices : Stage → List ℕ
@@ -23,7 +23,7 @@ stage_vertices (Moving v from to number named raised lowered owed booked) = v �
 
 -- the vertices of a pass's moves, done or in hand
 abbrev pub carried : Account → List ℕ
-carried a = moved a ++ stage_vertices a.stage
+carried a = moved_vertices a ++ stage_vertices a.stage
 
 -- Claims. The claim word of a vertex is the number of times that it stands among the held ones, which is 0 or 1;
 -- it is 0 for a vertex that isn't free.
@@ -48,6 +48,14 @@ refused_weight h b (Refused v to seen) = if nat_eq to b then weight_of h v else 
 refused_weight h b (Granted v from to seen) = 0
 refused_weight h b (Moving v from to number named raised lowered owed booked) = 0
 
+-- the weight that was granted
+abbrev pub granted_weight : Hyper → ℕ → Stage → ℕ
+granted_weight h b Idle = 0
+granted_weight h b (Refused v to seen) = 0
+granted_weight h b (Granted v from to seen) = if nat_eq to b then weight_of h v else 0
+granted_weight h b (Moving v from to number named raised lowered owed booked) =
+    if nat_eq to b then weight_of h v else 0
+
 -- the weight that moves brought into a block, and the weight that they took from it
 abbrev pub arrived : Hyper → ℕ → List Move → ℕ
 arrived h b moves = total (λ m. if nat_eq m.to b then weight_of h m.vertex else 0) moves
@@ -58,7 +66,8 @@ departed h b moves = total (λ m. if nat_eq m.from b then weight_of h m.vertex e
 -- Loads. The load word of a block is its load at the opening, and the weights at stages and of moves done into it,
 -- less the weights of moves done out of it. Without what was refused it is within the limit.
 pub record Loads (s : Setup) (r : Readings) (accounts : List Account) : Type 0 where
-  pub word : (b : ℕ) → b < s.blocks → r.load b + total (λ a. departed s.graph b a.moves) accounts ≡ load s.graph s.opening b + total (λ a. reserved_weight s.graph b a.stage + arrived s.graph b a.moves) accounts
+  pub word : (b : ℕ) → b < s.blocks → r.load b + total (λ a. departed s.graph b a.moves) accounts ≡ load s.graph s.opening b
+      + total (λ a. reserved_weight s.graph b a.stage + arrived s.graph b a.moves) accounts
   pub limit : (b : ℕ) → b < s.blocks → r.load b ≤ s.limit + total (λ a. refused_weight s.graph b a.stage) accounts
 
 -- the vertices whose new name a pass has written
@@ -69,7 +78,7 @@ named_at (Granted v from to seen) = []
 named_at (Moving v from to number named raised lowered owed booked) = if named then v ∷ [] else []
 
 abbrev pub renamed : Account → List ℕ
-renamed a = moved a ++ named_at a.stage
+renamed a = moved_vertices a ++ named_at a.stage
 
 abbrev pub IsNamed : (ℕ → ℕ) → Stage → Type 0
 IsNamed name Idle = Unit {0}
@@ -105,7 +114,7 @@ stage_lowers h u e (Moving v from to number named raised lowered owed booked) =
     if nat_eq v u then times e (take lowered (nets_of h v)) else 0
 
 abbrev pub lowers : Hyper → ℕ → ℕ → Account → ℕ
-lowers h u e a = times u (moved a) + stage_lowers h u e a.stage
+lowers h u e a = times u (moved_vertices a) + stage_lowers h u e a.stage
 
 -- a move goes over its nets in order: it raises in one block, and then lowers in the other
 abbrev pub IsInStep : Hyper → Stage → Type 0
@@ -118,26 +127,28 @@ IsInStep h (Moving v from to number named raised lowered owed booked) =
 -- Counts. The count word of a net and a block is the number of pins with that block at the opening, with the Raises
 -- made on it, less the Lowers made on it: pin by pin.
 pub record Counts (s : Setup) (r : Readings) (accounts : List Account) : Type 0 where
-  pub word : (e b : ℕ) → e < net_count s.graph → b < s.blocks → r.count e b + total (λ u. if nat_eq (block_of s.opening u) b then total (lowers s.graph u e) accounts else 0) (net_of s.graph e).pins ≡ total (λ u. (if nat_eq (block_of s.opening u) b then 1 else 0) + total (raises s.graph u e b) accounts) (net_of s.graph e).pins
+  pub word : (e b : ℕ) → e < net_count s.graph → b < s.blocks → r.count e b
+      + total (λ u. if nat_eq (block_of s.opening u) b then total (lowers s.graph u e) accounts else 0) (net_of s.graph e).pins
+      ≡ total (λ u. (if nat_eq (block_of s.opening u) b then 1 else 0) + total (raises s.graph u e b) accounts) (net_of s.graph e).pins
   pub steps : All (λ a. IsInStep s.graph a.stage) accounts
 
 -- a move of a vertex from its block at the opening to another block
-pub record IsMove (s : Setup) (v from to : ℕ) : Type 0 where
+pub record IsMoveFromOpening (s : Setup) (v from to : ℕ) : Type 0 where
   pub block : to < s.blocks
   pub other : to ≢ block_of s.opening v
   pub origin : from ≡ block_of s.opening v
 
 abbrev pub IsStageMove : Setup → Stage → Type 0
 IsStageMove s Idle = Unit {0}
-IsStageMove s (Refused v to seen) = IsMove s v (block_of s.opening v) to
-IsStageMove s (Granted v from to seen) = IsMove s v from to
-IsStageMove s (Moving v from to number named raised lowered owed booked) = IsMove s v from to
+IsStageMove s (Refused v to seen) = IsMoveFromOpening s v (block_of s.opening v) to
+IsStageMove s (Granted v from to seen) = IsMoveFromOpening s v from to
+IsStageMove s (Moving v from to number named raised lowered owed booked) = IsMoveFromOpening s v from to
 
 -- Moves. What a pass carries it holds, and no vertex more often than it holds it. Each move goes from the vertex's
 -- block at the opening to another one.
 pub record Moves (s : Setup) (accounts : List Account) : Type 0 where
   pub held : All (λ a. (v : ℕ) → times v (carried a) ≤ times v a.held) accounts
-  pub done : All (λ a. All (λ m. IsMove s m.vertex m.from m.to) a.moves) accounts
+  pub done : All (λ a. All (λ m. IsMoveFromOpening s m.vertex m.from m.to) a.moves) accounts
   pub stages : All (λ a. IsStageMove s a.stage) accounts
 
 -- the numbers that a pass has drawn for its moves
@@ -195,7 +206,8 @@ IsOwing (Moving v from to number named raised lowered Down booked) = (raised ≡
 -- Spreads. The spread word of a net is 64, and the number of blocks with a positive count, less the passes that owe
 -- a block more for it, and with those that owe a block less.
 pub record Spreads (s : Setup) (r : Readings) (accounts : List Account) : Type 0 where
-  pub word : (e : ℕ) → e < net_count s.graph → r.spread e + total (λ a. owed_up s.graph e a.stage) accounts ≡ 64 + present_below (r.count e) s.blocks + total (λ a. owed_down s.graph e a.stage) accounts
+  pub word : (e : ℕ) → e < net_count s.graph → r.spread e + total (λ a. owed_up s.graph e a.stage) accounts ≡ 64 + present_below (r.count e) s.blocks
+      + total (λ a. owed_down s.graph e a.stage) accounts
   pub owed : All (λ a. IsOwing a.stage) accounts
 
 -- the weight of a list of nets
@@ -223,6 +235,31 @@ pub record Bounds (h : Hyper) (accounts : List Account) : Type 0 where
   pub done : All (λ a. All (λ m. IsBetween (weights_of h (nets_of h m.vertex)) (weights_of h (nets_of h m.vertex)) m.booked) a.moves) accounts
   pub stages : All (λ a. IsBookedWithin h a.stage) accounts
 
+-- Workers. A move bears the number of the pass that made it. That pass has the move, or it has ended.
+pub record Workers (accounts : List Account) : Type 0 where
+  pub made : All (λ a. All (λ m. m.worker < length accounts) a.moves) accounts
+  pub own : (i : ℕ) → All (λ m. (account_in accounts m.worker).live ≡ true → m.worker ≡ i) (account_in accounts i).moves
+
+-- of moves with their numbers, those whose number passes a test
+abbrev pub numbered_by : (ℕ → Bool) → List ℕ → List Move → List Move
+numbered_by test [] moves = []
+numbered_by test (n ∷ numbers) [] = []
+numbered_by test (n ∷ numbers) (m ∷ moves) =
+    if test n then m ∷ numbered_by test numbers moves else numbered_by test numbers moves
+
+-- the moves of a pass, done and in hand, that drew a number below i
+abbrev pub moves_before : ℕ → Account → List Move
+moves_before i a = numbered_by (λ n. nat_lt n i) (drawn a) (a.moves ++ move_at 0 a.stage)
+
+-- Prefixes. With the moves that drew a number below i, done or in hand, and no others, no block is past the limit.
+pub record Prefixes (s : Setup) (accounts : List Account) : Type 0 where
+  pub fit : (i b : ℕ) → b < s.blocks → load s.graph s.opening b + total (λ a. arrived s.graph b (moves_before i a)) accounts ≤ s.limit
+      + total (λ a. departed s.graph b (moves_before i a)) accounts
+
+-- how many pins of a net a pass carried to a block
+abbrev pub pins_carried : Hyper → ℕ → ℕ → Account → ℕ
+pins_carried h e b a = total (λ m. if nat_eq m.to b then times m.vertex (net_of h e).pins else 0) a.moves
+
 -- the books of a round in balance
 pub record InBalance (s : Setup) (r : Readings) (accounts : List Account) : Type 0 where
   pub claims : Claims s.graph r accounts
@@ -236,6 +273,8 @@ pub record InBalance (s : Setup) (r : Readings) (accounts : List Account) : Type
   pub rest : Rest r accounts
   pub spreads : Spreads s r accounts
   pub bounds : Bounds s.graph accounts
+  pub workers : Workers accounts
+  pub prefixes : Prefixes s accounts
 
 -- what a round may be over: a hypergraph within the limits, and an opening partition that fits
 pub record IsSetup (s : Setup) : Type 0 where

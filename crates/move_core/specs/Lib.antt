@@ -3,3 +3,4 @@ pub mod State
 pub mod Events
 pub mod Run
 pub mod Balance
+pub mod AtRest

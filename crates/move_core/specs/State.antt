@@ -1,9 +1,9 @@
 -- The state of a round: what it is over, its words, and the accounts of its passes.
-use Rattle.std.specs.Prelude.{ℕ, ◌+◌, ◌*◌, List, [], map, replicate, pos, Bool, true, false, nat_eq, slice_index, slice_index_or, slice_set, if◌then◌else◌}
+use Rattle.std.specs.Prelude.{◌≡◌, ◌<◌, ℕ, ◌+◌, ◌*◌, List, [], map, replicate, pos, Bool, true, false, nat_eq, slice_index, slice_index_or, slice_set, if◌then◌else◌}
 use Rattle.std.specs.List.{range_with_len, flat_map}
 use Rattle.hg_defs.specs.Sums.{total, sum_below}
 use Rattle.hg_defs.specs.Hypergraph.{Hyper, vertex_count, net_count, net_of}
-use Rattle.hg_defs.specs.Partition.{load}
+use Rattle.hg_defs.specs.Partition.{block_of, load}
 use Rattle.hg_defs.specs.Pins.{pins_in, present}
 use Rattle.move_core.specs.declared.account.Account.{Account}
 use Rattle.move_core.specs.declared.account.Stage.TheVariants.{Idle}
@@ -91,8 +91,11 @@ blank live = record {
 }
 
 -- the account of a pass; of a number that no pass has, that of an ended one
+abbrev pub account_in : List Account → ℕ → Account
+account_in accounts i = slice_index_or accounts i (blank false)
+
 abbrev pub account : State → ℕ → Account
-account s i = slice_index_or s.accounts i (blank false)
+account s i = account_in s.accounts i
 
 -- how many of a net's pins are in a block at the opening
 abbrev pub opening_pins : Setup → ℕ → ℕ → ℕ
@@ -101,6 +104,16 @@ opening_pins s e b = pins_in s.opening (net_of s.graph e).pins b
 -- how many of the blocks below a bound have a positive count
 abbrev pub present_below : (ℕ → ℕ) → ℕ → ℕ
 present_below f n = sum_below (λ b. present (f b)) n
+
+-- the words read as at the opening: nothing is claimed, and the rest is that of the opening partition
+pub record IsOpening (g : Setup) (r : Readings) : Type 0 where
+  pub claim : (v : ℕ) → v < vertex_count g.graph → r.claim v ≡ 0
+  pub name : (v : ℕ) → v < vertex_count g.graph → r.name v ≡ block_of g.opening v
+  pub load : (b : ℕ) → b < g.blocks → r.load b ≡ load g.graph g.opening b
+  pub count : (e b : ℕ) → e < net_count g.graph → b < g.blocks → r.count e b ≡ opening_pins g e b
+  pub spread : (e : ℕ) → e < net_count g.graph → r.spread e ≡ 64 + present_below (opening_pins g e) g.blocks
+  pub next : r.next ≡ 0
+  pub cursor : r.cursor ≡ 0
 
 -- the state at the opening: nothing claimed, and so many passes that have done nothing
 abbrev pub opened : Setup → ℕ → State

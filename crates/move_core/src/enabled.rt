@@ -1,40 +1,25 @@
-ghost use Rattle.std.specs.Prelude.{◌≡◌, ◌<◌, ℕ, true, length, ◌&&◌, nat_eq, nat_lt};
+ghost use Rattle.std.specs.Prelude.{◌≡◌, ◌<◌, true, length, ◌&&◌};
 ghost use Rattle.hg_defs.specs.Hypergraph.{vertex_count};
 ghost use Rattle.move_core.specs.Stages.{is_idle};
 ghost use Rattle.move_core.specs.State.{account};
-ghost use Rattle.move_core.specs.Events.{is_enabled, is_word, may_step, others_agree, pass_of};
+ghost use Rattle.move_core.specs.Events.{is_enabled, holds_unmoved, is_word, may_step, others_agree, pass_of};
 
 use crate::account::Stage;
 use crate::books::Books;
 use crate::events::{Event, Word};
 use hg_base::{FREE, FlatHyper};
 
-impl Event {
-    /// The pass that makes the event.
-    pub(crate) fn pass(self) -> u32
-        ensures { result ≡ pass_of self }
-    {
-        match self {
-            Event::Claim { pass, .. } => pass,
-            Event::Unclaim { pass, .. } => pass,
-            Event::Reserve { pass, .. } => pass,
-            Event::TakeBack { pass } => pass,
-            Event::Draw { pass } => pass,
-            Event::Name { pass } => pass,
-            Event::Raise { pass } => pass,
-            Event::Widen { pass } => pass,
-            Event::Lower { pass } => pass,
-            Event::Narrow { pass } => pass,
-            Event::GiveBack { pass } => pass,
-            Event::Seed { pass } => pass,
-            Event::Peek { pass, .. } => pass,
-            Event::Split { pass } => pass,
-            Event::Join { pass, .. } => pass,
-        }
-    }
-}
-
 impl Books {
+    /// Whether the pass holds the vertex and hasn't moved it; the pass must be idle.
+    fn holds_unmoved(&self, pass: u32, v: u32) -> bool
+        requires pass { pass < length self.now.accounts }
+        requires vertex { v < vertex_count self.now.setup.graph }
+        requires idle { is_idle (account self.now pass).stage ≡ true }
+        ensures { result ≡ holds_unmoved (account self.now pass) v }
+    {
+        self.ledger.pass(pass).holds(v) && self.name(v) == self.ledger.opening(v)
+    }
+
     fn may_claim(&self, h: &FlatHyper, pass: u32, vertex: u32) -> bool
         requires graph { h.now ≡ self.now.setup.graph }
         requires pass { pass < length self.now.accounts }
@@ -59,8 +44,8 @@ impl Books {
         self.stage(pass).is_idle()
             && vertex < h.vertices()
             && self.holds_unmoved(pass, vertex)
-            && to < self.blocks
-            && to != self.opening[vertex as usize]
+            && to < self.ledger.blocks()
+            && to != self.ledger.opening(vertex)
     }
 
     fn may_raise(&self, pass: u32) -> bool
@@ -79,7 +64,7 @@ impl Books {
                 named
                     && owed.is_nothing()
                     && raised == lowered
-                    && (raised as usize) < self.nets(vertex).len()
+                    && (raised as usize) < self.ledger.nets(vertex).len()
             }
             Stage::Idle | Stage::Refused { .. } | Stage::Granted { .. } => false,
         }
@@ -96,7 +81,7 @@ impl Books {
                 lowered,
                 owed,
                 ..
-            } => named && owed.is_nothing() && lowered as usize == self.nets(vertex).len(),
+            } => named && owed.is_nothing() && lowered as usize == self.ledger.nets(vertex).len(),
             Stage::Idle | Stage::Refused { .. } | Stage::Granted { .. } => false,
         }
     }
@@ -108,8 +93,8 @@ impl Books {
         match word {
             Word::Claim(v) => v < h.vertices(),
             Word::Name(v) => v < h.vertices(),
-            Word::Load(b) => b < self.blocks,
-            Word::Count(e, b) => e < h.nets() && b < self.blocks,
+            Word::Load(b) => b < self.ledger.blocks(),
+            Word::Count(e, b) => e < h.nets() && b < self.ledger.blocks(),
             Word::Spread(e) => e < h.nets(),
             Word::Next => true,
             Word::Cursor => true,
@@ -134,7 +119,7 @@ impl Books {
             Event::Lower { pass } => self.stage(pass).is_lowering(),
             Event::Narrow { pass } => self.stage(pass).owes_down(),
             Event::GiveBack { pass } => self.may_give_back(pass),
-            Event::Seed { pass } => self.passes[pass as usize].seeds() < 1 << 32,
+            Event::Seed { pass } => self.ledger.pass(pass).seeds() < 1 << 32,
             Event::Peek { word, .. } => self.has_word(h, word),
             Event::Split { pass } => self.stage(pass).is_idle(),
             Event::Join { pass, other } => self.stage(pass).is_idle() && pass != other,
@@ -144,9 +129,9 @@ impl Books {
     fn is_live_and_idle(&self, pass: u32) -> bool
         ensures { result ≡ ((account self.now pass).live && is_idle (account self.now pass).stage) }
     {
-        (pass as usize) < self.passes.len()
-            && self.passes[pass as usize].is_live()
-            && self.passes[pass as usize].stage().is_idle()
+        (pass as usize) < self.ledger.passes()
+            && self.ledger.pass(pass).is_live()
+            && self.ledger.pass(pass).stage().is_idle()
     }
 
     /// Whether other passes are as the event asks.
@@ -154,7 +139,7 @@ impl Books {
         ensures { result ≡ others_agree self.now event }
     {
         match event {
-            Event::Split { .. } => self.passes.len() < 64,
+            Event::Split { .. } => self.ledger.passes() < 64,
             Event::Join { other, .. } => self.is_live_and_idle(other),
             _ => true,
         }
@@ -165,9 +150,9 @@ impl Books {
         requires { h.now ≡ self.now.setup.graph }
         ensures { result ≡ is_enabled self.now event }
     {
-        let pass = event.pass() as usize;
-        pass < self.passes.len()
-            && self.passes[pass].is_live()
+        let pass = event.pass();
+        (pass as usize) < self.ledger.passes()
+            && self.ledger.pass(pass).is_live()
             && self.may_step(h, event)
             && self.others_agree(event)
     }

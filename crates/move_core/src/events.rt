@@ -1,3 +1,6 @@
+ghost use Rattle.std.specs.Prelude.{◌≡◌};
+ghost use Rattle.move_core.specs.Events.{pass_of, word_net};
+
 /// One step of one pass on one word.
 #[derive(Clone, Copy, Debug, PartialEq, Eq)]
 pub enum Event {
@@ -50,4 +53,42 @@ pub enum Word {
     Next,
     /// The next seed.
     Cursor,
+}
+
+impl Event {
+    /// The pass that makes the event.
+    pub(crate) fn pass(self) -> u32
+        ensures { result ≡ pass_of self }
+    {
+        match self {
+            Event::Claim { pass, .. } => pass,
+            Event::Unclaim { pass, .. } => pass,
+            Event::Reserve { pass, .. } => pass,
+            Event::TakeBack { pass } => pass,
+            Event::Draw { pass } => pass,
+            Event::Name { pass } => pass,
+            Event::Raise { pass } => pass,
+            Event::Widen { pass } => pass,
+            Event::Lower { pass } => pass,
+            Event::Narrow { pass } => pass,
+            Event::GiveBack { pass } => pass,
+            Event::Seed { pass } => pass,
+            Event::Peek { pass, .. } => pass,
+            Event::Split { pass } => pass,
+            Event::Join { pass, .. } => pass,
+        }
+    }
+}
+
+impl Word {
+    /// The net of the word, 0 where it has none.
+    pub(crate) fn net(self) -> u32
+        ensures { result ≡ word_net self }
+    {
+        match self {
+            Word::Count(e, _) => e,
+            Word::Spread(e) => e,
+            Word::Claim(_) | Word::Name(_) | Word::Load(_) | Word::Next | Word::Cursor => 0,
+        }
+    }
 }

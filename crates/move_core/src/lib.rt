@@ -6,10 +6,11 @@
 
 mod account;
 mod books;
+mod changes;
 mod enabled;
 mod events;
 mod laws;
-mod machine;
+mod ledger;
 mod open;
 mod pass;
 mod prices;
@@ -22,7 +23,9 @@ pub use account::{Account, Owed, Stage};
 pub use books::Books;
 pub use events::{Event, Word};
 pub use laws::{
-    balance_is_kept, counts_are_pins, gains_are_savings, grants_are_within_limit,
-    vertices_move_once,
+    balance_is_kept, counts_are_pins, events_keep_balance, gains_are_of_workers, gains_are_savings,
+    grants_are_within_limit, moves_are_in_order, openings_are_in_balance, passes_read_back,
+    vertices_move_once, words_are_in_range, words_tell_the_partition,
 };
+pub use prices::{narrow_gain, widen_gain};
 pub use runs::{RunEnd, run};

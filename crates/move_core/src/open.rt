@@ -5,8 +5,10 @@ ghost use Rattle.hg_defs.specs.Pins.{pins_in};
 ghost use Rattle.hg_defs.specs.Partition.{load, IsPartition, Fits};
 ghost use Rattle.hg_defs.specs.Incidence.{nets_of};
 ghost use Rattle.move_core.specs.State.{opened, present_below, count_place, blank, setup_of};
+ghost use Rattle.move_core.specs.Balance.{IsSetup, IsBooks};
 
 use crate::books::Books;
+use crate::ledger::Ledger;
 use crate::pass::Pass;
 use hg_base::{FlatHyper, NoMemory, Verts};
 use std::alloc::Global;
@@ -90,6 +92,44 @@ fn blank_passes(alloc: Global, passes: u32) -> Result<Vec<Pass>, NoMemory>
     Ok(made)
 }
 
+impl Ledger {
+    /// Opens the ledger of a round.
+    fn open(
+        alloc: Global,
+        h: &FlatHyper,
+        p: &[u32],
+        k: u32,
+        limit: u64,
+        passes: u32,
+    ) -> Result<Self, NoMemory>
+        requires partition { IsPartition h.now k p.now }
+        requires fits { Fits h.now k limit p.now }
+        ensures state { IfOk result (λ ledger. ledger ≡ opened (setup_of h.now k limit p.now) passes) }
+        ensures setup { IfOk result (λ ledger. IsSetup ledger.setup) }
+    {
+        let index = index_of(alloc, h)?;
+        let loads = loads_of(alloc, h, p, k)?;
+        let counts = counts_of(alloc, h, p, k)?;
+        let spreads = spreads_of(alloc, h.nets(), k, &counts)?;
+        Ok(Ledger {
+            alloc,
+            graph: Snapshot::of(h),
+            blocks: k,
+            limit,
+            opening: Vec::from_slice(alloc, p)?,
+            index,
+            claims: vec![in alloc; 0u64; h.vertices() as usize]?,
+            names: Vec::from_slice(alloc, p)?,
+            loads,
+            counts,
+            spreads,
+            next: 0,
+            cursor: 0,
+            passes: blank_passes(alloc, passes)?,
+        })
+    }
+}
+
 impl Books {
     /// Opens the books of a round over a hypergraph and a partition of it into `k` blocks: nothing
     /// is claimed, and there are the passes 0 to `passes` - 1, 1 to 64 of them, which have nothing.
@@ -108,27 +148,11 @@ impl Books {
         requires fixed { IsFixedWithin h.now k }
         requires some { 1 ≤ passes }
         requires few { passes ≤ 64 }
-        ensures { IfOk result (λ books. books ≡ opened (setup_of h.now k limit p.now) passes) }
+        ensures state { IfOk result (λ books. books ≡ opened (setup_of h.now k limit p.now) passes) }
+        ensures balance { IfOk result (λ books. IsBooks books) }
     {
-        let index = index_of(alloc, h)?;
-        let loads = loads_of(alloc, h, p, k)?;
-        let counts = counts_of(alloc, h, p, k)?;
-        let spreads = spreads_of(alloc, h.nets(), k, &counts)?;
         Ok(Books {
-            alloc,
-            graph: Snapshot::of(h),
-            blocks: k,
-            limit,
-            opening: Vec::from_slice(alloc, p)?,
-            index,
-            claims: vec![in alloc; 0u64; h.vertices() as usize]?,
-            names: Vec::from_slice(alloc, p)?,
-            loads,
-            counts,
-            spreads,
-            next: 0,
-            cursor: 0,
-            passes: blank_passes(alloc, passes)?,
+            ledger: Ledger::open(alloc, h, p, k, limit, passes)?,
         })
     }
 }

@@ -2,9 +2,10 @@ ghost use Rattle.std.specs.Prelude.{◌≡◌, ◌+◌, ◌^◌, ◌<◌, ◌+�
 ghost use Rattle.std.specs.Int.{w64};
 ghost use Rattle.move_core.specs.Stages.{booked_at};
 ghost use Rattle.move_core.specs.State.{blank};
-ghost use Rattle.move_core.specs.Events.{claimed, unclaimed, at_stage, booked, given_back, seeded, joined_with, holds};
+ghost use Rattle.move_core.specs.Events.{claimed, unclaimed, changed, booked, given_back, seeded, joined_with, is_holding};
 
 use crate::account::{Owed, Stage};
+use crate::events::Event;
 use hg_base::{Move, NoMemory};
 use std::alloc::Global;
 use std::collections::BTreeSet;
@@ -86,19 +87,13 @@ impl Pass {
 
     /// Whether the pass holds the vertex.
     pub(crate) fn holds(&self, vertex: u32) -> bool
-        ensures { result ≡ holds self.now vertex }
+        ensures { result ≡ is_holding self.now vertex }
     {
         self.held.contains(&vertex)
     }
 
-    pub(crate) fn set_stage(&mut self, stage: Stage)
-        ensures { self.new ≡ at_stage stage self.old }
-    {
-        self.stage = stage;
-    }
-
     /// Holds one vertex more. Where there is no memory, nothing changes.
-    pub(crate) fn hold(&mut self, vertex: u32) -> Result<(), NoMemory>
+    fn hold(&mut self, vertex: u32) -> Result<(), NoMemory>
         ensures ok { OnOk result (self.new ≡ claimed vertex 0 self.old) }
         ensures err { OnErr result (self.new ≡ self.old) }
     {
@@ -106,14 +101,14 @@ impl Pass {
         Ok(())
     }
 
-    pub(crate) fn release(&mut self, vertex: u32)
+    fn release(&mut self, vertex: u32)
         ensures { self.new ≡ unclaimed vertex self.old }
     {
         self.held.remove(&vertex);
     }
 
     /// Books a gain on the move in hand.
-    pub(crate) fn book(&mut self, gain: i64)
+    fn book(&mut self, gain: i64)
         requires stage { FitsSigned w64 (booked_at self.old.stage +ℤ gain) }
         requires total { FitsSigned w64 (self.old.gain +ℤ gain) }
         ensures { self.new ≡ booked gain self.old }
@@ -123,7 +118,7 @@ impl Pass {
     }
 
     /// Records the move in hand as done. Where there is no memory, nothing changes.
-    pub(crate) fn give_back(&mut self, worker: u32) -> Result<(), NoMemory>
+    fn give_back(&mut self, worker: u32) -> Result<(), NoMemory>
         ensures ok { OnOk result (self.new ≡ given_back worker self.old) }
         ensures err { OnErr result (self.new ≡ self.old) }
     {
@@ -150,11 +145,47 @@ impl Pass {
         Ok(())
     }
 
-    pub(crate) fn add_seed(&mut self)
+    fn add_seed(&mut self)
         requires { self.old.seeds + 1 < 2 ^ 64 }
         ensures { self.new ≡ seeded self.old }
     {
         self.seeds += 1;
+    }
+
+    /// Changes as an event of this pass says that found a number, leaves the stage `next` and books
+    /// the gain. Where there is no memory, nothing changes.
+    pub(crate) fn change(
+        &mut self,
+        event: Event,
+        found: u64,
+        next: Stage,
+        gain: i64,
+    ) -> Result<(), NoMemory>
+        requires stage { FitsSigned w64 (booked_at self.old.stage +ℤ gain) }
+        requires total { FitsSigned w64 (self.old.gain +ℤ gain) }
+        requires seeds { self.old.seeds + 1 < 2 ^ 64 }
+        ensures ok { OnOk result (self.new ≡ changed event found next gain self.old) }
+        ensures err { OnErr result (self.new ≡ self.old) }
+    {
+        match event {
+            Event::Claim { vertex, .. } => {
+                if found == 0 {
+                    self.hold(vertex)?;
+                }
+            }
+            Event::Unclaim { vertex, .. } => self.release(vertex),
+            Event::Widen { .. } | Event::Narrow { .. } => self.book(gain),
+            Event::GiveBack { pass } => self.give_back(pass)?,
+            Event::Seed { .. } => self.add_seed(),
+            Event::Peek { .. } | Event::Split { .. } | Event::Join { .. } => {}
+            Event::Reserve { .. }
+            | Event::TakeBack { .. }
+            | Event::Draw { .. }
+            | Event::Name { .. }
+            | Event::Raise { .. }
+            | Event::Lower { .. } => self.stage = next,
+        }
+        Ok(())
     }
 
     /// Makes a pass with what this one and the other have.

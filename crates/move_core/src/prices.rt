@@ -22,7 +22,7 @@ fn price_step(objective: Objective, blocks: u64) -> u64
 }
 
 /// What a pass books where it finds this spread word and the net gets a block: 0 or less.
-pub(crate) fn widen_gain(h: &FlatHyper, e: u32, found: u64) -> i64
+pub fn widen_gain(h: &FlatHyper, e: u32, found: u64) -> i64
     requires net { e < net_count h.now }
     requires found { found + 1 < 2 ^ 64 }
     ensures { result ≡ widen_gain h.now e found }
@@ -34,7 +34,7 @@ pub(crate) fn widen_gain(h: &FlatHyper, e: u32, found: u64) -> i64
 }
 
 /// What a pass books where it finds this spread word and the net loses a block: 0 or more.
-pub(crate) fn narrow_gain(h: &FlatHyper, e: u32, found: u64) -> i64
+pub fn narrow_gain(h: &FlatHyper, e: u32, found: u64) -> i64
     requires { e < net_count h.now }
     ensures { result ≡ narrow_gain h.now e found }
 {

@@ -1,9 +1,10 @@
 ghost use Rattle.std.specs.Prelude.{◌≡◌, ◌<◌, ◌≤◌, ◌^◌, ℕ, OnOk, IfOk, IfErr, true, false, length, take, slice_index_or};
 ghost use Rattle.move_core.specs.Events.{is_enabled};
-ghost use Rattle.move_core.specs.Run.{run_of, all_enabled, IsStoppedBy};
+ghost use Rattle.move_core.specs.Run.{run_of, all_enabled, IsStoppedBy, IsLeftAt};
 ghost use Rattle.hg_defs.specs.Hypergraph.{IsFixedWithin};
 ghost use Rattle.hg_defs.specs.Partition.{IsPartition, Fits};
 ghost use Rattle.move_core.specs.State.{opened, setup_of};
+ghost use Rattle.move_core.specs.Balance.{IsBooks};
 
 use crate::books::Books;
 use crate::events::Event;
@@ -31,14 +32,18 @@ impl From<NoMemory> for RunEnd {
 
 impl Books {
     /// Makes the events, one after the other, up to the first that is not enabled at its turn.
+    /// Where there is no memory, some first ones are made.
     pub fn make(&mut self, h: &FlatHyper, events: &[Event]) -> Result<(), RunEnd>
         requires graph { h.now ≡ self.old.setup.graph }
         requires events { length events.now < 2 ^ 32 }
         ensures enabled { OnOk result (all_enabled self.old events.now ≡ true) }
         ensures state { OnOk result (self.new ≡ run_of self.old events.now) }
         ensures refused { IfErr result (IsStoppedBy self.old events.now) }
+        ensures left { IfErr result (λ end. IsLeftAt self.old events.now end self.new) }
+        ensures balance { IsBooks self.new }
         ensures setup { self.new.setup ≡ self.old.setup }
     {
+        let _ = &self.ledger;
         let mut at = 0;
         for event in events {
             if !self.enabled(h, *event) {
@@ -76,6 +81,7 @@ pub fn run(
     ensures enabled { OnOk result (all_enabled (opened (setup_of h.now k limit p.now) passes) events.now ≡ true) }
     ensures state { IfOk result (λ books. books ≡ run_of (opened (setup_of h.now k limit p.now) passes) events.now) }
     ensures refused { IfErr result (IsStoppedBy (opened (setup_of h.now k limit p.now) passes) events.now) }
+    ensures balance { IfOk result (λ books. IsBooks books) }
     ensures setup { IfOk result (λ books. books.setup ≡ setup_of h.now k limit p.now) }
 {
     match Books::open(alloc, h, p, k, limit, passes) {

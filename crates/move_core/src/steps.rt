@@ -1,249 +1,94 @@
-ghost use Rattle.std.specs.Prelude.{◌≡◌, ◌<◌, ◌+◌, ◌^◌, ℕ, IfOk, OnErr, true, length, nat_le, if◌then◌else◌};
+ghost use Rattle.std.specs.Prelude.{◌≡◌, ◌<◌, ◌≤◌, ◌^◌, IfOk, OnErr, true, length};
 ghost use Rattle.hg_defs.specs.Hypergraph.{vertex_count};
-ghost use Rattle.move_core.specs.State.{readings, account, read};
-ghost use Rattle.move_core.specs.Events.{is_enabled, is_word, first_word};
+ghost use Rattle.hg_defs.specs.Incidence.{nets_of};
+ghost use Rattle.move_core.specs.State.{account};
+ghost use Rattle.move_core.specs.Stages.{vertex_at};
+ghost use Rattle.move_core.specs.Events.{is_enabled, word_for, write_for, removed_for, stage_net};
+ghost use Rattle.move_core.specs.Balance.{IsBooks};
 ghost use Rattle.move_core.specs.Run.{Leads};
 
 use crate::account::Stage;
 use crate::books::Books;
 use crate::events::{Event, Word};
-use crate::pass::Pass;
-use crate::prices::{narrow_gain, widen_gain};
 use hg_base::{FlatHyper, NoMemory};
 
-/// Where a pass stands that found a load and added the weight of its vertex.
-fn reservation(vertex: u32, from: u32, to: u32, seen: u64, weight: u64, limit: u64) -> Stage
-    requires { seen + weight < 2 ^ 64 }
-    ensures { result ≡ (if nat_le (seen + weight) limit then Stage.Granted vertex from to seen else Stage.Refused vertex to seen) }
-{
-    if seen + weight <= limit {
-        Stage::Granted {
-            vertex,
-            from,
-            to,
-            seen,
-        }
-    } else {
-        Stage::Refused { vertex, to, seen }
-    }
-}
-
 impl Books {
-    fn take(&mut self, pass: u32, vertex: u32) -> Result<u64, NoMemory>
-        requires enabled { is_enabled self.old (Event.Claim pass vertex) ≡ true }
-        requires free { (readings self.old).claim vertex ≡ 0 }
-        ensures ok { IfOk result (λ found. Leads self.old (Event.Claim pass vertex) found self.new) }
-        ensures err { OnErr result (self.new ≡ self.old) }
+    /// The net at a place of the nets of the stage's vertex.
+    fn net(&self, stage: Stage, place: u32) -> u32
+        requires vertex { vertex_at stage < vertex_count self.now.setup.graph }
+        requires place { place < length (nets_of self.now.setup.graph (vertex_at stage)) }
+        ensures { result ≡ stage_net self.now.setup stage place }
     {
-        self.passes[pass as usize].hold(vertex)?;
-        self.claims[vertex as usize] = 1;
-        Ok(0)
+        self.ledger.nets(stage.vertex())[place as usize]
     }
 
-    pub(crate) fn claim(&mut self, pass: u32, vertex: u32) -> Result<u64, NoMemory>
-        requires { is_enabled self.old (Event.Claim pass vertex) ≡ true }
-        ensures ok { IfOk result (λ found. Leads self.old (Event.Claim pass vertex) found self.new) }
-        ensures err { OnErr result (self.new ≡ self.old) }
+    /// The word of the event, which must be enabled.
+    fn word(&self, event: Event) -> Word
+        requires { is_enabled self.now event ≡ true }
+        ensures { result ≡ word_for self.now.setup self.now.accounts event }
     {
-        let found = self.claims[vertex as usize];
-        if found == 0 {
-            return self.take(pass, vertex);
-        }
-        Ok(found)
-    }
-
-    pub(crate) fn unclaim(&mut self, pass: u32, vertex: u32) -> u64
-        requires { is_enabled self.old (Event.Unclaim pass vertex) ≡ true }
-        ensures { Leads self.old (Event.Unclaim pass vertex) result self.new }
-    {
-        let found = self.claims[vertex as usize];
-        self.claims[vertex as usize] = 0;
-        self.passes[pass as usize].release(vertex);
-        found
-    }
-
-    pub(crate) fn reserve(&mut self, h: &FlatHyper, pass: u32, vertex: u32, to: u32) -> u64
-        requires graph { h.now ≡ self.old.setup.graph }
-        requires enabled { is_enabled self.old (Event.Reserve pass vertex to) ≡ true }
-        ensures { Leads self.old (Event.Reserve pass vertex to) result self.new }
-    {
-        let weight = h.vertex_weight(vertex);
-        let found = self.loads[to as usize];
-        let from = self.opening[vertex as usize];
-        let stage = reservation(vertex, from, to, found, weight, self.limit);
-        self.loads[to as usize] = found + weight;
-        self.passes[pass as usize].set_stage(stage);
-        found
-    }
-
-    pub(crate) fn take_back(&mut self, h: &FlatHyper, pass: u32) -> u64
-        requires graph { h.now ≡ self.old.setup.graph }
-        requires enabled { is_enabled self.old (Event.TakeBack pass) ≡ true }
-        ensures { Leads self.old (Event.TakeBack pass) result self.new }
-    {
-        let stage = self.passes[pass as usize].stage();
-        let weight = h.vertex_weight(stage.vertex());
-        let to = stage.to() as usize;
-        let found = self.loads[to];
-        self.loads[to] = found - weight;
-        self.passes[pass as usize].set_stage(Stage::Idle);
-        found
-    }
-
-    pub(crate) fn draw(&mut self, pass: u32) -> u64
-        requires { is_enabled self.old (Event.Draw pass) ≡ true }
-        ensures { Leads self.old (Event.Draw pass) result self.new }
-    {
-        let found = self.next;
-        let stage = self.passes[pass as usize].stage().drawn(found);
-        self.next = found + 1;
-        self.passes[pass as usize].set_stage(stage);
-        found
-    }
-
-    pub(crate) fn rename(&mut self, pass: u32) -> u64
-        requires { is_enabled self.old (Event.Name pass) ≡ true }
-        ensures { Leads self.old (Event.Name pass) result self.new }
-    {
-        let stage = self.passes[pass as usize].stage();
-        let vertex = stage.vertex() as usize;
-        let found = self.names[vertex];
-        self.names[vertex] = stage.to();
-        self.passes[pass as usize].set_stage(stage.named());
-        found as u64
-    }
-
-    pub(crate) fn raise(&mut self, pass: u32) -> u64
-        requires { is_enabled self.old (Event.Raise pass) ≡ true }
-        ensures { Leads self.old (Event.Raise pass) result self.new }
-    {
-        let stage = self.passes[pass as usize].stage();
-        let net = self.nets(stage.vertex())[stage.raised_nets() as usize];
-        let place = self.count_place(net, stage.to());
-        let found = self.counts[place];
-        self.counts[place] = found + 1;
-        self.passes[pass as usize].set_stage(stage.raised(found));
-        found
-    }
-
-    pub(crate) fn widen(&mut self, h: &FlatHyper, pass: u32) -> u64
-        requires graph { h.now ≡ self.old.setup.graph }
-        requires enabled { is_enabled self.old (Event.Widen pass) ≡ true }
-        ensures { Leads self.old (Event.Widen pass) result self.new }
-    {
-        let stage = self.passes[pass as usize].stage();
-        let net = self.nets(stage.vertex())[stage.raised_nets() as usize - 1];
-        let found = self.spreads[net as usize];
-        let gain = widen_gain(h, net, found);
-        self.spreads[net as usize] = found + 1;
-        self.passes[pass as usize].book(gain);
-        found
-    }
-
-    pub(crate) fn lower(&mut self, pass: u32) -> u64
-        requires { is_enabled self.old (Event.Lower pass) ≡ true }
-        ensures { Leads self.old (Event.Lower pass) result self.new }
-    {
-        let stage = self.passes[pass as usize].stage();
-        let net = self.nets(stage.vertex())[stage.lowered_nets() as usize];
-        let place = self.count_place(net, stage.from());
-        let found = self.counts[place];
-        self.counts[place] = found - 1;
-        self.passes[pass as usize].set_stage(stage.lowered(found));
-        found
-    }
-
-    pub(crate) fn narrow(&mut self, h: &FlatHyper, pass: u32) -> u64
-        requires graph { h.now ≡ self.old.setup.graph }
-        requires enabled { is_enabled self.old (Event.Narrow pass) ≡ true }
-        ensures { Leads self.old (Event.Narrow pass) result self.new }
-    {
-        let stage = self.passes[pass as usize].stage();
-        let net = self.nets(stage.vertex())[stage.lowered_nets() as usize - 1];
-        let found = self.spreads[net as usize];
-        let gain = narrow_gain(h, net, found);
-        self.spreads[net as usize] = found - 1;
-        self.passes[pass as usize].book(gain);
-        found
-    }
-
-    pub(crate) fn give_back(&mut self, h: &FlatHyper, pass: u32) -> Result<u64, NoMemory>
-        requires graph { h.now ≡ self.old.setup.graph }
-        requires enabled { is_enabled self.old (Event.GiveBack pass) ≡ true }
-        ensures ok { IfOk result (λ found. Leads self.old (Event.GiveBack pass) found self.new) }
-        ensures err { OnErr result (self.new ≡ self.old) }
-    {
-        let stage = self.passes[pass as usize].stage();
-        let weight = h.vertex_weight(stage.vertex());
-        let from = stage.from() as usize;
-        let found = self.loads[from];
-        self.passes[pass as usize].give_back(pass)?;
-        self.loads[from] = found - weight;
-        Ok(found)
-    }
-
-    pub(crate) fn seed(&mut self, pass: u32) -> u64
-        requires { is_enabled self.old (Event.Seed pass) ≡ true }
-        ensures { Leads self.old (Event.Seed pass) result self.new }
-    {
-        let found = self.cursor;
-        self.cursor = found + 1;
-        self.passes[pass as usize].add_seed();
-        found
-    }
-
-    pub(crate) fn read(&self, word: Word) -> u64
-        requires { is_word self.now.setup word ≡ true }
-        ensures { result ≡ read (readings self.now) word }
-    {
-        match word {
-            Word::Claim(v) => self.claims[v as usize],
-            Word::Name(v) => u64::from(self.names[v as usize]),
-            Word::Load(b) => self.loads[b as usize],
-            Word::Count(e, b) => self.counts[self.count_place(e, b)],
-            Word::Spread(e) => self.spreads[e as usize],
-            Word::Next => self.next,
-            Word::Cursor => self.cursor,
+        let stage = self.stage(event.pass());
+        match event {
+            Event::Claim { vertex, .. } => Word::Claim(vertex),
+            Event::Unclaim { vertex, .. } => Word::Claim(vertex),
+            Event::Reserve { to, .. } => Word::Load(to),
+            Event::TakeBack { .. } => Word::Load(stage.to()),
+            Event::Draw { .. } => Word::Next,
+            Event::Name { .. } => Word::Name(stage.vertex()),
+            Event::Raise { .. } => Word::Count(self.net(stage, stage.raised_nets()), stage.to()),
+            Event::Widen { .. } => Word::Spread(self.net(stage, stage.raised_nets() - 1)),
+            Event::Lower { .. } => Word::Count(self.net(stage, stage.lowered_nets()), stage.from()),
+            Event::Narrow { .. } => Word::Spread(self.net(stage, stage.lowered_nets() - 1)),
+            Event::GiveBack { .. } => Word::Load(stage.from()),
+            Event::Seed { .. } => Word::Cursor,
+            Event::Peek { word, .. } => word,
+            Event::Split { .. } | Event::Join { .. } => self.ledger.first_word(),
         }
     }
 
-    pub(crate) fn peek(&self, pass: u32, word: Word) -> u64
-        requires { is_enabled self.now (Event.Peek pass word) ≡ true }
-        ensures { Leads self.now (Event.Peek pass word) result self.now }
+    /// What the event writes, which is enabled and found a number.
+    fn value(&self, h: &FlatHyper, event: Event, found: u64) -> u64
+        requires graph { h.now ≡ self.now.setup.graph }
+        requires enabled { is_enabled self.now event ≡ true }
+        requires most { write_for self.now.setup self.now.accounts event found < 2 ^ 64 }
+        requires least { removed_for self.now.setup self.now.accounts event ≤ found }
+        ensures { result ≡ write_for self.now.setup self.now.accounts event found }
     {
-        let _ = pass;
-        self.read(word)
-    }
-
-    /// What a Split or a Join reads.
-    fn first_word(&self) -> u64
-        ensures { result ≡ read (readings self.now) (first_word self.now.setup) }
-    {
-        match self.claims.first() {
-            Some(claim) => *claim,
-            None => self.next,
+        let stage = self.stage(event.pass());
+        match event {
+            Event::Claim { .. } => 1,
+            Event::Unclaim { .. } => 0,
+            Event::Reserve { vertex, .. } => found + h.vertex_weight(vertex),
+            Event::TakeBack { .. } => found - h.vertex_weight(stage.vertex()),
+            Event::GiveBack { .. } => found - h.vertex_weight(stage.vertex()),
+            Event::Name { .. } => u64::from(stage.to()),
+            Event::Draw { .. } => found + 1,
+            Event::Raise { .. } => found + 1,
+            Event::Widen { .. } => found + 1,
+            Event::Seed { .. } => found + 1,
+            Event::Lower { .. } => found - 1,
+            Event::Narrow { .. } => found - 1,
+            Event::Peek { .. } | Event::Split { .. } | Event::Join { .. } => found,
         }
     }
 
-    pub(crate) fn split(&mut self, pass: u32) -> Result<u64, NoMemory>
-        requires { is_enabled self.old (Event.Split pass) ≡ true }
-        ensures ok { IfOk result (λ found. Leads self.old (Event.Split pass) found self.new) }
+    /// Makes one event, which must be enabled, and tells what its pass found in the word. Where
+    /// there is no memory, nothing changes.
+    ///
+    /// The hypergraph must be the one that the books were made over.
+    pub fn step(&mut self, h: &FlatHyper, event: Event) -> Result<u64, NoMemory>
+        requires graph { h.now ≡ self.old.setup.graph }
+        requires enabled { is_enabled self.old event ≡ true }
+        ensures ok { IfOk result (λ found. Leads self.old event found self.new) }
         ensures err { OnErr result (self.new ≡ self.old) }
+        ensures balance { IsBooks self.new }
+        ensures setup { self.new.setup ≡ self.old.setup }
     {
-        let found = self.first_word();
-        self.passes.push(Pass::blank(self.alloc, true))?;
-        Ok(found)
-    }
-
-    pub(crate) fn join(&mut self, pass: u32, other: u32) -> Result<u64, NoMemory>
-        requires { is_enabled self.old (Event.Join pass other) ≡ true }
-        ensures ok { IfOk result (λ found. Leads self.old (Event.Join pass other) found self.new) }
-        ensures err { OnErr result (self.new ≡ self.old) }
-    {
-        let found = self.first_word();
-        let joined = self.passes[pass as usize].joined(self.alloc, &self.passes[other as usize])?;
-        self.passes[pass as usize] = joined;
-        self.passes[other as usize] = Pass::blank(self.alloc, false);
+        let word = self.word(event);
+        let found = self.ledger.read(word);
+        let value = self.value(h, event, found);
+        self.ledger.change(h, event, word, found)?;
+        self.ledger.write(word, value);
         Ok(found)
     }
 }

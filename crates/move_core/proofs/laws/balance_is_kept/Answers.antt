@@ -1,5 +1,5 @@
 -- The law, from the lemma on events.
-use Rattle.move_core.proofs.Law.{event_keeps}
+use Rattle.move_core.proofs.StateLaw.{event_keeps}
 use Rattle.move_core.proofs.RunLaws.{run_keeps}
 use Rattle.move_core.proofs.OpenLaws.{opened_books}
 use Rattle.move_core.proofs.laws.balance_is_kept.Goals as goal

@@ -13,5 +13,6 @@ invariant-loop-e l = record {
 abbrev pub invariant-loop-v : goal.invariant-loop-v
 invariant-loop-v l = record {
   wide : length l.counts.items ≡ net_count l.h * l.k;
-  each : (f b : ℕ) → f < net_count l.h → b < l.k → get_or l.counts.items (count_place l.k f b) 0 ≡ pins_with l.h l.p l.e (take l.v-index (net_of l.h l.e).pins) f b;
+  each : (f b : ℕ) → f < net_count l.h → b < l.k → get_or l.counts.items (count_place l.k f b) 0
+      ≡ pins_with l.h l.p l.e (take l.v-index (net_of l.h l.e).pins) f b;
 }

@@ -47,7 +47,9 @@ loop-v-preserved c =
     let o = c.in_ok-push-2.ensures in
     record {
       wide = length-set c.loop-v.index.items (slice_index c.pins-v-items.result.now c.loop-v.v-index) c.push-in-loop-v.new.self ∙ c.loop-v.invariant.wide;
-      each = index_more c.args.h.now c.loop-v.index.items c.loop-e.e (vertex_count c.args.h.now) c.loop-v.v-index (slice_index c.pins-v-items.result.now c.loop-v.v-index) pins c.index_mut.result.now c.push-in-loop-v.new.self c.loop-v.invariant.wide lj ev lv (omega arith) c.loop-v.invariant.each c.index_mut.ensures.value o.ok;
+      each = index_more c.args.h.now c.loop-v.index.items c.loop-e.e (vertex_count c.args.h.now) c.loop-v.v-index
+          (slice_index c.pins-v-items.result.now c.loop-v.v-index) pins c.index_mut.result.now c.push-in-loop-v.new.self c.loop-v.invariant.wide lj ev lv
+          (omega arith) c.loop-v.invariant.each c.index_mut.ensures.value o.ok;
     }
 
 pub loop-e-preserved : goal.loop-e-preserved

@@ -3,7 +3,7 @@ use Rattle.std.proofs.Common.{◌+◌, length-set, take, slice_index, ap, ◌∙
 use Rattle.std.proofs.lemmas.List.{take_all}
 use Rattle.std.proofs.lemmas.List.FromFn.{fill_by_all}
 use Rattle.hg_defs.specs.Partition.{load, weight_in}
-use Rattle.move_core.proofs.StepFacts.{same_default}
+use Rattle.move_core.proofs.TimesLaws.{same_default}
 use Rattle.hg_defs.proofs.SumLaws.{weight_in-le, total-take-le}
 use Rattle.move_core.proofs.OpenFacts.{loads_more}
 use Rattle.move_core.proofs.open.loads_of.Goals as goal
@@ -26,7 +26,8 @@ loop-v-preserved c =
     let q = c.vertex_weight.ensures.value in
     record {
       wide = length-set c.loop-v.loads.items (slice_index c.args.p.now c.loop-v.v) (c.index_mut.result.now + c.vertex_weight.result) ∙ w;
-      each = loads_more c.args.h.now.weights c.args.p.now c.loop-v.loads.items c.loop-v.v c.args.k (c.index_mut.result.now + c.vertex_weight.result) w (omega arith) (omega arith) b c.loop-v.invariant.each (omega arith);
+      each = loads_more c.args.h.now.weights c.args.p.now c.loop-v.loads.items c.loop-v.v c.args.k (c.index_mut.result.now + c.vertex_weight.result) w
+          (omega arith) (omega arith) b c.loop-v.invariant.each (omega arith);
     }
 
 pub returns : goal.returns

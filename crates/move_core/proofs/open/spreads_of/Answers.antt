@@ -15,5 +15,6 @@ loop-e-preserved c =
     let more = map-range_with_len_more f 0 c.loop-e.e c.loop-e.e (omega arith) in
     o.items
     ∙ ap (λ xs. xs ++ c.loop-b.spread ∷ []) c.loop-e.invariant
-    ∙ ap (λ x. map f (range_with_len 0 c.loop-e.e) ++ x ∷ []) (c.loop-b.invariant.spread ∙ ap (λ n. 64 + present_below (λ b. slice_index c.args.counts.now (count_place c.args.k c.loop-e.e b)) n) full)
+    ∙ ap (λ x. map f (range_with_len 0 c.loop-e.e) ++ x ∷ []) (c.loop-b.invariant.spread
+    ∙ ap (λ n. 64 + present_below (λ b. slice_index c.args.counts.now (count_place c.args.k c.loop-e.e b)) n) full)
     ∙ sym more

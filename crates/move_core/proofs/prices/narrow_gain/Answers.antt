@@ -10,8 +10,10 @@ use Rattle.move_core.proofs.prices.narrow_gain.Goals as goal
 pub returns : goal.returns
 returns c =
     let above = c.if-found-le64.false in
-    let s = subst (λ (o : Objective). price o (c.args.found - 65) + c.price_step.result ≡ price o (c.args.found - 65 + 1)) c.objective.ensures c.price_step.ensures.step in
-    let v = narrow_value c.args.h.now.objective (net_of c.args.h.now c.args.e).weight c.args.found c.net_weight.result c.price_step.result (omega arith) c.net_weight.ensures.value c.net_weight.ensures.bound s c.price_step.ensures.small in
+    let s = subst (λ (o : Objective). price o (c.args.found - 65) + c.price_step.result ≡ price o (c.args.found - 65 + 1))
+    c.objective.ensures c.price_step.ensures.step in
+    let v = narrow_value c.args.h.now.objective (net_of c.args.h.now c.args.e).weight c.args.found c.net_weight.result c.price_step.result (omega arith)
+    c.net_weight.ensures.value c.net_weight.ensures.bound s c.price_step.ensures.small in
     let v0 = v.0 in
     let v1 = v.1 in
     omega (arith, ints)
