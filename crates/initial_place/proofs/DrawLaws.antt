@@ -8,9 +8,9 @@ use Rattle.std.proofs.Math.Seq.{take-append_seam}
 use Rattle.rand_pcg.specs.Lcg.{Lcg}
 use Rattle.rand_pcg.specs.Pcg.{pcg32}
 use Rattle.hg_defs.specs.Hypergraph.{Hyper, vertex_count, vertices, is_free}
-use Rattle.hg_defs.specs.Placement.{generator, words, lower_first, drawn_order}
+use Rattle.hg_defs.specs.Placement.{generator, words, drawn_order}
 use Rattle.hg_defs.specs.PlacementLaws.{ListsFree}
-use Rattle.hg_defs.specs.Sorting.{sorted}
+use Rattle.hg_defs.specs.Sorting.{sorted, lower_first}
 use Rattle.hg_defs.proofs.SortLaws.{sort_is, sorted_permutation, lower_first_total, lower_first_exact}
 use Rattle.hg_base.proofs.RankLaws.{free_below}
 use Rattle.initial_place.specs.Drawn.{draw_of, draws_of}

@@ -5,20 +5,22 @@ use Rattle.hg_base.specs.declared.placement.GreedyEnd.TheVariants.{Overfills, No
 use Rattle.hg_defs.specs.Hypergraph.{Hyper}
 use Rattle.hg_defs.specs.Partition.{Fits}
 use Rattle.hg_defs.specs.Cost.{cost}
-use Rattle.initial_place.specs.Cheapest.{NoneFit, IsFirstCheapest}
+use Rattle.hg_defs.specs.Placement.{first_cheapest}
 
 -- a placement that fits, if there was one, and its cost
 pub record Leader : Type 0 where
   pub blocks : Option (List ℕ)
   pub cost : ℕ
 
--- the first of the cheapest of the partitions tried leads, or none of them fits
-abbrev pub LeadsBy : Hyper → ℕ → ℕ → List (List ℕ) → ℕ → Option (List ℕ) → Type 0
-LeadsBy h k l ps c None = (c ≡ 2 ^ 64 - 1) × NoneFit h k l ps
-LeadsBy h k l ps c (Some p) = (c ≡ cost h p) × IsFirstCheapest h k l ps p
+-- the cost of the placement that leads, or more than any cost
+abbrev pub leading_cost : Hyper → Option (List ℕ) → ℕ
+leading_cost h None = 2 ^ 64 - 1
+leading_cost h (Some p) = cost h p
 
-abbrev pub Leads : Hyper → ℕ → ℕ → List (List ℕ) → Leader → Type 0
-Leads h k l ps leader = LeadsBy h k l ps leader.cost leader.blocks
+-- of the partitions that were tried, the first of the cheapest that fit leads
+pub record Leads (h : Hyper) (k l : ℕ) (ps : List (List ℕ)) (leader : Leader) : Type 0 where
+  pub first : first_cheapest h k l ps ≡ leader.blocks
+  pub cost : leader.cost ≡ leading_cost h leader.blocks
 
 -- an end for the limit says that the partition doesn't fit
 abbrev pub EndsAt : Hyper → ℕ → ℕ → List ℕ → GreedyEnd → Type 0

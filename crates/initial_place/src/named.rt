@@ -1,10 +1,9 @@
 //! The nine named placements, and the best of them.
 
-ghost use Rattle.std.specs.Prelude.{◌≡◌, ℕ, ◌<◌, ◌≤◌, ◌^◌, ◌-◌, List, [], ◌∷◌, ◌++◌, IfOk, OnOk, None};
+ghost use Rattle.std.specs.Prelude.{◌≡◌, ℕ, ◌<◌, ◌≤◌, ◌^◌, ◌-◌, List, [], ◌∷◌, ◌++◌, IfOk, OnOk, Some, None};
 ghost use Rattle.hg_defs.specs.Hypergraph.{IsFixedWithin};
 ghost use Rattle.hg_defs.specs.Partition.{IsPartition, Obeys};
-ghost use Rattle.hg_defs.specs.Placement.{named};
-ghost use Rattle.initial_place.specs.Cheapest.{NoneFit, IsFirstCheapest};
+ghost use Rattle.hg_defs.specs.Placement as placements;
 ghost use Rattle.initial_place.specs.Leading.{Leads, IsTried};
 
 use crate::end::PlaceEnd;
@@ -94,8 +93,8 @@ pub fn named_best<R: Threads + Sync>(
     requires some { 2 ≤ k }
     requires few { k ≤ 256 }
     requires fixed { IsFixedWithin h.now k }
-    ensures best { IfOk result (IsFirstCheapest h.now k limit (named h.now k seed)) }
-    ensures none { result ≡ Err PlaceEnd.NoneFits → NoneFit h.now k limit (named h.now k seed) }
+    ensures best { IfOk result (λ blocks. placements.named_best h.now k limit seed ≡ Some blocks) }
+    ensures none { result ≡ Err PlaceEnd.NoneFits → placements.named_best h.now k limit seed ≡ None }
     ensures partition { IfOk result (IsPartition h.now k) }
     ensures fixes { IfOk result (Obeys h.now) }
 {

@@ -1,10 +1,10 @@
 //! The first partition of a descent.
 
-ghost use Rattle.std.specs.Prelude.{◌≡◌, ◌≤◌, IfOk};
+ghost use Rattle.std.specs.Prelude.{◌≡◌, ◌≤◌, IfOk, None};
 ghost use Rattle.hg_defs.specs.Hypergraph.{IsFixedWithin, Suits};
 ghost use Rattle.hg_defs.specs.Partition.{IsPartition, Obeys, Fits};
-ghost use Rattle.hg_defs.specs.Placement.{named};
-ghost use Rattle.initial_place.specs.Cheapest.{NoneFit, IsNoDearer};
+ghost use Rattle.hg_defs.specs.Placement as placements;
+ghost use Rattle.initial_place.specs.Cheapest.{IsNoDearer};
 
 use crate::end::PlaceEnd;
 use crate::named::named_best;
@@ -34,8 +34,8 @@ pub fn place<R: Threads + Sync>(
     ensures partition { IfOk result (IsPartition h.now k) }
     ensures fits { IfOk result (Fits h.now k limit) }
     ensures fixes { IfOk result (Obeys h.now) }
-    ensures cost { IfOk result (IsNoDearer h.now k limit (named h.now k seed)) }
-    ensures none { result ≡ Err PlaceEnd.NoneFits → NoneFit h.now k limit (named h.now k seed) }
+    ensures cost { IfOk result (IsNoDearer h.now k limit (placements.named h.now k seed)) }
+    ensures none { result ≡ Err PlaceEnd.NoneFits → placements.named_best h.now k limit seed ≡ None }
 {
     let named = named_best(rt, alloc, h, k, limit, seed)?;
     Ok(searched(rt, alloc, h, k, limit, seed, named)?)

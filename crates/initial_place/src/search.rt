@@ -21,9 +21,7 @@ mod queue;
 mod rest;
 mod tables;
 
-use candidate::{better, candidate, cheaper, frame_of};
-use cells::Labels;
-use draws::Draws;
+use candidate::{candidate, cheaper, frame_of, labels_of, thrown};
 use frame::Frame;
 use hg_base::{Blocks, NoMemory};
 use incidence::Hypergraph;
@@ -34,11 +32,14 @@ use std::thread::{Threads, map_indices};
 /// The most cells that the table of pulls may have.
 const MOST_CELLS: u64 = 1 << 23;
 
-/// How many candidates of a kind are tried, and how many perturbations: fewer where they cost more.
-fn effort(h: &Hypergraph, k: u32) -> (u64, u32)
+/// How many perturbations are made of one partition, side by side.
+const SIDE_BY_SIDE: usize = 4;
+
+/// How many candidates of a kind are tried, and in how many rounds perturbations are made: fewer
+/// where they cost more.
+fn effort(h: &Hypergraph, k: u32) -> (u64, u64)
     requires { k ≤ 256 }
-    ensures tries { result.0 ≤ 8 }
-    ensures throws { result.1 ≤ 50 }
+    ensures { result.0 ≤ 8 }
 {
     let mut pins: u64 = 0;
     for e in 0..h.nets() {
@@ -46,9 +47,9 @@ fn effort(h: &Hypergraph, k: u32) -> (u64, u32)
     }
     let cells = u64::from(h.vertices()) * u64::from(k) + u64::from(h.nets()) * u64::from(k) / 8;
     let unit = pins.saturating_add(cells).max(1);
-    let tries = (200_000 / unit).max(2).min(8);
-    let throws = (1_000_000 / unit).max(8).min(50);
-    (tries, throws as u32)
+    let tries = (100_000 / unit).max(2).min(4);
+    let rounds = (100_000 / unit).max(2).min(4);
+    (tries, rounds)
 }
 
 /// Looks for a partition that is cheaper than a given one, fits and obeys the fixes. The answer
@@ -75,9 +76,9 @@ pub(crate) fn searched<R: Threads + Sync>(
     }
     let frame = frame_of(alloc, h, k)?;
     let rest = Rest::of(alloc, h)?;
-    let (tries, throws) = effort(h, k);
+    let (tries, rounds) = effort(h, k);
     let best = best_of_tries(rt, alloc, h, k, &frame, &rest, limit, seed, tries, best)?;
-    best_of_throws(alloc, h, k, &frame, &rest, limit, seed, throws, best)
+    best_of_throws(rt, alloc, h, k, &frame, &rest, limit, seed, rounds, best)
 }
 
 /// The cheapest of growings, bisections and a given partition.
@@ -105,18 +106,20 @@ fn best_of_tries<R: Threads + Sync>(
     ensures { IfOk result (IsNoWorse h.now k limit best) }
 {
     let count = 2 * tries as usize;
-    let candidates = map_indices(rt, alloc, count, &|i: usize| -> Result<Blocks, NoMemory> {
-        candidate(alloc, h, frame, rest, limit, seed, i as u64, tries)
-    })?;
-    let mut best = best;
-    for tried in candidates {
-        best = cheaper(alloc, h, k, limit, best, tried?)?;
-    }
-    Ok(best)
+    let candidates = map_indices(
+        rt,
+        alloc,
+        count,
+        &|i: usize| -> Result<Blocks, NoMemory> {
+            candidate(alloc, h, frame, rest, limit, seed, i as u64, tries)
+        },
+    )?;
+    cheapest(alloc, h, k, limit, best, candidates)
 }
 
-/// The cheapest of perturbations and a given partition: each perturbs the best one so far.
-fn best_of_throws(
+/// The cheapest of perturbations and a given partition: in each round some of the best one so far.
+fn best_of_throws<R: Threads + Sync>(
+    rt: &R,
     alloc: Global,
     h: &Hypergraph,
     k: u32,
@@ -124,7 +127,7 @@ fn best_of_throws(
     rest: &Rest,
     limit: u64,
     seed: u64,
-    throws: u32,
+    rounds: u64,
     best: Blocks,
 ) -> Result<Blocks, NoMemory>
     requires some { 2 ≤ k }
@@ -137,15 +140,67 @@ fn best_of_throws(
     requires best { IsPartition h.now k best }
     ensures { IfOk result (IsNoWorse h.now k limit best) }
 {
-    let mut start = Labels::start(alloc, h.vertices(), k, 0)?;
-    let mut search = frame.search_all(alloc, h, limit, Draws::start(seed, u64::MAX))?;
     let mut best = best;
-    for _ in 0..throws {
-        start.copy_slice(best.slice());
-        search.reset(h, &start);
-        search.scatter(h);
-        let thrown = better(alloc, h, rest, &mut search)?;
-        best = cheaper(alloc, h, k, limit, best, thrown)?;
+    for round in 0..rounds {
+        best = best_of_round(rt, alloc, h, k, frame, rest, limit, seed, round, best)?;
+    }
+    Ok(best)
+}
+
+/// The cheapest of some perturbations of a given partition, and itself.
+fn best_of_round<R: Threads + Sync>(
+    rt: &R,
+    alloc: Global,
+    h: &Hypergraph,
+    k: u32,
+    frame: &Frame,
+    rest: &Rest,
+    limit: u64,
+    seed: u64,
+    round: u64,
+    best: Blocks,
+) -> Result<Blocks, NoMemory>
+    requires some { 2 ≤ k }
+    requires few { k ≤ 256 }
+    requires suits { Suits h.now k }
+    requires fixed { IsFixedWithin h.now k }
+    requires vertices { 0 < vertex_count h.now }
+    requires frame { frame.now ≡ record { vertices = vertex_count h.now; whole = vertex_count h.now; all = k; blocks = k } }
+    requires rest { rest.now ≡ vertex_count h.now }
+    requires best { IsPartition h.now k best }
+    ensures { IfOk result (IsNoWorse h.now k limit best) }
+{
+    let start = labels_of(alloc, h, k, best.slice())?;
+    let candidates = map_indices(
+        rt,
+        alloc,
+        SIDE_BY_SIDE,
+        &|i: usize| -> Result<Blocks, NoMemory> {
+            thrown(alloc, h, frame, rest, &start, limit, seed, round, i as u64)
+        },
+    )?;
+    cheapest(alloc, h, k, limit, best, candidates)
+}
+
+/// The cheapest of some candidates and a given partition, the first at a tie.
+fn cheapest(
+    alloc: Global,
+    h: &Hypergraph,
+    k: u32,
+    limit: u64,
+    best: Blocks,
+    candidates: Vec<Result<Blocks, NoMemory>>,
+) -> Result<Blocks, NoMemory>
+    requires some { 2 ≤ k }
+    requires few { k ≤ 256 }
+    requires suits { Suits h.now k }
+    requires fixed { IsFixedWithin h.now k }
+    requires best { IsPartition h.now k best }
+    ensures { IfOk result (IsNoWorse h.now k limit best) }
+{
+    let mut best = best;
+    for tried in candidates {
+        best = cheaper(alloc, h, k, limit, best, tried?)?;
     }
     Ok(best)
 }

@@ -69,8 +69,51 @@ pub(crate) fn candidate(
     better(alloc, h, rest, &mut search)
 }
 
+/// The blocks of a partition as labels.
+pub(crate) fn labels_of(
+    alloc: Global,
+    h: &Hypergraph,
+    k: u32,
+    blocks: &[u32],
+) -> Result<Labels, NoMemory>
+    requires some { 0 < k }
+    requires partition { IsPartition h.now k blocks.now }
+    ensures { IfOk result (λ labels. labels ≡ record { count = vertex_count h.now; bound = k }) }
+{
+    let mut labels = Labels::start(alloc, h.vertices(), k, 0)?;
+    labels.copy_slice(blocks);
+    Ok(labels)
+}
+
+/// A candidate that perturbs a partition, by a stream of this number of a round.
+pub(crate) fn thrown(
+    alloc: Global,
+    h: &Hypergraph,
+    frame: &Frame,
+    rest: &Rest,
+    start: &Labels,
+    limit: u64,
+    seed: u64,
+    round: u64,
+    number: u64,
+) -> Result<Blocks, NoMemory>
+    requires part { frame.now.vertices ≡ vertex_count h.now }
+    requires vertices { 0 < vertex_count h.now }
+    requires two { 2 ≤ frame.now.blocks }
+    requires rest { rest.now ≡ vertex_count h.now }
+    requires start { start.now ≡ record { count = frame.now.vertices; bound = frame.now.blocks } }
+{
+    let stream = u64::MAX
+        .wrapping_sub(round.wrapping_mul(STREAMS))
+        .wrapping_sub(number);
+    let mut search = frame.search_all(alloc, h, limit, Draws::start(seed, stream))?;
+    search.reset(h, start);
+    search.scatter(h);
+    better(alloc, h, rest, &mut search)
+}
+
 /// Repairs and improves a candidate, and places the rest.
-pub(crate) fn better(
+fn better(
     alloc: Global,
     h: &Hypergraph,
     rest: &Rest,

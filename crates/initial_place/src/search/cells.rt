@@ -73,7 +73,12 @@ impl Model for Labels {
 
 impl Labels {
     /// Makes a list of this number.
-    pub(crate) fn start(alloc: Global, count: u32, bound: u32, item: u32) -> Result<Self, AllocError>
+    pub(crate) fn start(
+        alloc: Global,
+        count: u32,
+        bound: u32,
+        item: u32,
+    ) -> Result<Self, AllocError>
         requires { item < bound }
         ensures { IfOk result (λ labels. labels ≡ record { count = count; bound = bound }) }
     {

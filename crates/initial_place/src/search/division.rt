@@ -170,7 +170,13 @@ impl Division {
     fn into_labels(self) -> Labels
         ensures { result ≡ record { count = self.vertices; bound = self.blocks } }
     {
-        let Division { vertices: _, blocks: _, limit: _, labels, parts: _ } = self;
+        let Division {
+            vertices: _,
+            blocks: _,
+            limit: _,
+            labels,
+            parts: _,
+        } = self;
         labels
     }
 

@@ -147,7 +147,11 @@ impl Frame {
         ensures { result < 2 }
     {
         let fix = self.fixes.get(v);
-        if fix < self.first.saturating_add(self.low_blocks()) { 0 } else { 1 }
+        if fix < self.first.saturating_add(self.low_blocks()) {
+            0
+        } else {
+            1
+        }
     }
 
     /// The sides at first.
@@ -323,7 +327,14 @@ impl Frame {
         let mut frame = if side == 0 {
             Frame::start(alloc, count, self.whole, all, self.first, low)?
         } else {
-            Frame::start(alloc, count, self.whole, all, self.first + low, self.blocks - low)?
+            Frame::start(
+                alloc,
+                count,
+                self.whole,
+                all,
+                self.first + low,
+                self.blocks - low,
+            )?
         };
         self.describe_side(numbers, count, &mut frame);
         Ok(frame)
@@ -339,7 +350,12 @@ impl Frame {
         for v in 0..self.vertices {
             let number = numbers.get(v);
             if number < count {
-                frame.describe(number, self.names.get(v), self.weights.get(v), self.fixes.get(v));
+                frame.describe(
+                    number,
+                    self.names.get(v),
+                    self.weights.get(v),
+                    self.fixes.get(v),
+                );
             }
         }
     }

@@ -207,7 +207,10 @@ impl Search {
     {
         let last = self.blocks() - 1;
         for block in 0..last {
-            let left = self.tables.load(last).saturating_add(self.tables.load(block));
+            let left = self
+                .tables
+                .load(last)
+                .saturating_add(self.tables.load(block));
             self.grow(h, block, last, left / u64::from(last - block + 1), most)?;
         }
         Ok(())
@@ -270,7 +273,7 @@ impl Search {
     }
 
     /// Throws a ball of vertices into a drawn block, as far as there is room.
-    pub(crate) fn scatter(&mut self, h: &Hypergraph) 
+    pub(crate) fn scatter(&mut self, h: &Hypergraph)
         requires suits { IsShapeOf h.now self.old }
         requires vertices { 0 < self.old.vertices }
         requires blocks { 0 < self.old.blocks }
@@ -295,7 +298,11 @@ impl Search {
         ensures { self.new ≡ self.old }
     {
         let v = self.order.get(place);
-        if !self.locked.get(v) && self.tables.has_room(block, self.tables.weight(v), self.heaviest()) {
+        if !self.locked.get(v)
+            && self
+                .tables
+                .has_room(block, self.tables.weight(v), self.heaviest())
+        {
             self.tables.shift(h, v, block);
         }
     }

@@ -97,8 +97,16 @@ impl Tables {
             weights,
             loads: Cells::of(vec![in alloc; 0u64; blocks as usize]?),
             limits,
-            counts: Grid::of(vec![in alloc; 0u32; cell_count(nets, blocks)]?, nets, blocks),
-            pulls: Grid::of(vec![in alloc; 0i64; cell_count(vertices, blocks)]?, vertices, blocks),
+            counts: Grid::of(
+                vec![in alloc; 0u32; cell_count(nets, blocks)]?,
+                nets,
+                blocks,
+            ),
+            pulls: Grid::of(
+                vec![in alloc; 0i64; cell_count(vertices, blocks)]?,
+                vertices,
+                blocks,
+            ),
             alone: Cells::of(vec![in alloc; 0i64; vertices as usize]?),
             whole: Cells::of(vec![in alloc; 0i64; vertices as usize]?),
             touched: Listed::start(alloc, vertices)?,
@@ -468,7 +476,8 @@ impl Tables {
         let weight = self.weights.get(v);
         self.cost = self.cost.wrapping_sub(self.gain(v, to));
         self.labels.set(v, to);
-        self.loads.set(from, self.loads.get(from).wrapping_sub(weight));
+        self.loads
+            .set(from, self.loads.get(from).wrapping_sub(weight));
         self.loads.set(to, self.loads.get(to).wrapping_add(weight));
     }
 

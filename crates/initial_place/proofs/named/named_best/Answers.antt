@@ -3,15 +3,15 @@ use Rattle.std.proofs.Common.{◌≡◌, ◌-◌, ◌^◌, ℕ, List, [], ◌∷
 use Rattle.hg_defs.specs.Partition.{IsPartition, Obeys}
 use Rattle.hg_defs.specs.LeastLoaded.{greedy, least_loaded, heaviest_first}
 use Rattle.hg_defs.specs.PlacementLaws.{ListsFree, IsPlaceable}
-use Rattle.hg_defs.specs.Placement.{drawn_order, named}
-use Rattle.hg_defs.proofs.PlacementLaws.{heaviest_first-lists_free, least_loaded-partition, least_loaded-obeys}
+use Rattle.hg_defs.specs.Placement.{drawn_order, named, first_cheapest}
+use Rattle.hg_defs.proofs.PlacementLaws.{heaviest_first-lists_free}
 use Rattle.std.specs.Option.{ok_or}
 use Rattle.initial_place.specs.declared.end.PlaceEnd.{PlaceEnd}
 use Rattle.initial_place.specs.declared.end.PlaceEnd.TheVariants.{NoneFits}
-use Rattle.initial_place.specs.Cheapest.{IsFirstCheapest}
+use Rattle.hg_defs.proofs.NamedLaws.{named-partitions, named-obey}
 use Rattle.initial_place.specs.Leading.{Leader, Leads}
 use Rattle.initial_place.proofs.DrawLaws.{drawn_order-lists_free}
-use Rattle.initial_place.proofs.LeadLaws.{drawn_upto, drawn_next, drawn_all, each_named, tried_same, none_tried, best_of, none_of, best_is}
+use Rattle.initial_place.proofs.LeadLaws.{drawn_upto, drawn_next, drawn_all, tried_same, none_tried, best_of, none_of, best_is}
 use Rattle.initial_place.proofs.named.named_best.Goals as goal
 
 pub least_loaded-requires-clause-listed : goal.least_loaded-requires-clause-listed
@@ -59,8 +59,8 @@ returns-clause-best g c =
     let l = c.args.limit in
     let led = subst (λ (ps : List (List ℕ)). Leads h k l ps c.streams.leader) (drawn_all h k c.args.seed c.streams.stream c.streams-test.false) c.streams.invariant in
     let is : c.ok_or.result ≡ ok_or c.streams.leader.blocks NoneFits = c.ok_or.ensures.value ∙ ap (λ (o : Option (List ℕ)). ok_or o NoneFits) c.into_blocks.ensures in
-    subst (λ (r : Result (List ℕ) PlaceEnd). IfOk r (IsFirstCheapest h k l (named h k c.args.seed))) (sym is)
-    (best_of h k l (named h k c.args.seed) c.streams.leader.cost c.streams.leader.blocks led)
+    subst (λ (r : Result (List ℕ) PlaceEnd). IfOk r (λ p. first_cheapest h k l (named h k c.args.seed) ≡ Some p)) (sym is)
+    (best_of h k l (named h k c.args.seed) c.streams.leader.blocks led.first)
 
 pub returns-clause-none : goal.returns-clause-none
 returns-clause-none g c e =
@@ -69,18 +69,16 @@ returns-clause-none g c e =
     let l = c.args.limit in
     let led = subst (λ (ps : List (List ℕ)). Leads h k l ps c.streams.leader) (drawn_all h k c.args.seed c.streams.stream c.streams-test.false) c.streams.invariant in
     let is : c.ok_or.result ≡ ok_or c.streams.leader.blocks NoneFits = c.ok_or.ensures.value ∙ ap (λ (o : Option (List ℕ)). ok_or o NoneFits) c.into_blocks.ensures in
-    none_of h k l (named h k c.args.seed) c.streams.leader.cost c.streams.leader.blocks led (sym is ∙ e)
+    none_of h k l (named h k c.args.seed) c.streams.leader.blocks led.first (sym is ∙ e)
 
 pub returns-clause-partition : goal.returns-clause-partition
 returns-clause-partition g c =
     best_is c.args.h.now c.args.k c.args.limit (named c.args.h.now c.args.k c.args.seed) (IsPartition c.args.h.now c.args.k)
-    (each_named c.args.h.now c.args.k c.args.seed (IsPartition c.args.h.now c.args.k)
-    (λ order. least_loaded-partition c.args.h.now c.args.k order c.vertices-vertices.ensures.sound c.requires.fixed (omega (arith, c.requires.some))))
+    (named-partitions c.args.h.now c.args.k c.args.seed c.vertices-vertices.ensures.sound c.requires.fixed (omega (arith, c.requires.some)))
     c.ok_or.result (returns-clause-best g c)
 
 pub returns-clause-fixes : goal.returns-clause-fixes
 returns-clause-fixes g c =
     best_is c.args.h.now c.args.k c.args.limit (named c.args.h.now c.args.k c.args.seed) (Obeys c.args.h.now)
-    (each_named c.args.h.now c.args.k c.args.seed (Obeys c.args.h.now)
-    (λ order. least_loaded-obeys c.args.h.now c.args.k order c.vertices-vertices.ensures.sound c.requires.fixed (omega (arith, c.requires.some))))
+    (named-obey c.args.h.now c.args.k c.args.seed c.vertices-vertices.ensures.sound c.requires.fixed (omega (arith, c.requires.some)))
     c.ok_or.result (returns-clause-best g c)

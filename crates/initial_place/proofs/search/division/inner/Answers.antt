@@ -6,7 +6,11 @@ use Rattle.initial_place.proofs.search.division.inner.Goals as goal
 use Rattle.initial_place.proofs.search.division.inner.Goals.{then-len-gt1+in_ok-push_net, else-len-gt1}
 
 -- the facts before the net is added
-room : (c : goal.After-as_slice) → HasRoom c.args.h.now c.loop-e.flat c.loop-e.e c.args.count (let l : c.loop-e.e < net_count c.args.h.now = omega (arith, c.loop-e-test.true, c.nets-e-end.ensures.count) in l) c.loop-e.invariant c.net_weight.result (length c.as_slice.result.now)
+room :
+    (c : goal.After-as_slice)
+    → HasRoom c.args.h.now c.loop-e.flat c.loop-e.e c.args.count
+    (let l : c.loop-e.e < net_count c.args.h.now = omega (arith, c.loop-e-test.true, c.nets-e-end.ensures.count) in l) c.loop-e.invariant
+    c.net_weight.result (length c.as_slice.result.now)
 room c =
     inner_room c.args.h.now c.loop-e.flat c.loop-e.e c.args.count (omega (arith, c.loop-e-test.true, c.nets-e-end.ensures.count)) c.loop-e.invariant
     c.net_weight.result (length c.as_slice.result.now) c.vertices-vertices.ensures.bounds c.net_weight.ensures.value

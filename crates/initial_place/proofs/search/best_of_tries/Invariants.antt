@@ -1,5 +1,0 @@
-use Rattle.initial_place.specs.NoWorse.{IsNoWorse}
-use Rattle.initial_place.proofs.search.best_of_tries.Given as goal
-
-abbrev pub invariant-loop-tried : goal.invariant-loop-tried
-invariant-loop-tried g l = IsNoWorse l.h l.k l.limit l.fn.best l.best
