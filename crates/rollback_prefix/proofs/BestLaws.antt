@@ -1,5 +1,5 @@
 -- Laws of the best prefix that was found among the first ones.
-use Rattle.std.proofs.Common.{◌≡◌, ◌≢◌, ℕ, ◌+◌, ◌<◌, ◌≤◌, ◌⊎◌, inl, inr, Bool, true, false, ℤ, pos, ◌-ℤ◌, List, length, take, refl, sym, ap, ◌∙◌, subst, arith}
+use Rattle.std.proofs.Common.{◌≡◌, ℕ, ◌+◌, ◌<◌, ◌≤◌, ◌⊎◌, inl, inr, true, false, ℤ, pos, ◌-ℤ◌, List, length, sym, ap, ◌∙◌, subst, arith}
 use lib.Signed.{lt_z}
 use Rattle.std.proofs.lemmas.Int.{ints}
 use Rattle.std.proofs.lemmas.List.{take_all}
@@ -9,7 +9,6 @@ use Rattle.hg_defs.specs.Hypergraph.{Hyper}
 use Rattle.hg_defs.specs.Partition.{Fits}
 use Rattle.hg_defs.specs.Cost.{cost}
 use Rattle.hg_defs.specs.Replay.{replay, replay_first, best_prefix}
-use Rattle.hg_defs.specs.ReplayLaws.{IsBestPrefix}
 use Rattle.hg_defs.proofs.ReplayLaws.{only_best_prefix}
 
 -- the best of the prefixes up to a length

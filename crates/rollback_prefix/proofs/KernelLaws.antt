@@ -1,7 +1,7 @@
 -- Laws of one net while moves are replayed: what it costs, what it saves, and the loop over the moves of its pins.
 use mir.Val.{to_z, of_z}
 use mir.Syntax.{w64}
-use Rattle.std.proofs.Common.{◌≤ℤ◌, ◌≡◌, ◌≢◌, ℕ, zero, suc, ◌+◌, ◌-◌, ◌*◌, ◌^◌, ◌<◌, ◌≤◌, ◌⊎◌, inl, inr, List, [], ◌∷◌, map, take, length, get_or, set, All, AllPairs, Contains, slice_set, ℤ, pos, ◌+ℤ◌, ◌-ℤ◌, refl, sym, ap, ap₂, ◌∙◌, subst, arith, add-one, add-suc, nat_eq, get_or-set_same, get_or-set_other, length-take, length-set}
+use Rattle.std.proofs.Common.{◌≤ℤ◌, ◌≡◌, ℕ, zero, suc, ◌+◌, ◌-◌, ◌*◌, ◌^◌, ◌<◌, ◌≤◌, ◌⊎◌, inl, inr, List, [], ◌∷◌, map, take, length, get_or, set, All, Contains, slice_set, ℤ, pos, ◌+ℤ◌, ◌-ℤ◌, refl, sym, ap, ap₂, ◌∙◌, subst, arith, add-one, nat_eq, get_or-set_same, get_or-set_other, length-take, length-set}
 use Rattle.std.specs.Set.{distinct_count}
 use Rattle.std.proofs.Math.Nat.{mul-le-mul_left}
 use Rattle.std.proofs.lemmas.Int.{ints}
@@ -10,17 +10,16 @@ use Rattle.std.proofs.lemmas.List.Elements.{All-contains, Contains-get_or}
 use Rattle.std.proofs.lemmas.List.Kept.{AllPairs-from_increasing}
 use Rattle.std.proofs.lemmas.Bool.{cases_eq, cases_lt}
 use Rattle.hg_defs.specs.declared.moves.Move.{Move}
-use Rattle.hg_defs.specs.Hypergraph.{Hyper, IsNet, vertex_count, net_count, net_of}
-use Rattle.hg_defs.specs.Partition.{IsPartition, block_of}
+use Rattle.hg_defs.specs.Hypergraph.{Hyper, net_count, net_of}
+use Rattle.hg_defs.specs.Partition.{block_of}
 use Rattle.hg_defs.specs.Pins.{pins_in}
-use Rattle.hg_defs.specs.Cost.{connectivity, price, net_cost}
+use Rattle.hg_defs.specs.Cost.{connectivity, price}
 use Rattle.hg_defs.specs.Replay.{replay, replay_first}
 use Rattle.hg_defs.proofs.ReplayLaws.{replay_first_more, length-replay}
 use Rattle.hg_defs.proofs.DistinctLaws.{pins_in-times, times_of, pins_in-le, blocks_of_pins, Contains-from_times, Contains-from_map}
 use Rattle.hg_defs.proofs.MoveLaws.{net_is}
 use Rattle.rollback_prefix.specs.Gains.{IsReplay, saved_by_net}
 use Rattle.rollback_prefix.specs.Pins.{AreZeros, ArePinMoves, CountsPins, counted, counts_after}
-use Rattle.rollback_prefix.specs.Steps.{StartFrom}
 use Rattle.rollback_prefix.proofs.PinLaws.{counts_shifted, counted_is, pin_counted}
 use Rattle.rollback_prefix.proofs.StepLaws.{no_move, still_there, replay_partition, lands}
 

@@ -1,36 +1,35 @@
 -- Laws of what nets save together: net by net, part by part, and all nets that moves touch.
-use Rattle.std.proofs.Common.{◌≡◌, ◌≢◌, ℕ, zero, suc, ◌+◌, ◌-◌, ◌*◌, ◌^◌, ◌<◌, ◌≤◌, ◌⊎◌, inl, inr, List, [], ◌∷◌, take, drop, length, get_or, replicate, All, AllPairs, Contains, ℤ, pos, ◌+ℤ◌, ◌-ℤ◌, ◌≤ℤ◌, refl, sym, ap, ap₂, ◌∙◌, subst, arith, add-one, if◌then◌else◌, nat_eq, Bool, true, false, map, ◌++◌, ◌/◌, ◌%◌, min}
+use Rattle.std.proofs.Common.{◌≡◌, ◌≢◌, ℕ, zero, suc, ◌+◌, ◌*◌, ◌^◌, ◌<◌, ◌≤◌, List, [], ◌∷◌, take, drop, length, get_or, replicate, All, AllPairs, Contains, ℤ, pos, ◌+ℤ◌, ◌-ℤ◌, ◌≤ℤ◌, refl, sym, ap, ◌∙◌, subst, arith, if◌then◌else◌, nat_eq, Bool, true, false, ◌++◌, ◌/◌, ◌%◌, min}
 use Rattle.std.proofs.Math.Seq.{take-add}
 use Rattle.std.proofs.lemmas.Int.{ints}
 use Rattle.std.proofs.lemmas.List.{take_all, length-replicate}
-use Rattle.std.proofs.lemmas.Bool.{cases_eq, eqb-true, eqb-false}
+use Rattle.std.proofs.lemmas.Bool.{eqb-true, eqb-false}
 use Rattle.std.proofs.lemmas.List.Elements.{All-head, All-tail}
 use Rattle.hg_defs.specs.declared.moves.Move.{Move}
 use Rattle.hg_defs.specs.Sums.{total, sum_below}
-use Rattle.hg_defs.specs.Hypergraph.{Net, Hyper, IsWithinLimits, IsHypergraph, vertex_count, net_count, net_of}
+use Rattle.hg_defs.specs.Hypergraph.{Net, Hyper, IsWithinLimits, net_count, net_of}
 use Rattle.hg_defs.specs.Incidence.{nets_of}
 use Rattle.hg_defs.specs.Cost.{cost, net_cost}
-use Rattle.hg_defs.specs.Replay.{replay_first, replay_gain}
+use Rattle.hg_defs.specs.Replay.{replay_first}
 use Rattle.hg_defs.proofs.SumLaws.{total-take_more, total-append, total-take-le, total-take-drop, total-le, total-by_index, sum_below-change, sum_below-same, sum_below-le, total-same}
 use Rattle.hg_base.proofs.CountLaws.{net_cost-le}
 use Rattle.std.specs.List.{range_with_len, AllZip}
 use Rattle.std.specs.Set.{is_member}
-use Rattle.std.proofs.lemmas.List.{take-append-le, get_or_default}
+use Rattle.std.proofs.lemmas.List.{take-append-le}
 use Rattle.std.proofs.lemmas.List.FromFn.{length-range_with_len, get_or-range_with_len}
 use Rattle.std.proofs.lemmas.List.Elements.{Contains-get_or, All-take, All-drop}
 use Rattle.std.proofs.lemmas.Bool.Decides.{Decides-eqb}
 use Rattle.std.proofs.lemmas.Map.Made.{is_member-Decides}
 use Rattle.std.proofs.Math.Nat.{mul-le-mul_right}
 use Rattle.std.proofs.lemmas.Grind.{div_ceil_times}
-use Rattle.hg_defs.specs.Cost.{connectivity, price}
-use Rattle.hg_defs.specs.Partition.{block_of}
+use Rattle.hg_defs.specs.Cost.{price}
 use Rattle.std.specs.Set.{distinct_count}
 use Rattle.hg_defs.proofs.PlacementLaws.{Contains_filter}
 use Rattle.hg_defs.specs.Incidence.{is_on}
 use Rattle.rollback_prefix.specs.Steps.{AreReplayGains}
 use Rattle.rollback_prefix.proofs.StepLaws.{no_move}
 use Rattle.rollback_prefix.proofs.KernelLaws.{quiet_one}
-use Rattle.rollback_prefix.specs.Gains.{AreSavings, AreSmall, AreTouched, cost_of_nets, saved_by_nets, saved_by_net, pin_weight, part_of}
+use Rattle.rollback_prefix.specs.Gains.{AreSavings, AreSmall, AreTouched, cost_of_nets, saved_by_net, pin_weight, part_of}
 
 -- ---- small sums
 

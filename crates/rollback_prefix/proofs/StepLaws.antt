@@ -1,16 +1,16 @@
 -- Laws of moves of different vertices, each from its block in the partition that is replayed.
-use Rattle.std.proofs.Common.{◌≡◌, ◌≢◌, ℕ, zero, suc, ◌+◌, ◌-◌, ◌<◌, ◌≤◌, ◌⊎◌, inl, inr, List, [], ◌∷◌, map, take, length, get_or, All, AllPairs, Contains, slice_set, refl, sym, ap, ap₂, ◌∙◌, subst, arith, add-one, pos, get_or-set_same, get_or-set_other, length-take, length-set}
+use Rattle.std.proofs.Common.{◌≡◌, ◌≢◌, ℕ, zero, suc, ◌+◌, ◌<◌, ◌≤◌, ◌⊎◌, inl, inr, List, [], ◌∷◌, take, length, get_or, All, AllPairs, Contains, slice_set, refl, sym, ap, ◌∙◌, subst, arith, pos, get_or-set_same, get_or-set_other, length-take, length-set}
 use Rattle.std.proofs.lemmas.List.{get_or-take, get_or_default}
-use Rattle.std.proofs.lemmas.List.Elements.{All-take, All-head, All-tail, Contains-get_or}
+use Rattle.std.proofs.lemmas.List.Elements.{All-take, Contains-get_or}
 use Rattle.std.proofs.lemmas.Bool.{cases_eq, cases_lt}
 use Rattle.hg_defs.specs.declared.moves.Move.{Move}
-use Rattle.hg_defs.specs.Hypergraph.{Hyper, vertex_count}
+use Rattle.hg_defs.specs.Hypergraph.{Hyper}
 use Rattle.hg_defs.specs.Partition.{IsPartition, block_of}
 use Rattle.hg_defs.specs.Replay.{replay, replay_first}
-use Rattle.hg_defs.proofs.ReplayLaws.{replay_first_more, length-replay, replay-blocks, replay-apart}
+use Rattle.hg_defs.proofs.ReplayLaws.{length-replay, replay-blocks, replay-apart}
 use Rattle.round_log.specs.Rounds.{IsOrder}
 use Rattle.rollback_prefix.specs.Pins.{ArePlacesAt, ArePinMoves}
-use Rattle.rollback_prefix.specs.Steps.{Starts, StartFrom}
+use Rattle.rollback_prefix.specs.Steps.{StartFrom}
 
 abbrev pub no_move : Move
 no_move = record { vertex = 0; from = 0; to = 0; worker = 0; booked = pos 0 }

@@ -1,9 +1,9 @@
 -- Laws of moves that are undone: where they start from, and what is left when the later ones are undone.
-use Rattle.std.proofs.Common.{◌≡◌, ◌≢◌, ℕ, zero, suc, ◌+◌, ◌-◌, ◌<◌, ◌≤◌, List, [], ◌∷◌, ◌++◌, map, take, drop, length, get_or, All, AllPairs, Contains, slice_set, refl, sym, ap, ◌∙◌, subst, arith, length-drop, length-take, get_or-drop}
+use Rattle.std.proofs.Common.{◌≡◌, ◌≢◌, ℕ, zero, suc, ◌+◌, ◌-◌, ◌<◌, ◌≤◌, List, [], ◌∷◌, map, take, drop, length, get_or, All, AllPairs, Contains, slice_set, refl, sym, ap, ◌∙◌, subst, arith, length-drop, length-take, get_or-drop}
 use Rattle.std.proofs.lemmas.List.{get_or_default, get_or-take, take-append-drop, take_all}
 use Rattle.std.proofs.lemmas.List.Elements.{All-map, All-drop, Contains-get_or}
 use Rattle.hg_defs.specs.declared.moves.Move.{Move}
-use Rattle.hg_defs.specs.Hypergraph.{Hyper, vertex_count}
+use Rattle.hg_defs.specs.Hypergraph.{Hyper}
 use Rattle.hg_defs.specs.Partition.{IsPartition, block_of}
 use Rattle.hg_defs.specs.Replay.{replay, replay_first, undone}
 use Rattle.hg_defs.proofs.ReplayLaws.{replay-append, length-replay, replay-blocks, replay-apart, replay-once}

@@ -2,7 +2,7 @@
 use Rattle.std.specs.Prelude.{◌≡◌, ◌≢◌, ℕ, ◌+◌, ◌*◌, ◌^◌, ◌<◌, ◌≤◌, List, length, take, drop, All, AllPairs, Contains, slice_index_or, ℤ, pos, ◌-ℤ◌, ◌≤ℤ◌}
 use Rattle.hg_defs.specs.declared.moves.Move.{Move}
 use Rattle.hg_defs.specs.Sums.{total}
-use Rattle.hg_defs.specs.Hypergraph.{Hyper, IsHypergraph, IsWithinLimits, vertex_count, net_count, net_of}
+use Rattle.hg_defs.specs.Hypergraph.{Hyper, IsHypergraph, IsWithinLimits, net_count, net_of}
 use Rattle.hg_defs.specs.Partition.{IsPartition}
 use Rattle.hg_defs.specs.Incidence.{nets_of}
 use Rattle.hg_defs.specs.Cost.{net_cost}

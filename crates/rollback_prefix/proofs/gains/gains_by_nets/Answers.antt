@@ -1,7 +1,7 @@
-use Rattle.std.proofs.Common.{Ok, IfOk, vec_len, ◌≡◌, ◌<◌, ◌≤◌, ◌^◌, ◌+◌, ◌*◌, ◌+ℤ◌, ℕ, ℤ, pos, List, take, drop, length, get_or, arith, refl, sym, ap, ◌∙◌, subst}
-use Rattle.hg_defs.specs.Hypergraph.{vertex_count, net_of}
+use Rattle.std.proofs.Common.{Ok, IfOk, vec_len, ◌≡◌, ◌<◌, ◌+◌, ◌*◌, ◌+ℤ◌, ℤ, pos, List, take, length, get_or, arith, sym, ap, ◌∙◌, subst}
+use Rattle.hg_defs.specs.Hypergraph.{net_of}
 use Rattle.hg_defs.proofs.SumLaws.{total-take-le}
-use Rattle.rollback_prefix.specs.Gains.{AreSavings, AreSmall, pin_weight, part_of}
+use Rattle.rollback_prefix.specs.Gains.{AreSavings, AreSmall, part_of}
 use Rattle.rollback_prefix.proofs.SavingLaws.{savings_joined, savings_small, savings_whole, part_weight-le, written}
 use Rattle.rollback_prefix.proofs.gains.gains_by_nets.Goals as goal
 

@@ -1,9 +1,9 @@
-use Rattle.std.proofs.Common.{◌≡◌, ◌<◌, ◌≤◌, ◌^◌, ◌+◌, ◌*◌, ◌+ℤ◌, ℕ, ℤ, pos, List, take, drop, length, get_or, arith, refl, sym, ap, ◌∙◌, subst, replicate}
+use Rattle.std.proofs.Common.{◌≡◌, ◌+◌, ◌*◌, ◌+ℤ◌, ℕ, ℤ, pos, List, take, length, get_or, arith, sym, ap, ◌∙◌, subst}
 use Rattle.hg_defs.specs.Hypergraph.{vertex_count, net_of}
 use Rattle.hg_defs.proofs.SumLaws.{total-take-le}
-use Rattle.rollback_prefix.specs.Gains.{AreSavings, AreSmall, pin_weight, saved_by_net}
-use Rattle.rollback_prefix.specs.Pins.{AreZeros, ArePinMoves, ArePlacesAt}
-use Rattle.rollback_prefix.proofs.SavingLaws.{savings_none, savings_more, savings_small, savings_whole, written}
+use Rattle.rollback_prefix.specs.Gains.{AreSavings, AreSmall, saved_by_net}
+use Rattle.rollback_prefix.specs.Pins.{AreZeros, ArePinMoves}
+use Rattle.rollback_prefix.proofs.SavingLaws.{savings_more, savings_small, written}
 use Rattle.rollback_prefix.proofs.StepLaws.{order_once, pin_moves}
 use Rattle.rollback_prefix.proofs.gains.part_gains.Goals as goal
 

@@ -1,5 +1,5 @@
-use Rattle.std.proofs.Common.{List, ℕ, ℤ, ◌<◌, ◌^◌, subst, sym}
-use Rattle.rollback_prefix.specs.Gains.{pin_weight, AreTouched, AreSavings}
+use Rattle.std.proofs.Common.{List, ℕ, ℤ, subst, sym}
+use Rattle.rollback_prefix.specs.Gains.{AreTouched}
 use Rattle.rollback_prefix.specs.Steps.{AreReplayGains}
 use Rattle.rollback_prefix.proofs.SavingLaws.{touched_small, touched_gains}
 use Rattle.rollback_prefix.proofs.gains.recalculate.Goals as goal

@@ -1,10 +1,10 @@
-use Rattle.std.proofs.Common.{pos, ◌≡◌, ◌<◌, ◌⊎◌, inl, inr, List, [], ◌∷◌, ◌++◌, Bool, true, false, take, length, set, subst, sym, ap, ◌∙◌, arith, refl, ℕ, ◌+◌, get_or, below_more, Contains, All}
+use Rattle.std.proofs.Common.{pos, ◌<◌, List, [], ◌∷◌, Bool, true, false, length, set, subst, sym, ap, ◌∙◌, arith, ℕ, get_or, below_more, Contains}
 use Rattle.std.proofs.lemmas.List.{get_or_default}
 use Rattle.std.proofs.lemmas.List.Elements.{Contains-push, Contains-append_left}
 use Rattle.hg_defs.specs.declared.moves.Move.{Move}
 use Rattle.hg_defs.specs.Hypergraph.{net_count}
 use Rattle.hg_defs.specs.Incidence.{nets_of}
-use Rattle.rollback_prefix.proofs.NetLaws.{AreSeen, seen_none, seen_more, contained_by_places, all_more}
+use Rattle.rollback_prefix.proofs.NetLaws.{AreSeen, seen_more, contained_by_places, all_more}
 use Rattle.rollback_prefix.proofs.nets.touched_nets.Goals as goal
 use Rattle.rollback_prefix.proofs.nets.touched_nets.Goals.{then-not-index+in_ok-push, else-not-index}
 

@@ -1,11 +1,10 @@
-use Rattle.std.proofs.Common.{ap₂, ◌≤ℤ◌, ◌≡◌, ◌<◌, ◌≤◌, ◌^◌, ◌+◌, ◌*◌, ℕ, ℤ, pos, suc, ◌+ℤ◌, ◌-ℤ◌, List, length, get_or, set, arith, add-one, refl, sym, ap, ◌∙◌, subst}
+use Rattle.std.proofs.Common.{ap₂, ◌≤ℤ◌, ◌≡◌, ◌^◌, ◌*◌, ℕ, pos, ◌+ℤ◌, ◌-ℤ◌, List, length, get_or, arith, sym, ap, ◌∙◌, subst}
 use Rattle.std.proofs.lemmas.Int.{ints}
 use Rattle.hg_defs.specs.Hypergraph.{net_of}
 use Rattle.hg_defs.specs.Cost.{price}
-use Rattle.rollback_prefix.specs.Pins.{counted}
 use Rattle.rollback_prefix.proofs.PinLaws.{counted-le}
 use Rattle.rollback_prefix.proofs.StepLaws.{no_move}
-use Rattle.rollback_prefix.proofs.KernelLaws.{IsReplaying, replaying_first, replaying_next, replaying_last, still_old, signed_step, all_cleared, pin_left, pin_room, from_low, product_small}
+use Rattle.rollback_prefix.proofs.KernelLaws.{replaying_next, replaying_last, still_old, signed_step, all_cleared, pin_left, pin_room, product_small}
 use Rattle.rollback_prefix.proofs.pins.add_net.Goals as goal
 
 pub overflow_mul-before : goal.overflow_mul-before

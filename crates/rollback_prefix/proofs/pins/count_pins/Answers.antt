@@ -1,5 +1,4 @@
-use Rattle.std.proofs.Common.{◌≡◌, ◌+◌, ◌<◌, ◌≤◌, List, [], take, length, get_or, sym, ◌∙◌, ap, refl, arith, nat_eq, length-take}
-use Rattle.hg_defs.specs.Partition.{block_of}
+use Rattle.std.proofs.Common.{◌<◌, take, length, get_or, sym, refl, arith, nat_eq, length-take}
 use Rattle.hg_defs.proofs.DistinctLaws.{pins_in-le}
 use Rattle.rollback_prefix.proofs.PinLaws.{counts_more, counts_none, counted_raise, counted_zeros, counted-le, tested, tested-le}
 use Rattle.rollback_prefix.proofs.pins.count_pins.Goals as goal

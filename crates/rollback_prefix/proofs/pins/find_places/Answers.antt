@@ -1,4 +1,4 @@
-use Rattle.std.proofs.Common.{◌≡◌, List, [], take, subst, sym, ap, ◌∙◌, arith, ℕ, ◌+◌, get_or}
+use Rattle.std.proofs.Common.{List, [], take, subst, sym, ap, ◌∙◌, arith, ℕ, ◌+◌}
 use Rattle.std.proofs.lemmas.List.{take_all}
 use Rattle.rollback_prefix.proofs.PlaceLaws.{AreFound, found_none, found_same, found_more, found_sorted}
 use Rattle.rollback_prefix.proofs.pins.find_places.Goals as goal

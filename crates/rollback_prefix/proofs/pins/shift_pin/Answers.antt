@@ -1,4 +1,4 @@
-use Rattle.std.proofs.Common.{arith, get_or, nat_eq, sym, ap, ◌∙◌}
+use Rattle.std.proofs.Common.{arith, get_or, nat_eq}
 use Rattle.rollback_prefix.proofs.PinLaws.{shift_told, counted-le, tested-le}
 use Rattle.rollback_prefix.proofs.pins.shift_pin.Goals as goal
 

@@ -1,14 +1,8 @@
-use Rattle.std.proofs.Common.{◌≡◌, ◌<◌, ◌≤◌, ◌^◌, ◌-◌, arith, get_or, pos, length, List, drop, take, refl, sym, ap, ◌∙◌, subst, ℕ, ℤ, ◌+◌, ◌+ℤ◌, ◌-ℤ◌, set}
+use Rattle.std.proofs.Common.{arith, pos, length, sym, ap, ◌∙◌, subst, ◌+◌, ◌-ℤ◌}
 use Rattle.std.proofs.lemmas.Int.{ints}
-use Rattle.hg_defs.specs.declared.moves.Move.{Move}
-use Rattle.hg_defs.specs.Hypergraph.{weight_of}
-use Rattle.hg_defs.specs.Partition.{block_of, load, Fits}
 use Rattle.hg_defs.specs.Cost.{cost}
 use Rattle.hg_defs.specs.Replay.{replay_first}
-use Rattle.hg_defs.proofs.ReplayLaws.{replay_first_more, length-replay}
 use Rattle.hg_base.proofs.CountLaws.{cost-lt}
-use Rattle.pin_plain.specs.Parted.{IsLoaded, loads_after}
-use Rattle.rollback_prefix.proofs.StepLaws.{no_move, still_there, replay_partition}
 use Rattle.rollback_prefix.proofs.LoadLaws.{none_past, fits_from, next_held, next_room, next_loaded, saved_more}
 use Rattle.rollback_prefix.proofs.BestLaws.{IsBestUpTo, best_first, best_new, best_same, best_is, above, not_above}
 use Rattle.rollback_prefix.proofs.prefix.best_length.Goals as goal

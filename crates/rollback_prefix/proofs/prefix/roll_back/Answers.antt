@@ -1,8 +1,7 @@
-use Rattle.std.proofs.Common.{◌≡◌, ◌<◌, ◌≤◌, ◌*◌, ◌^◌, List, ℕ, length, drop, subst, sym, ap, ◌∙◌, arith}
+use Rattle.std.proofs.Common.{◌≡◌, List, ℕ, length, subst, sym, ap, ◌∙◌, arith}
 use Rattle.hg_defs.specs.Hypergraph.{Hyper, vertex_count}
 use Rattle.hg_defs.specs.Partition.{IsPartition}
-use Rattle.hg_defs.specs.Replay.{undone, replay_first}
-use Rattle.pin_plain.specs.Parted.{Parted}
+use Rattle.hg_defs.specs.Replay.{undone}
 use Rattle.round_log.proofs.FewMoves.{few_moves}
 use Rattle.rollback_prefix.specs.Steps.{StartFrom}
 use Rattle.rollback_prefix.proofs.SavingLaws.{written}

@@ -1,4 +1,4 @@
-use Rattle.std.proofs.Common.{arith, get_or, nat_lt, ◌+◌}
+use Rattle.std.proofs.Common.{arith, get_or, nat_lt}
 use Rattle.rollback_prefix.proofs.LoadLaws.{overloaded-le, overloaded_set}
 use Rattle.rollback_prefix.proofs.PinLaws.{tested, tested-le}
 use Rattle.rollback_prefix.proofs.prefix.set_load.Goals as goal

@@ -1,6 +1,4 @@
-use Rattle.std.proofs.Common.{◌≡◌, ◌<◌, ◌≤◌, ◌^◌, ◌-◌, arith, get_or, pos, length, List, drop, refl, sym, ap, ◌∙◌, subst, ℕ, ◌+◌, set}
-use Rattle.hg_defs.specs.declared.moves.Move.{Move}
-use Rattle.hg_defs.specs.Hypergraph.{weight_of}
+use Rattle.std.proofs.Common.{arith, get_or, length, refl, sym, ap, subst, ◌+◌, set}
 use Rattle.hg_defs.specs.Partition.{load}
 use Rattle.pin_plain.specs.Parted.{loads_after}
 use Rattle.rollback_prefix.proofs.StepLaws.{no_move}

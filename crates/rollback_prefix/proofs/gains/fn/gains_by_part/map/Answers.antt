@@ -1,6 +1,6 @@
-use Rattle.std.proofs.Common.{◌<◌, ◌≤◌, ◌^◌, List, All, subst, sym, ap, arith, ℕ}
+use Rattle.std.proofs.Common.{◌<◌, List, All, subst, sym, ap, arith, ℕ}
 use Rattle.hg_defs.specs.Hypergraph.{net_count}
-use Rattle.rollback_prefix.specs.Gains.{pin_weight, part_of}
+use Rattle.rollback_prefix.specs.Gains.{pin_weight}
 use Rattle.rollback_prefix.proofs.SavingLaws.{part_below, part_weight-le}
 use Rattle.rollback_prefix.proofs.gains.fn.gains_by_part.map.Goals as goal
 
