@@ -5,8 +5,7 @@ use Rattle.std.proofs.lemmas.List.{length_push, get_or_push, get_or_append_left}
 use Rattle.hg_defs.specs.Hypergraph.{Hyper}
 use Rattle.hg_defs.specs.Contraction.{contract}
 use Rattle.hg_defs.specs.Clustering.{cluster_count}
-use Rattle.hg_defs.specs.Levels.{level, coarsest}
-use Rattle.hg_defs.specs.LevelLaws.{map_of}
+use Rattle.hg_defs.specs.Levels.{level, coarsest, map_of}
 use Rattle.hg_defs.proofs.LevelLaws.{levels_stay, level_is_added}
 use Rattle.contract_nets.specs.declared.ledger.Merged.{Merged}
 use Rattle.level_stack.specs.Stack.{Stack, ledger_of, LeadsUp, IsStacked}

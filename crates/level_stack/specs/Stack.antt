@@ -3,8 +3,7 @@ use Rattle.std.specs.Prelude.{◌≡◌, ℕ, suc, ◌+◌, ◌<◌, ◌^◌, Li
 use Rattle.hg_defs.specs.Hypergraph.{Hyper}
 use Rattle.hg_defs.specs.Contraction.{IsFull, IsApart}
 use Rattle.hg_defs.specs.Clustering.{cluster_count}
-use Rattle.hg_defs.specs.Levels.{level}
-use Rattle.hg_defs.specs.LevelLaws.{map_of}
+use Rattle.hg_defs.specs.Levels.{level, map_of}
 use Rattle.contract_nets.specs.declared.ledger.Merged.{Merged}
 use Rattle.contract_nets.specs.Ledger.{IsLedger}
 

@@ -3,8 +3,7 @@
 ghost use Rattle.std.specs.Prelude.{◌≡◌, ◌+◌, ◌-◌, ◌<◌, ◌≤◌, ◌^◌, suc, [], ◌∷◌, ◌++◌, length, IfOk, OnOk, OnErr};
 ghost use Rattle.hg_defs.specs.Contraction.{contract};
 ghost use Rattle.hg_defs.specs.Clustering.{cluster_count};
-ghost use Rattle.hg_defs.specs.Levels.{level, coarsest};
-ghost use Rattle.hg_defs.specs.LevelLaws.{map_of};
+ghost use Rattle.hg_defs.specs.Levels.{level, coarsest, map_of};
 ghost use Rattle.level_stack.specs.Stack.{ledger_of, LeadsUp};
 
 use contract_nets::MergeLedger;
