@@ -1,0 +1,4 @@
+pub mod AccountLaws
+pub mod SeatLaws
+pub mod StepLaws
+pub mod BoardLaws
