@@ -1,0 +1,12 @@
+use Rattle.move_core.specs.Events.{word_of}
+use Rattle.move_table.specs.Places.{number_in}
+use Rattle.move_table.specs.Steps.{acted}
+use Rattle.move_table.specs.Standing.{terms_setup}
+use Rattle.move_table.specs.Seen.{IsKnownFound}
+use Rattle.move_table.proofs.steps.swap.Given as goal
+
+abbrev pub ghosts-swap_as : goal.ghosts-swap_as
+ghosts-swap_as a = record {
+  after = λ n v. acted a.event (number_in (terms_setup v.terms) (word_of (terms_setup v.terms) a.event v.account) n) v;
+  told = λ v n. IsKnownFound (terms_setup v.terms) a.event v.account (number_in (terms_setup v.terms) (word_of (terms_setup v.terms) a.event v.account) n);
+}

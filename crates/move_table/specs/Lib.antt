@@ -1,0 +1,7 @@
+pub mod Places
+pub mod Standing
+pub mod Seen
+pub mod Steps
+pub mod Calls
+pub mod Opening
+pub mod Closing

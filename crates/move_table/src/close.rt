@@ -1,0 +1,163 @@
+//! How a round is closed.
+
+ghost use Rattle.std.specs.Prelude.{◌≡◌, ◌≢◌, ℕ, ◌+◌, ◌<◌, ◌≤◌, length, map, drop, All, slice_index_or, IfOk, IfErr, OnOk, []};
+ghost use Rattle.hg_defs.specs.Hypergraph.{vertex_count};
+ghost use Rattle.hg_defs.specs.Replay.{replay};
+ghost use Rattle.move_core.specs.declared.account.Stage.TheVariants.{Idle};
+ghost use Rattle.move_table.specs.declared.grant.Done.{Done};
+ghost use Rattle.move_table.specs.Steps.{IsResting};
+ghost use Rattle.move_table.specs.Calls.{RacedPass};
+ghost use Rattle.move_table.specs.Closing.{ArePassesOf, IsKeptPass, all_moves, all_numbers, all_gains, AreByNumber, united_all, IsEnded};
+
+use crate::closed::Closed;
+use crate::grant::Done;
+use crate::pass::{Pass, Passes};
+use crate::round::Round;
+use crate::rule::Balanced;
+use crate::steps;
+use crate::steps::{Place, Words};
+use crate::view::{Terms, View};
+use atomic_table::Table;
+use hg_base::{Items, Move, NoMemory};
+use incidence::Hypergraph;
+use pin_plain::Partition;
+use std::alloc::Global;
+use std::snapshot::Snapshot;
+
+/// What all passes have done, and room for their moves in order.
+#[derive(Drop)]
+pub(crate) struct Gathered {
+    done: Vec<Done>,
+    gains: Vec<i64>,
+    moves: Vec<Move>,
+}
+
+/// Copies what the passes have done.
+fn gather(alloc: Global, passes: &[Pass]) -> Result<Gathered, NoMemory>
+    ensures moves { IfOk result (λ g. map (λ d. d.action) g.done.items ≡ all_moves passes.now) }
+    ensures numbers { IfOk result (λ g. map (λ d. d.number) g.done.items ≡ all_numbers passes.now) }
+    ensures gains { IfOk result (λ g. g.gains.items ≡ all_gains passes.now) }
+    ensures room { IfOk result (λ g. length g.moves.items ≡ length g.done.items) }
+    ensures kept { OnOk result ((i : ℕ) (p : RacedPass) → i < length passes.now → IsKeptPass (slice_index_or passes.now i p)) }
+{
+    let mut done = Vec::new(alloc);
+    let mut gains = Vec::with_capacity(alloc, passes.len())?;
+    for pass in passes {
+        done.extend_from_slice(pass.done())?;
+        gains.push(pass.gain())?;
+    }
+    let blank = Move {
+        vertex: 0,
+        from: 0,
+        to: 0,
+        worker: 0,
+        booked: 0,
+    };
+    let moves = vec![in alloc; blank; done.len()]?;
+    Ok(Gathered { done, gains, moves })
+}
+
+/// Lays the moves out by their numbers.
+fn lay_moves(done: &[Done], moves: &mut [Move])
+    requires room { length moves.old ≡ length done.now }
+    requires below { (k : ℕ) (d : Done) → k < length done.now → (slice_index_or done.now k d).number < length done.now }
+    requires apart { (j k : ℕ) (d : Done) → j < length done.now → k < length done.now → j ≢ k → (slice_index_or done.now j d).number ≢ (slice_index_or done.now k d).number }
+    ensures { AreByNumber (map (λ d. d.number) done.now) (map (λ d. d.action) done.now) moves.new }
+{
+    for step in done {
+        moves[step.number as usize] = step.action;
+    }
+}
+
+/// Makes the moves on a partition.
+fn make_moves(part: &mut Partition, hyper: &Hypergraph, moves: &[Move])
+    requires belongs { part.old.hyper ≡ hyper.now }
+    requires vertices { All (λ m. m.vertex < vertex_count hyper.now) moves.now }
+    requires blocks { All (λ m. m.to < part.old.k) moves.now }
+    ensures { part.new ≡ record part.old { blocks = replay part.old.blocks moves.now } }
+{
+    for m in moves {
+        part.shift(hyper, m.vertex, m.to);
+    }
+}
+
+/// The first pass takes all others over, the last one first.
+fn unite(words: &Words, passes: Passes) -> Place
+    requires some { 0 < length passes }
+    requires wide { 0 < words.now.table_id.words }
+    requires table { (i : ℕ) (p : RacedPass) → i < length passes → (slice_index_or passes i p).table ≡ words.now.table_id }
+    requires numbers { (i : ℕ) (p : RacedPass) → i < length passes → (slice_index_or passes i p).view.number ≡ i }
+    requires idle { (i : ℕ) (p : RacedPass) → i < length passes → (slice_index_or passes i p).view.account.stage ≡ Idle }
+    ensures table { result.table_id ≡ words.now.table_id }
+    ensures view { (p : RacedPass) → result.me ≡ (united_all (slice_index_or passes 0 p).view (drop 1 passes), []) }
+    ensures resting { IsResting result.me.0 }
+    ensures alone { result.me.0.stands + result.me.0.may ≡ length passes }
+{
+    let mut rest = passes.into_vec();
+    let mut seat = rest.remove(0).into_seat();
+    while let Some(pass) = rest.pop() {
+        steps::join(words, &mut seat, pass.into_seat());
+    }
+    seat
+}
+
+/// Ends the words of a round of which all passes are given, and gives their memory back.
+fn end_words(table: Table<(), View, Terms, Balanced, Global>, passes: Passes)
+    requires some { 0 < length passes }
+    requires wide { 0 < table.shared.table_id.words }
+    requires bare { table.shared.table_id.slots ≡ 0 }
+    requires table { (i : ℕ) (p : RacedPass) → i < length passes → (slice_index_or passes i p).table ≡ table.shared.table_id }
+    requires numbers { (i : ℕ) (p : RacedPass) → i < length passes → (slice_index_or passes i p).view.number ≡ i }
+    requires idle { (i : ℕ) (p : RacedPass) → i < length passes → (slice_index_or passes i p).view.account.stage ≡ Idle }
+    ensures { IsEnded table.shared.key passes }
+{
+    let seat = unite(&table.shared, passes);
+    let closed = table.close_with(seat);
+    closed.free();
+}
+
+impl<'h> Round<'h> {
+    /// Closes the round, of which all passes are given by rising number, none holding a grant. Where
+    /// there is no memory, the round and the passes come back.
+    pub fn close(
+        self,
+        alloc: Global,
+        passes: Passes,
+    ) -> Result<Closed, (Round<'h>, Passes, NoMemory)>
+        requires passes { ArePassesOf self passes }
+        ensures opening { IfOk result (λ c. c.opening ≡ self.entry.terms.part.blocks) }
+        ensures part { IfOk result (λ c. c.part ≡ record self.entry.terms.part { blocks = replay c.opening c.moves }) }
+        ensures moves { IfOk result (λ c. AreByNumber (all_numbers passes) (all_moves passes) c.moves) }
+        ensures gains { IfOk result (λ c. c.gains ≡ all_gains passes) }
+        ensures refused { IfErr result (λ e. (e.0 ≡ self.entry) × (e.1 ≡ passes)) }
+    {
+        let Ok(gathered) = gather(alloc, passes.slice()) else {
+            return Err((self, passes, NoMemory));
+        };
+        let Gathered {
+            done,
+            gains,
+            mut moves,
+        } = gathered;
+        let Round {
+            hyper,
+            terms,
+            nets: _nets,
+            table,
+        } = self;
+        end_words(table, passes);
+        lay_moves(done.as_slice(), moves.as_mut_slice());
+        let Terms {
+            mut part,
+            workers: _,
+        } = terms;
+        let opening = Snapshot::of(&part);
+        make_moves(&mut part, hyper, moves.as_slice());
+        Ok(Closed {
+            opening,
+            part,
+            moves: Items::from_vec(moves),
+            gains: Items::from_vec(gains),
+        })
+    }
+}

@@ -1,0 +1,35 @@
+//! Where the words of a net stand.
+
+ghost use Rattle.std.specs.Prelude.{◌≡◌, ◌/◌, ◌%◌, ◌<◌};
+ghost use Rattle.hg_base.specs.Packed.{IsWidth, fields_of};
+
+/// Where the words of a net begin, and how many bits each of its counts takes.
+#[derive(Clone, Copy)]
+pub struct NetPlace {
+    /// The place of the net's spread, after which its counts follow.
+    pub start: u32,
+    /// The bits of a count: 16 or 32.
+    pub bits: u32,
+}
+
+/// Where a count stands: the word, the bits of a field, and the field.
+#[derive(Clone, Copy)]
+pub struct CountPlace {
+    pub word: usize,
+    pub bits: u32,
+    pub field: u32,
+}
+
+/// The word of a net, and the field in it, where the count of a block stands.
+pub(crate) fn split(bits: u32, b: u32) -> (u32, u32)
+    requires { IsWidth bits }
+    ensures word { result.0 ≡ b / fields_of bits }
+    ensures field { result.1 ≡ b % fields_of bits }
+    ensures below { result.1 < fields_of bits }
+{
+    if bits == 16 {
+        (b / 4, b % 4)
+    } else {
+        (b / 2, b % 2)
+    }
+}

@@ -1,0 +1,33 @@
+//! What a round is over, and what is known of a pass.
+
+use move_core::{Account, Word};
+use pin_plain::Partition;
+
+/// What a round is over: the partition at its opening, and how many passes it has.
+#[derive(Drop)]
+pub struct Terms {
+    /// The partition at the opening, with its hypergraph, number of blocks and limit.
+    pub part: Partition,
+    /// How many passes the round has.
+    pub workers: u32,
+}
+
+/// What is known of a pass. It is what contracts see; no value of it is made.
+pub struct View {
+    /// What the round is over.
+    pub terms: Terms,
+    /// The number of the pass.
+    pub number: u64,
+    /// What the pass has in the books.
+    pub account: Account,
+    /// How many steps it has made.
+    pub steps: u64,
+    /// The word of its last step, those that took a weight back left out.
+    pub word: Word,
+    /// What that step found in it.
+    pub found: u64,
+    /// How many passes it stands for: itself, and those that it took over.
+    pub stands: u64,
+    /// How many passes it may still make.
+    pub may: u64,
+}
