@@ -4,7 +4,7 @@ use Rattle.std.proofs.lemmas.Bool.{ltb-true, and_parts, cases_lt, cases_eq}
 use Rattle.std.proofs.lemmas.Nat.{div-add-mod'}
 use Rattle.hg_defs.specs.Hypergraph.{vertex_count, net_count, net_of}
 use Rattle.hg_defs.proofs.SumLaws.{sum_below_more, sum_below-le_more}
-use Rattle.hg_base.specs.Packed.{fields_of, bits_of, words_of, field}
+use Rattle.hg_base.specs.Packed.{IsWidth, fields_of, bits_of, words_of, field}
 use Rattle.pin_plain.proofs.CountLaws.{bits_width, fields_enough, word_below}
 use Rattle.pin_plain.specs.Counts.{net_bits}
 use Rattle.move_core.specs.declared.events.Word.{Word}
@@ -187,3 +187,12 @@ module _ (s : Setup) where
     others_read word.Cursor (word.Spread e) k l n i f = apart word.Cursor (word.Spread e) (λ q. absurd (omega arith))
     others_read word.Cursor word.Next k l n i f = apart word.Cursor word.Next (λ q. absurd (omega arith))
     others_read word.Cursor word.Cursor k l n i f = absurd (n refl)
+
+-- the first count of a word of a net stands in that word, in its first field
+pub first_word : (bits i : ℕ) → IsWidth bits → i * fields_of bits / fields_of bits ≡ i
+first_word bits i (inl e) = subst (λ (b : ℕ). i * (64 / b) / (64 / b) ≡ i) (sym e) (omega arith)
+first_word bits i (inr e) = subst (λ (b : ℕ). i * (64 / b) / (64 / b) ≡ i) (sym e) (omega arith)
+
+pub first_field : (bits i : ℕ) → IsWidth bits → i * fields_of bits % fields_of bits ≡ 0
+first_field bits i (inl e) = subst (λ (b : ℕ). i * (64 / b) % (64 / b) ≡ 0) (sym e) (omega arith)
+first_field bits i (inr e) = subst (λ (b : ℕ). i * (64 / b) % (64 / b) ≡ 0) (sym e) (omega arith)

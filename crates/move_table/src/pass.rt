@@ -20,6 +20,7 @@ ghost use Rattle.move_table.specs.Calls.{IsPassOf, IsHeldUnmoved, IsMoveMade, st
 
 use crate::carry::carry_pins;
 use crate::grant::{Done, Full, Grant};
+use crate::place::first_block;
 use crate::round::Round;
 use crate::steps::{Place, add, load, store, subtract, swap};
 use hg_base::{Items, Move, NoMemory, field};
@@ -345,6 +346,32 @@ impl Pass {
             place.word,
         );
         field(found, place.bits, place.field)
+    }
+
+    /// The counts of a net in all blocks of one of its words, as the word tells them: `64 / bits`
+    /// fields, for which [`field`] reads, where `bits` is [`Round::count_bits`] of the net. The first
+    /// one is that of the block `index * (64 / bits)`. One step, the peek of that count; none of them
+    /// decides anything.
+    pub fn peek_counts(&mut self, round: &Round, e: u32, index: u32) -> u64
+        requires belongs { IsPassOf round.now self.old }
+        requires net { e < net_count round.now.terms.part.hyper }
+        requires index { index * fields_of (net_bits round.now.terms.part.hyper e) < round.now.terms.part.k }
+        ensures step { let bits = net_bits round.now.terms.part.hyper e in self.new ≡ stepped (Peek self.old.view.number (word.Count e (index * fields_of bits))) (field result bits 0) self.old }
+        ensures read { let bits = net_bits round.now.terms.part.hyper e in IsCountRead (terms_setup round.now.terms) self.old.view.account e (index * fields_of bits) (field result bits 0) }
+    {
+        let number = self.number;
+        let words = round.shared();
+        let net = round.net(e);
+        let b = first_block(net.bits, index);
+        load(
+            words,
+            &mut self.seat,
+            Event::Peek {
+                pass: number,
+                word: Word::Count(e, b),
+            },
+            net.start as usize + 1 + index as usize,
+        )
     }
 
     /// The weight in a block, as its load word tells it, with all that is reserved there. It decides

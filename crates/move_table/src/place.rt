@@ -1,6 +1,6 @@
 //! Where the words of a net stand.
 
-ghost use Rattle.std.specs.Prelude.{◌≡◌, ◌/◌, ◌%◌, ◌<◌};
+ghost use Rattle.std.specs.Prelude.{◌≡◌, ◌*◌, ◌/◌, ◌%◌, ◌<◌, ◌≤◌};
 ghost use Rattle.hg_base.specs.Packed.{IsWidth, fields_of};
 
 /// Where the words of a net begin, and how many bits each of its counts takes.
@@ -32,4 +32,13 @@ pub(crate) fn split(bits: u32, b: u32) -> (u32, u32)
     } else {
         (b / 2, b % 2)
     }
+}
+
+/// The first block of which a word of a net has the count.
+pub(crate) fn first_block(bits: u32, index: u32) -> u32
+    requires width { IsWidth bits }
+    requires few { index * fields_of bits ≤ 256 }
+    ensures { result ≡ index * fields_of bits }
+{
+    if bits == 16 { index * 4 } else { index * 2 }
 }
