@@ -74,7 +74,7 @@ impl<'h> Round<'h> {
     }
 
     /// The block of a vertex at the opening.
-    pub(crate) fn opening(&self, v: u32) -> u32
+    pub fn opening(&self, v: u32) -> u32
         requires { v < vertex_count self.now.terms.part.hyper }
         ensures same { result ≡ block_of self.now.terms.part.blocks v }
         ensures block { result < self.now.terms.part.k }

@@ -1,0 +1,2 @@
+pub mod RaceLaws
+pub mod FreshLaws
