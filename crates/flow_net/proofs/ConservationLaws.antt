@@ -1,10 +1,10 @@
 -- Raising the flow along one half, and along a way from the source to the sink.
-use Rattle.std.proofs.Common.{◌≡◌, ◌≢◌, ℕ, zero, suc, ◌+◌, ◌-◌, ◌*◌, ◌/◌, ◌%◌, ◌^◌, ◌<◌, ◌≤◌, List, length, set, slice_index, nat_eq, refl, sym, ap, ◌∙◌, subst, arith, length-set, get_or-set_same, get_or-set_other, get_or, ◌⊎◌, inl, inr, Bool, true, false, if◌then◌else◌}
-use Rattle.std.proofs.lemmas.Bool.{cases_eq, eqb-true, eqb-false, eq-eqb, ne_eqb}
+use Rattle.std.proofs.Common.{◌≡◌, ◌≢◌, ℕ, suc, ◌+◌, ◌-◌, ◌*◌, ◌/◌, ◌%◌, ◌^◌, ◌<◌, ◌≤◌, List, length, set, slice_index, nat_eq, refl, sym, ap, ◌∙◌, subst, arith, length-set, get_or-set_same, get_or-set_other, ◌⊎◌, inl, inr, Bool, true, false, if◌then◌else◌}
+use Rattle.std.proofs.lemmas.Bool.{cases_eq}
 use Rattle.hg_defs.specs.Sums.{sum_below}
 use Rattle.hg_defs.proofs.SumLaws.{sum_below-change, sum_below-same, sum_below-le, weight_if, weight_if-same, weight_if-other, weight_if-le}
-use Rattle.flow_net.specs.Residual.{mate, head, tail, out_of, into, pairs_total, gap, KeepsPairs, IsBounded, IsRaised, IsPushed, IsStep, IsTree, IsOpen, Carries, IsLinked, IsMarked}
-use Rattle.flow_net.proofs.LevelLaws.{mate-mate, mate-within, tail-mate}
+use Rattle.flow_net.specs.Residual.{mate, head, tail, out_of, into, pairs_total, gap, KeepsPairs, IsBounded, IsRaised, IsPushed, IsStep, IsTree, Carries, IsLinked, IsMarked}
+use Rattle.flow_net.proofs.LevelLaws.{mate-mate, mate-within}
 
 weight_if-add : (x v p q : ℕ) → weight_if x v (p + q) ≡ weight_if x v p + weight_if x v q
 weight_if-add x v p q = by (nat_eq x v)

@@ -1,12 +1,12 @@
 -- A flow that no half raises fills the cut between the nodes that more could flow from and the others.
-use Rattle.std.proofs.Common.{◌≡◌, ◌≢◌, ℕ, zero, suc, ◌+◌, ◌-◌, ◌*◌, ◌/◌, ◌%◌, ◌^◌, ◌<◌, ◌≤◌, List, length, All, set, slice_index, nat_eq, refl, sym, ap, ◌∙◌, subst, arith, ◌⊎◌, inl, inr, Bool, true, false, not, ◌&&◌, if◌then◌else◌}
+use Rattle.std.proofs.Common.{◌≡◌, ◌≢◌, ℕ, ◌+◌, ◌*◌, ◌/◌, ◌%◌, ◌^◌, ◌<◌, ◌≤◌, List, length, slice_index, nat_eq, refl, sym, ap, ◌∙◌, subst, arith, ◌⊎◌, inl, inr, Bool, true, false, not, ◌&&◌, if◌then◌else◌}
 use Rattle.std.proofs.lemmas.Bool.{cases_eq, eqb-true, eqb-false, eq-eqb, ne_eqb}
 use Rattle.hg_defs.specs.Sums.{sum_below}
 use Rattle.hg_defs.proofs.SumLaws.{sum_below-change, sum_below-same, sum_below-le, sum_below-add, sum_below-zero, sum_below-only, sum_below-swap, weight_if, weight_if-same, weight_if-other, weight_if-le}
 use Rattle.flow_net.specs.declared.network.Arc.{Arc}
-use Rattle.flow_net.specs.Flow.{FlowNetwork, arc_at, leaving, entering, is_in, cut_capacity, IsFlow, IsFilledCut}
+use Rattle.flow_net.specs.Flow.{arc_at, leaving, entering, is_in, cut_capacity, IsFlow, IsFilledCut}
 use Rattle.flow_net.specs.Laws.{FlowsAreWithinCuts}
-use Rattle.flow_net.specs.Residual.{mate, head, tail, out_of, into, AreLaid, AreJoined, KeepsPairs, IsRaised, IsClosed}
+use Rattle.flow_net.specs.Residual.{mate, out_of, into, AreLaid, AreJoined, IsRaised, IsClosed}
 
 module _ (m n : ℕ) (flow : ℕ → ℕ) (S : ℕ → Bool) where
   chosen : (t : Bool) (f : ℕ → ℕ) → (if t then sum_below f m else 0) ≡ sum_below (λ i. if t then f i else 0) m

@@ -1,9 +1,9 @@
 -- The breadth-first search: how its state begins, how it goes on, and what it says at the end.
-use Rattle.std.proofs.Common.{◌≡◌, ◌≢◌, ℕ, zero, suc, ◌+◌, ◌-◌, ◌*◌, ◌%◌, ◌<◌, ◌≤◌, List, length, set, slice_index, replicate, nat_eq, refl, sym, ap, ◌∙◌, subst, arith, length-set, get_or-set_same, get_or-set_other, get_or, ◌⊎◌, inl, inr, Bool, true, false, if◌then◌else◌}
-use Rattle.std.proofs.lemmas.Bool.{cases_eq, eqb-true, eqb-false, eq-eqb, ne_eqb}
+use Rattle.std.proofs.Common.{◌≡◌, ◌≢◌, ℕ, ◌+◌, ◌-◌, ◌%◌, ◌<◌, ◌≤◌, List, length, set, slice_index, nat_eq, refl, sym, ap, ◌∙◌, subst, arith, length-set, get_or-set_same, get_or-set_other, ◌⊎◌, inl, inr, Bool, true, false, if◌then◌else◌}
+use Rattle.std.proofs.lemmas.Bool.{cases_eq, eq-eqb, ne_eqb}
 use Rattle.hg_defs.specs.Sums.{sum_below}
 use Rattle.hg_defs.proofs.SumLaws.{sum_below-change, sum_below-constant, sum_below-le, sum_below-zero}
-use Rattle.flow_net.specs.Residual.{mate, head, tail, mark, reached_count, IsLast, IsLinked, IsStep, IsTree, IsOpen, IsClosed, IsDone, IsAbsent, IsSearched, IsScanned}
+use Rattle.flow_net.specs.Residual.{mate, head, tail, mark, reached_count, IsLinked, IsStep, IsTree, IsOpen, IsClosed, IsDone, IsAbsent, IsSearched, IsScanned}
 
 -- ---- halves
 

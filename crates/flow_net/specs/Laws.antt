@@ -1,5 +1,5 @@
 -- What holds of each flow and each cut between the same two nodes.
-use Rattle.std.specs.Prelude.{◌≡◌, ◌≢◌, ℕ, ◌+◌, ◌<◌, ◌≤◌, List, Bool, true, false}
+use Rattle.std.specs.Prelude.{◌≡◌, ℕ, ◌+◌, ◌<◌, ◌≤◌, List, Bool, true, false}
 use Rattle.flow_net.specs.Flow.{FlowNetwork, leaving, entering, is_in, cut_capacity, IsNetwork, IsFlow}
 
 -- no more flows from the source than the arcs may take that leave a side with the source and without the sink

@@ -1,5 +1,5 @@
 -- The memory of a computation as it begins.
-use Rattle.std.specs.Prelude.{◌≡◌, ℕ, length, replicate}
+use Rattle.std.specs.Prelude.{◌≡◌, ℕ, replicate}
 use Rattle.std.specs.Vec.{vec_len}
 use Rattle.flow_net.specs.declared.maximum.Workspace.{Workspace}
 

@@ -1,6 +1,6 @@
 -- The residual network. Each arc i has two halves: 2i goes along it, and 2i + 1 against it. A half has a rest,
 -- by which the flow may still be raised along it: the capacity less the flow along the arc, and the flow against it.
-use Rattle.std.specs.Prelude.{◌≡◌, ◌≢◌, ℕ, zero, suc, ◌+◌, ◌-◌, ◌*◌, ◌/◌, ◌%◌, ◌^◌, ◌<◌, ◌≤◌, ◌⊎◌, List, length, All, slice_index, nat_eq, if◌then◌else◌}
+use Rattle.std.specs.Prelude.{◌≡◌, ◌≢◌, ℕ, zero, suc, ◌+◌, ◌-◌, ◌*◌, ◌/◌, ◌%◌, ◌^◌, ◌<◌, ◌≤◌, List, length, All, slice_index, nat_eq, if◌then◌else◌}
 use Rattle.hg_defs.specs.Sums.{sum_below}
 use Rattle.flow_net.specs.declared.network.Arc.{Arc}
 use Rattle.flow_net.specs.Flow.{arc_at}

@@ -23,7 +23,8 @@ fn scan(
     requires waiting { start < end }
     requires searched { IsSearched halves.heads.now rests.now levels.old ways.old queue.old halves.sink start end }
     ensures later { start < result }
-    ensures searched { IsSearched halves.entry.heads.now rests.now levels.new ways.new queue.new halves.entry.sink (start + 1) result }
+    ensures searched { IsSearched halves.entry.heads.now rests.now levels.new ways.new queue.new halves.entry.sink
+        (start + 1) result }
 {
     let node = queue[start];
     let level = levels[node as usize] + 1;

@@ -1,7 +1,7 @@
 //! The maximum flow, by blocking flows along shortest ways (Dinic's algorithm).
 
 ghost use Rattle.std.specs.Prelude.{◌≡◌, ◌≢◌, ℕ, ◌+◌, ◌-◌, ◌*◌, ◌^◌, ◌<◌, ◌≤◌, length, replicate, slice_index, IfOk, OnOk, OnErr};
-ghost use Rattle.flow_net.specs.Flow.{IsFlow, IsFilledCut};
+ghost use Rattle.flow_net.specs.Flow.{IsNetwork, IsFlow, IsFilledCut};
 ghost use Rattle.flow_net.specs.Residual.{IsTree, IsClosed, IsBounded, IsRaised, AreJoined};
 ghost use Rattle.flow_net.specs.Ready.{IsReady};
 
@@ -119,7 +119,8 @@ fn solve(
     requires apart { source ≢ sink }
     requires ready { IsReady space.old (length side.old) (2 * length arcs.now) }
     ensures flow { IsFlow (record { nodes = length side.old; arcs = arcs.now; flows = flows.new }) source sink }
-    ensures cut { IsFilledCut (record { nodes = length side.old; arcs = arcs.now; flows = flows.new }) source sink result side.new }
+    ensures cut { IsFilledCut (record { nodes = length side.old; arcs = arcs.now; flows = flows.new }) source sink
+        result side.new }
 {
     let heads = space.heads.as_mut_slice();
     let nexts = space.nexts.as_mut_slice();
@@ -157,6 +158,7 @@ impl Network {
         requires sink { sink < self.old.nodes }
         requires apart { source ≢ sink }
         ensures kept { (self.new.nodes ≡ self.old.nodes) × (self.new.arcs ≡ self.old.arcs) }
+        ensures sound { IsNetwork self.new }
         ensures flow { OnOk result (IsFlow self.new source sink) }
         ensures cut { IfOk result (λ cut. IsFilledCut self.new source sink cut.value cut.side) }
         ensures err { OnErr result (self.new ≡ self.old) }
@@ -176,6 +178,7 @@ impl Network {
         requires sink { sink < self.old.nodes }
         requires apart { source ≢ sink }
         ensures kept { (self.new.nodes ≡ self.old.nodes) × (self.new.arcs ≡ self.old.arcs) }
+        ensures sound { IsNetwork self.new }
         ensures flow { OnOk result (IsFlow self.new source sink) }
         ensures cut { IfOk result (λ cut. IsFilledCut self.new source sink cut.value cut.side) }
         ensures err { OnErr result (self.new ≡ self.old) }

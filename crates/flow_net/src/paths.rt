@@ -12,7 +12,8 @@ pub(crate) fn least_rest(halves: Halves<'_>, levels: &[u32], ways: &[u32], rests
     requires ways { length ways.now ≡ length levels.now }
     requires tree { IsTree halves.heads.now levels.now ways.now halves.sink }
     requires reached { 0 < slice_index levels.now halves.source }
-    ensures carried { Carries halves.entry.heads.now rests.now ways.now result (slice_index levels.now halves.entry.source - 1) halves.entry.source }
+    ensures carried { Carries halves.entry.heads.now rests.now ways.now result (slice_index levels.now
+        halves.entry.source - 1) halves.entry.source }
     ensures positive { IsOpen rests.now levels.now ways.now halves.entry.sink → 0 < result }
 {
     let mut node = halves.source;
@@ -40,7 +41,8 @@ pub(crate) fn push(
     requires bounded { IsBounded rests.old }
     requires tree { IsTree halves.heads.now levels.now ways.now halves.sink }
     requires reached { 0 < slice_index levels.now halves.source }
-    requires carried { Carries halves.heads.now rests.old ways.now amount (slice_index levels.now halves.source - 1) halves.source }
+    requires carried { Carries halves.heads.now rests.old ways.now amount (slice_index levels.now halves.source - 1)
+        halves.source }
     ensures node { result < length levels.now }
     ensures raised { IsRaised halves.entry.heads.now halves.entry.source halves.entry.sink amount rests.old rests.new }
 {

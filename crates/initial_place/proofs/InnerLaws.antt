@@ -1,5 +1,5 @@
 -- Laws of the nets inside a part of the vertices: they weigh no more and have no more pins than those they come from.
-use Rattle.std.proofs.Common.{◌≡◌, ℕ, ◌+◌, ◌*◌, ◌^◌, ◌<◌, ◌≤◌, [], length, take, get_or, refl, ◌∙◌, arith}
+use Rattle.std.proofs.Common.{◌≡◌, ℕ, ◌+◌, ◌*◌, ◌^◌, ◌<◌, ◌≤◌, [], length, take, ◌∙◌, arith}
 use Rattle.std.proofs.Math.Nat.{mul-le-mul_left}
 use Rattle.hg_base.specs.Flat.{GrowsBy}
 use Rattle.hg_defs.specs.Sums.{total}

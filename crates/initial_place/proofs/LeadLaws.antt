@@ -1,14 +1,14 @@
 -- Laws of the placement that leads, and of its place among the named placements.
-use Rattle.std.proofs.Common.{◌≡◌, ℕ, suc, ◌+◌, ◌-◌, ◌^◌, ◌<◌, ◌≤◌, ◌⊎◌, inl, inr, List, [], ◌∷◌, ◌++◌, length, take, get_or, map, All, Option, Some, None, Result, Ok, Err, IfOk, IfErr, refl, sym, ap, subst, subst₂, ◌∙◌, arith, length-append}
+use Rattle.std.proofs.Common.{◌≡◌, ℕ, ◌+◌, ◌-◌, ◌^◌, ◌<◌, ◌≤◌, ◌⊎◌, inl, inr, List, [], ◌∷◌, ◌++◌, length, take, map, All, Option, Some, None, Result, Ok, Err, IfOk, IfErr, refl, sym, ap, subst, subst₂, ◌∙◌, arith, length-append}
 use Rattle.std.proofs.Math.Seq.{get_or-append_seam}
 use Rattle.std.proofs.lemmas.List.{get_or_append_left, take_more, take_all, get_or-map, length-map}
-use Rattle.std.proofs.lemmas.List.Elements.{All-push, All-cons, All-map}
+use Rattle.std.proofs.lemmas.List.Elements.{All-push}
 use Rattle.std.proofs.lemmas.List.FromFn.{length-range_with_len, get_or-range_with_len}
 use Rattle.std.specs.List.{range_with_len}
 use Rattle.hg_defs.specs.Hypergraph.{Hyper}
 use Rattle.hg_defs.specs.Partition.{Fits}
 use Rattle.hg_defs.specs.Cost.{cost}
-use Rattle.hg_defs.specs.LeastLoaded.{least_loaded, greedy, heaviest_first, first_overfilling, unplaced, placing_order}
+use Rattle.hg_defs.specs.LeastLoaded.{least_loaded, greedy, first_overfilling, unplaced, placing_order}
 use Rattle.hg_defs.specs.Placement.{named, drawn_order, first_cheapest}
 use Rattle.hg_defs.specs.NamedLaws.{partition_at, IsCheapestAt}
 use Rattle.hg_defs.proofs.NamedLaws.{cheapest_is_first, none_is_cheapest, only_cheapest_is_first}

@@ -1,5 +1,5 @@
 -- Laws of partitions that are no worse than others.
-use Rattle.std.proofs.Common.{◌≡◌, ℕ, ◌≤◌, List, [], get_or, Some, Result, Ok, Err, IfOk, sym, ap, subst, arith}
+use Rattle.std.proofs.Common.{◌≡◌, ℕ, List, [], get_or, Some, Result, Ok, Err, IfOk, sym, ap, subst, arith}
 use Rattle.hg_defs.specs.declared.memory.NoMemory.{NoMemory}
 use Rattle.hg_defs.specs.Hypergraph.{Hyper}
 use Rattle.hg_defs.specs.Partition.{Fits}

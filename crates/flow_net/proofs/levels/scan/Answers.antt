@@ -1,4 +1,4 @@
-use Rattle.std.proofs.Common.{◌≡◌, ◌+◌, ◌-◌, ◌<◌, ◌≤◌, ◌∙◌, length, slice_index, refl, sym, ap, subst, arith}
+use Rattle.std.proofs.Common.{◌≡◌, ◌+◌, ◌-◌, ◌<◌, ◌∙◌, length, slice_index, refl, sym, ap, subst, arith}
 use Rattle.flow_net.specs.Residual.{head, mate}
 use Rattle.flow_net.proofs.LevelLaws.{queue_room, queue_more, scan_begin, scan_take, scan_skip, level_kept, node_level, scan_end}
 use Rattle.flow_net.proofs.levels.scan.Goals as goal

@@ -1,4 +1,4 @@
-use Rattle.std.proofs.Common.{◌≡◌, ◌+◌, ◌-◌, ◌<◌, ◌≤◌, ◌∙◌, length, length-set, slice_index, refl, sym, ap, arith}
+use Rattle.std.proofs.Common.{◌≡◌, ◌+◌, ◌-◌, ◌<◌, ◌∙◌, length, length-set, arith}
 use Rattle.flow_net.proofs.LevelLaws.{queue_room, search_begin, search_closed}
 use Rattle.flow_net.proofs.levels.search.Goals as goal
 

@@ -1,5 +1,4 @@
-use Rattle.std.proofs.Common.{◌≡◌, ◌+◌, ◌-◌, ◌<◌, ◌≤◌, ◌∙◌, length, slice_index, refl, sym, ap, subst, arith}
-use Rattle.flow_net.specs.Residual.{IsRaised, gap}
+use Rattle.std.proofs.Common.{◌+◌, ◌∙◌, arith}
 use Rattle.flow_net.proofs.ConservationLaws.{gap_falls, raised_less, raised_then}
 use Rattle.flow_net.proofs.maximum.maximize.Goals as goal
 

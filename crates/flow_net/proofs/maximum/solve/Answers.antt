@@ -1,4 +1,4 @@
-use Rattle.std.proofs.Common.{◌≡◌, ◌+◌, ◌*◌, ◌<◌, ◌∙◌, length, slice_index, subst, sym, ap, arith}
+use Rattle.std.proofs.Common.{◌≡◌, ◌*◌, ◌<◌, ◌∙◌, length, slice_index, subst, sym, ap, arith}
 use Rattle.std.proofs.lemmas.List.{length-replicate}
 use Rattle.flow_net.specs.Flow.{IsFilledCut}
 use Rattle.flow_net.proofs.CutLaws.{laid_nodes, laid_bounded, flow_holds, cut_holds}

@@ -1,6 +1,6 @@
-use Rattle.std.proofs.Common.{◌≡◌, ◌+◌, ◌-◌, ◌<◌, ◌≤◌, ◌∙◌, length, slice_index, refl, sym, ap, subst, arith}
+use Rattle.std.proofs.Common.{sym, subst, arith}
 use Rattle.flow_net.specs.Residual.{IsMarked}
-use Rattle.flow_net.proofs.ConservationLaws.{bounded_kept, raised_none, raised_then, marked_begin}
+use Rattle.flow_net.proofs.ConservationLaws.{raised_none, raised_then, marked_begin}
 use Rattle.flow_net.proofs.paths.block.Goals as goal
 
 pub loop-step-init : goal.loop-step-init

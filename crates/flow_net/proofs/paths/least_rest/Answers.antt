@@ -1,5 +1,5 @@
-use Rattle.std.proofs.Common.{◌≡◌, ◌≢◌, ℕ, suc, ◌+◌, ◌-◌, ◌<◌, ◌≤◌, ◌∙◌, length, slice_index, refl, sym, ap, arith}
-use Rattle.flow_net.specs.Residual.{head, IsStep}
+use Rattle.std.proofs.Common.{◌-◌, slice_index, refl, arith}
+use Rattle.flow_net.specs.Residual.{head}
 use Rattle.flow_net.proofs.ConservationLaws.{way_step, not_sink, carries-cons, carries-none}
 use Rattle.flow_net.proofs.paths.least_rest.Goals as goal
 

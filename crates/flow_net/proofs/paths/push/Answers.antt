@@ -1,5 +1,5 @@
-use Rattle.std.proofs.Common.{◌≡◌, ◌≢◌, ℕ, suc, ◌+◌, ◌-◌, ◌<◌, ◌≤◌, ◌∙◌, length, set, slice_index, refl, sym, ap, subst, arith, get_or-set_other}
-use Rattle.flow_net.specs.Residual.{head, mate, IsStep, IsPushed}
+use Rattle.std.proofs.Common.{◌≡◌, suc, ◌-◌, ◌<◌, ◌≤◌, ◌∙◌, length, set, slice_index, refl, sym, ap, subst, arith, get_or-set_other}
+use Rattle.flow_net.specs.Residual.{head, mate}
 use Rattle.flow_net.proofs.LevelLaws.{mate-within}
 use Rattle.flow_net.proofs.ConservationLaws.{way_step, way_takes, pair_room, is_sink, within_set, carries-tail, push_begin, push_step, push_end}
 use Rattle.flow_net.proofs.paths.push.Goals as goal

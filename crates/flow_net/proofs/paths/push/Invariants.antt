@@ -1,4 +1,4 @@
-use Rattle.std.proofs.Common.{◌≡◌, ℕ, ◌+◌, ◌-◌, ◌<◌, ◌≤◌, length, slice_index}
+use Rattle.std.proofs.Common.{◌≡◌, ◌+◌, ◌-◌, ◌<◌, length, slice_index}
 use Rattle.flow_net.specs.Residual.{Carries, IsPushed}
 use Rattle.flow_net.proofs.paths.push.Given as goal
 

@@ -1,4 +1,4 @@
-use Rattle.std.proofs.Common.{◌≡◌, ◌+◌, ◌-◌, ◌<◌, ◌≤◌, ◌∙◌, length, slice_index, refl, sym, ap, subst, arith}
+use Rattle.std.proofs.Common.{◌-◌, ◌<◌, length, slice_index, arith}
 use Rattle.flow_net.proofs.ConservationLaws.{tree_way, marked_next}
 use Rattle.flow_net.proofs.paths.step.Goals as goal
 

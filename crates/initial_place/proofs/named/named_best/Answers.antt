@@ -1,15 +1,15 @@
 -- Each named placement is tried in turn.
-use Rattle.std.proofs.Common.{◌≡◌, ◌-◌, ◌^◌, ℕ, List, [], ◌∷◌, ◌++◌, Option, Some, None, Result, Ok, Err, IfOk, refl, sym, ap, subst, ◌∙◌, arith}
+use Rattle.std.proofs.Common.{◌≡◌, ℕ, List, [], ◌∷◌, Option, Some, Result, IfOk, sym, ap, subst, ◌∙◌, arith}
 use Rattle.hg_defs.specs.Partition.{IsPartition, Obeys}
 use Rattle.hg_defs.specs.LeastLoaded.{greedy, least_loaded, heaviest_first}
-use Rattle.hg_defs.specs.PlacementLaws.{ListsFree, IsPlaceable}
+use Rattle.hg_defs.specs.PlacementLaws.{IsPlaceable}
 use Rattle.hg_defs.specs.Placement.{drawn_order, named, first_cheapest}
 use Rattle.hg_defs.proofs.PlacementLaws.{heaviest_first-lists_free}
 use Rattle.std.specs.Option.{ok_or}
 use Rattle.initial_place.specs.declared.end.PlaceEnd.{PlaceEnd}
 use Rattle.initial_place.specs.declared.end.PlaceEnd.TheVariants.{NoneFits}
 use Rattle.hg_defs.proofs.NamedLaws.{named-partitions, named-obey}
-use Rattle.initial_place.specs.Leading.{Leader, Leads}
+use Rattle.initial_place.specs.Leading.{Leads}
 use Rattle.initial_place.proofs.DrawLaws.{drawn_order-lists_free}
 use Rattle.initial_place.proofs.LeadLaws.{drawn_upto, drawn_next, drawn_all, tried_same, none_tried, best_of, none_of, best_is}
 use Rattle.initial_place.proofs.named.named_best.Goals as goal

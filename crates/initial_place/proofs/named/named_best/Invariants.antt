@@ -1,5 +1,5 @@
 -- Greedy placement and the placements in the orders so far were tried.
-use Rattle.std.proofs.Common.{ℕ, List, ◌∷◌}
+use Rattle.std.proofs.Common.{◌∷◌}
 use Rattle.hg_defs.specs.LeastLoaded.{greedy}
 use Rattle.initial_place.specs.Leading.{Leads}
 use Rattle.initial_place.proofs.LeadLaws.{drawn_upto}

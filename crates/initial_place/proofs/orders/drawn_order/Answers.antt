@@ -1,7 +1,5 @@
 -- The vertices of the sorted pairs are the order.
-use Rattle.std.proofs.Common.{◌≡◌, ℕ, List, map, length, IfOk, IsPermutation, ap, sym, ◌∙◌, subst}
-use Rattle.hg_defs.specs.Placement.{drawn_order}
-use Rattle.initial_place.specs.Drawn.{draws_of}
+use Rattle.std.proofs.Common.{◌≡◌, ℕ, List, map, IfOk, IsPermutation, ap, ◌∙◌, subst}
 use Rattle.initial_place.proofs.DrawLaws.{order_of_draws, written_back}
 use Rattle.initial_place.proofs.orders.drawn_order.Goals as goal
 

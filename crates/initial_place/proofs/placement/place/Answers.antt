@@ -1,5 +1,5 @@
 -- What the search makes of the best named placement.
-use Rattle.std.proofs.Common.{◌≡◌, Err, Result, List, ℕ, ◌∙◌, ap, sym}
+use Rattle.std.proofs.Common.{Err, ◌∙◌, ap, sym}
 use Rattle.std.proofs.lemmas.Result.{err_from_is_err_and}
 use Rattle.initial_place.specs.declared.end.PlaceEnd.{PlaceEnd}
 use Rattle.hg_defs.specs.Placement.{named}

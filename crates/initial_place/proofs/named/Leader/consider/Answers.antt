@@ -1,10 +1,9 @@
 -- A placement within the limit takes the lead where it is cheaper.
-use Rattle.std.proofs.Common.{◌≡◌, ◌+◌, ◌-◌, ◌^◌, ◌≤◌, ◌<◌, ℕ, List, [], ◌∷◌, ◌++◌, Result, Option, Some, Ok, Err, refl, sym, ap, ap₂, ◌∙◌, subst, arith}
+use Rattle.std.proofs.Common.{◌≡◌, ℕ, List, [], ◌∷◌, ◌++◌, Result, Option, Some, Ok, Err, sym, ap, ap₂, ◌∙◌, subst, arith}
 use Rattle.hg_base.specs.declared.placement.GreedyEnd.{GreedyEnd}
-use Rattle.hg_base.specs.declared.placement.GreedyEnd.TheVariants.{Overfills}
 use Rattle.hg_defs.specs.Partition.{Fits}
 use Rattle.hg_defs.specs.Cost.{cost}
-use Rattle.initial_place.specs.Leading.{Leader, Leads, EndsAt, IsTried}
+use Rattle.initial_place.specs.Leading.{Leader, Leads, IsTried}
 use Rattle.initial_place.proofs.LeadLaws.{stays, gives_way}
 use Rattle.initial_place.proofs.named.Leader.consider.Goals as goal
 use Rattle.initial_place.proofs.named.Leader.consider.Goals.{in-Some-1, in-None-1}

@@ -1,6 +1,6 @@
 -- What is inside of a net is no more than the net.
-use Rattle.std.proofs.Common.{◌≡◌, ℕ, ◌+◌, ◌<◌, ◌≤◌, List, length, ap, arith, ◌∙◌, subst, sym}
-use Rattle.hg_defs.specs.Hypergraph.{Hyper, net_count, net_of}
+use Rattle.std.proofs.Common.{ℕ, ◌+◌, ◌<◌, List, length, ap, arith, subst, sym}
+use Rattle.hg_defs.specs.Hypergraph.{Hyper, net_count}
 use Rattle.initial_place.proofs.InnerLaws.{IsInner, HasRoom, inner_kept, inner_grown, inner_room}
 use Rattle.initial_place.proofs.search.division.inner.Goals as goal
 use Rattle.initial_place.proofs.search.division.inner.Goals.{then-len-gt1+in_ok-push_net, else-len-gt1}

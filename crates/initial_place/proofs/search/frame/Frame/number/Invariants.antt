@@ -1,4 +1,4 @@
-use Rattle.std.proofs.Common.{◌≡◌, ◌<◌, ◌≤◌}
+use Rattle.std.proofs.Common.{◌≡◌, ◌≤◌}
 use Rattle.initial_place.proofs.search.frame.Frame.number.Given as goal
 
 abbrev pub invariant-loop-v : goal.invariant-loop-v

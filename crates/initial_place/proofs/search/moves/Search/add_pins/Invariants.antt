@@ -1,4 +1,4 @@
-use Rattle.std.proofs.Common.{◌≡◌, ◌<◌, ◌≤◌}
+use Rattle.std.proofs.Common.{◌≡◌, ◌≤◌}
 use Rattle.initial_place.proofs.search.moves.Search.add_pins.Given as goal
 
 abbrev pub invariant-loop-u : goal.invariant-loop-u

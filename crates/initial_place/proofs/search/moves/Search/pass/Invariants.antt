@@ -1,4 +1,4 @@
-use Rattle.std.proofs.Common.{◌≡◌, ◌<◌, ◌≤◌}
+use Rattle.std.proofs.Common.{◌≡◌, ◌≤◌}
 use Rattle.initial_place.proofs.search.moves.Search.pass.Given as goal
 
 abbrev pub invariant-loop-place : goal.invariant-loop-place

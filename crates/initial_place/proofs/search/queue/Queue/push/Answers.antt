@@ -1,5 +1,5 @@
 -- The vertex of the offer is below the bound, and so are the others.
-use Rattle.std.proofs.Common.{ℕ, ℤ, ◌<◌, ◌∷◌, heap_items}
+use Rattle.std.proofs.Common.{ℕ, ℤ, ◌<◌, heap_items}
 use Rattle.std.proofs.lemmas.List.Elements.{All-cons}
 use Rattle.std.proofs.lemmas.List.Sorted.{All-permutation}
 use Rattle.initial_place.proofs.search.queue.Queue.push.Goals as goal

@@ -1,0 +1,6 @@
+pub mod MarkLaws
+pub mod NumberLaws
+pub mod PairLaws
+pub mod SweepLaws
+pub mod LevelSteps
+pub mod InsideSteps

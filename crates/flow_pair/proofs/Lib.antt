@@ -1,0 +1,6 @@
+pub mod PairLaws
+pub mod RegionLaws
+pub mod AssignmentLaws
+pub mod FormLaws
+pub mod EndLaws
+pub mod ApartLaws

@@ -1,0 +1,4 @@
+pub mod PairNetwork
+pub mod Laws
+pub mod Sides
+pub mod PairEnds

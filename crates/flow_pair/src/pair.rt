@@ -1,0 +1,160 @@
+//! A pair of blocks with a region, lent to those who build its network.
+
+ghost use Rattle.std.specs.Prelude.{◌≡◌, ◌+◌, ◌*◌, ◌<◌, ◌≤◌, ◌^◌, length, All, nat_eq, ◌||◌};
+ghost use Rattle.std.specs.List.{list_any, position_or_len};
+ghost use Rattle.std.specs.Set.{is_member};
+ghost use Rattle.std.specs.List.Sorted.{IsStrictlyIncreasing};
+ghost use Rattle.hg_defs.specs.Hypergraph.{vertex_count, net_count, net_of, total_net_weight};
+ghost use Rattle.flow_pair.specs.PairNetwork.{node_of, joins, net_price, unbounded, leaves_pair};
+ghost use Rattle.hg_defs.specs.Partition.{block_of};
+
+use hg_base::Objective;
+use incidence::Hypergraph;
+
+/// Two blocks of a partition of a hypergraph, and a region of vertices in strictly rising order.
+#[derive(Clone, Copy)]
+pub(crate) struct Pair<'a> {
+    pub(crate) h: &'a Hypergraph,
+    pub(crate) blocks: &'a [u32],
+    pub(crate) first: u32,
+    pub(crate) second: u32,
+    pub(crate) region: &'a [u32],
+    /// More than all nets can pay.
+    pub(crate) most: u64,
+    ghost all: { length blocks.now ≡ vertex_count h.now },
+    ghost rising: { IsStrictlyIncreasing region.now },
+    ghost vertices: { All (λ v. v < vertex_count h.now) region.now },
+    ghost small: { length region.now ≤ 2 ^ 22 },
+    ghost above: { most ≡ unbounded h.now },
+    ghost bounded: { most ≤ 2 ^ 56 },
+}
+
+/// More than all nets of a hypergraph can pay together.
+pub(crate) fn more_than_all(h: &Hypergraph) -> u64
+    ensures value { result ≡ unbounded h.now }
+    ensures bound { result ≤ 2 ^ 56 }
+{
+    let mut weight = 0;
+    for e in 0..h.nets() {
+        weight += h.net_weight(e);
+    }
+    2 * weight + 1
+}
+
+/// The place of a vertex in the region, or the region's length where it is not there.
+fn place_of(region: &[u32], v: u32) -> usize
+    requires { IsStrictlyIncreasing region.now }
+    ensures { result ≡ position_or_len (nat_eq v) region.now }
+{
+    match region.binary_search(&v) {
+        Ok(place) => place,
+        Err(_) => region.len(),
+    }
+}
+
+impl Pair<'_> {
+    /// The node of a vertex of one of the blocks.
+    pub(crate) fn node_of(&self, v: u32) -> u32
+        requires { v < vertex_count self.now.h.now }
+        ensures value { result ≡ node_of self.now.blocks.now self.now.first self.now.region.now v }
+        ensures below { result < 2 + length self.now.region.now }
+    {
+        let place = place_of(self.region, v);
+        if place < self.region.len() {
+            return 2 + place as u32;
+        }
+        if self.blocks[v as usize] == self.first {
+            0
+        } else {
+            1
+        }
+    }
+
+    /// Whether a vertex is in one of the blocks.
+    pub(crate) fn holds(&self, v: u32) -> bool
+        requires { v < vertex_count self.now.h.now }
+        ensures { result ≡ (nat_eq (block_of self.now.blocks.now v) self.now.first || nat_eq (block_of
+            self.now.blocks.now v) self.now.second) }
+    {
+        let block = self.blocks[v as usize];
+        block == self.first || block == self.second
+    }
+
+    /// Whether a vertex is in the region.
+    fn has(&self, v: u32) -> bool
+        ensures { result ≡ is_member nat_eq self.now.region.now v }
+    {
+        place_of(self.region, v) < self.region.len()
+    }
+
+    /// Whether one of the pins is in the region.
+    fn meets_region(&self, pins: &[u32]) -> bool
+        ensures { result ≡ list_any (is_member nat_eq self.now.region.now) pins.now }
+    {
+        for v in pins {
+            if self.has(*v) {
+                return true;
+            }
+        }
+        false
+    }
+
+    /// Whether one of the pins is in a block.
+    fn meets_block(&self, pins: &[u32], block: u32) -> bool
+        requires { All (λ v. v < vertex_count self.now.h.now) pins.now }
+        ensures { result ≡ list_any (λ v. nat_eq (block_of self.now.blocks.now v) block) pins.now }
+    {
+        for v in pins {
+            if self.blocks[*v as usize] == block {
+                return true;
+            }
+        }
+        false
+    }
+
+    /// Whether a net has a pin in the region, or pins outside of it in both blocks.
+    pub(crate) fn joins(&self, e: u32) -> bool
+        requires { e < net_count self.now.h.now }
+        ensures { result ≡ joins self.now.blocks.now self.now.first self.now.second self.now.region.now (net_of
+            self.now.h.now e) }
+    {
+        let pins = self.h.pins(e);
+        if self.meets_region(pins) {
+            return true;
+        }
+        if !self.meets_block(pins, self.first) {
+            return false;
+        }
+        self.meets_block(pins, self.second)
+    }
+
+    /// Whether a net has a pin in neither block.
+    fn leaves(&self, pins: &[u32]) -> bool
+        requires { All (λ v. v < vertex_count self.now.h.now) pins.now }
+        ensures { result ≡ leaves_pair self.now.blocks.now self.now.first self.now.second pins.now }
+    {
+        for v in pins {
+            let block = self.blocks[*v as usize];
+            if block != self.first && block != self.second {
+                return true;
+            }
+        }
+        false
+    }
+
+    /// What a net pays for touching both blocks.
+    pub(crate) fn net_price(&self, e: u32) -> u64
+        requires { e < net_count self.now.h.now }
+        ensures value { result ≡ net_price self.now.h.now self.now.blocks.now self.now.first self.now.second (net_of
+            self.now.h.now e) }
+        ensures bound { result < 2 ^ 55 }
+    {
+        let weight = self.h.net_weight(e);
+        let leaving = self.leaves(self.h.pins(e));
+        match self.h.objective() {
+            Objective::Connectivity => weight,
+            Objective::CutNet => { if leaving { 0 } else { weight } }
+            Objective::ExternalDegree => { if leaving { weight } else { 2 * weight } }
+        }
+    }
+}
