@@ -38,18 +38,5 @@ fn levels_of_row(rt: HostRuntime) -> Result<(), Fail> {
     let (stack, stop) = coarsen(&rt, rt.alloc(), h, 8, 2, 1, &OpenGate)?;
     assert!(rt; stack.depth() >= 2);
     assert!(rt; stack.top().vertices() <= 256 || !matches!(stop, Stop::Small));
-    let blocks = vec![in rt.alloc(); 0u32; 300]?;
-    let (stack, _stop, top) = coarsen_inside(
-        &rt,
-        rt.alloc(),
-        stack.base(),
-        8,
-        &blocks,
-        2,
-        1,
-        &OpenGate,
-    )?;
-    assert!(rt; stack.depth() >= 2);
-    assert_eq!(rt; top.len(), stack.top().vertices() as usize);
     Ok(())
 }

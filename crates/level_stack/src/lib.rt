@@ -2,8 +2,6 @@
 #![tactic(auto)]
 
 mod stack;
-#[cfg(test)]
-mod tests;
 
 pub use contract_nets::{MergeLedger, Merged};
 pub use hg_base::{MapList, NoMemory};
