@@ -20,8 +20,8 @@ use std::alloc::Global;
 use std::thread::Threads;
 
 /// Contracts a hypergraph by a map that gives each vertex the number of its cluster and uses
-/// every number below the count of clusters. Each vertex that isn't free is to be alone in its
-/// cluster.
+/// every number below the count of clusters. Where each vertex that isn't free is alone in its
+/// cluster, its fix is kept; the contract doesn't ask for it.
 ///
 /// A cluster becomes a vertex of the weight of all its vertices, with the fix of the one that
 /// isn't free. A net becomes the set of its pins' clusters; nets of fewer than two are dropped,
