@@ -1,0 +1,2 @@
+mod SettlingLemmas
+mod StartLemmas

@@ -1,0 +1,145 @@
+ghost use Rattle.std.specs.Prelude.{◌≡◌, IfOk};
+ghost use Rattle.hg_defs.specs.Hypergraph.{vertex_count};
+
+use super::*;
+use hg_base::{Blocks, FlatHyper, MapStack, NoMemory, greedy};
+use incidence::Hypergraph;
+use initial_place::PlaceEnd;
+use level_stack::LevelStack;
+use pin_plain::Partition;
+use round_log::{Chosen, RoundList, Stop, Trace};
+use std::alloc::Global;
+use std::process::Abort;
+use std::test::Fail;
+
+/// Four vertices of these weights and one net that holds the first two.
+fn weighted(
+    alloc: Global,
+    first: u32,
+    second: u32,
+    third: u32,
+    fourth: u32,
+) -> Result<Hypergraph, NoMemory> {
+    let mut h = FlatHyper::start(alloc, 4)?;
+    h.set_vertex_weight(0, u64::from(first));
+    h.set_vertex_weight(1, u64::from(second));
+    h.set_vertex_weight(2, u64::from(third));
+    h.set_vertex_weight(3, u64::from(fourth));
+    h.push_net(5, &[0, 1])?;
+    Hypergraph::build(alloc, h)
+}
+
+#[test]
+fn begins_where_one_fits(rt: HostRuntime) -> Result<(), Fail> {
+    // Three vertices of weight 4 don't fit two blocks of 6. Of 2, 2, 3, 3 in two blocks of 5 the net
+    // is cut whatever fits.
+    for (second, third, fourth, limit, found) in [
+        (4, 4, 0, 6, None),
+        (2, 3, 3, 5, Some((0, true))),
+        (2, 3, 3, 6, Some((0, false))),
+    ] {
+        let h = weighted(rt.alloc(), second, second, third, fourth)?;
+        assert!(rt; h.suits(2));
+        assert!(rt; h.fixed_within(2));
+        let stack = LevelStack::start(rt.alloc(), h)?;
+        match descend(&rt, rt.alloc(), &stack, 2, limit, 1) {
+            Ok(start) => {
+                let blocks = start.blocks.slice();
+                let cut = blocks.first() != blocks.get(1);
+                assert_eq!(rt; Some((start.level, cut)), found);
+            }
+            Err(end) => {
+                assert_eq!(rt; (end, found), (PlaceEnd::NoneFits, None));
+            }
+        }
+    }
+    Ok(())
+}
+
+/// Four vertices and nets of weights 1, 3, 1 between them, in a row or across.
+fn four(alloc: Global, across: bool) -> Result<Hypergraph, NoMemory>
+    ensures { IfOk result (λ h. vertex_count h ≡ 4) }
+{
+    let mut flat = FlatHyper::start(alloc, 4)?;
+    if across {
+        flat.push_net(1, &[0, 2])?;
+        flat.push_net(1, &[1, 3])?;
+    } else {
+        flat.push_net(1, &[0, 1])?;
+        flat.push_net(3, &[1, 2])?;
+        flat.push_net(1, &[2, 3])?;
+    }
+    Hypergraph::build(alloc, flat)
+}
+
+/// Ends a descent to these blocks, and looks at the end.
+fn ends(
+    rt: &impl Abort,
+    alloc: Global,
+    h: &Hypergraph,
+    limit: u64,
+    blocks: &[u32],
+    chosen: Chosen,
+    rounds: usize,
+    end: &[u32],
+) -> Result<(), Fail> {
+    assert_eq!(rt; blocks.len(), h.vertices() as usize);
+    assert!(rt; blocks.iter().all(|b| *b < 2));
+    assert!(rt; h.suits(2));
+    assert!(rt; h.fixed_within(2));
+    let mut trace = Trace {
+        maps: MapStack::new(alloc),
+        stop: Stop::Small,
+        start: 0,
+        first: Blocks::from_vec(blocks.to_vec(alloc)?),
+        rounds: RoundList::new(alloc),
+        last: Blocks::from_vec(blocks.to_vec(alloc)?),
+        chosen: Chosen::Levels,
+    };
+    let placed = greedy(alloc, h.flat(), 2, limit).expect(rt, "it fits");
+    let part = Partition::of(alloc, h, 2, limit, Blocks::from_vec(blocks.to_vec(alloc)?))?;
+    assert!(rt; part.fits());
+    let settled = settle_best(alloc, h, part, placed, &mut trace)?;
+    assert_eq!(rt; settled.blocks(), end);
+    assert_eq!(rt; (trace.chosen, trace.rounds.len()), (chosen, rounds));
+    Ok(())
+}
+
+#[test]
+fn ends_with_the_cheaper(rt: HostRuntime) -> Result<(), Fail> {
+    // The greedy blocks are 0 1 0 1. At a tie they aren't taken.
+    let alloc = rt.alloc();
+    let across = four(alloc, true)?;
+    ends(
+        &rt,
+        alloc,
+        &across,
+        2,
+        &[0, 0, 1, 1],
+        Chosen::Greedy,
+        0,
+        &[0, 1, 0, 1],
+    )?;
+    ends(
+        &rt,
+        alloc,
+        &across,
+        2,
+        &[1, 0, 1, 0],
+        Chosen::Levels,
+        0,
+        &[1, 0, 1, 0],
+    )?;
+    let row = four(alloc, false)?;
+    ends(
+        &rt,
+        alloc,
+        &row,
+        3,
+        &[0, 1, 0, 1],
+        Chosen::Levels,
+        1,
+        &[1, 0, 0, 0],
+    )?;
+    Ok(())
+}
