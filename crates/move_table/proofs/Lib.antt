@@ -15,3 +15,4 @@ pub mod CloseLaws
 pub mod GatherLaws
 pub mod EndLaws
 pub mod ClaimedLaws
+pub mod SharingLaws

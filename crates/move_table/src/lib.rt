@@ -24,3 +24,6 @@ pub use grant::{Full, Grant};
 pub use pass::{Pass, Passes};
 pub use round::Round;
 pub use view::{Terms, View};
+
+#[cfg(test)]
+mod tests;
