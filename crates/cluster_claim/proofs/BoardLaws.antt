@@ -14,7 +14,8 @@ use Rattle.cluster_core.proofs.RootLaws.{roots_are}
 use Rattle.cluster_claim.specs.declared.board.Key.{Key}
 use Rattle.cluster_claim.specs.Board.{IsKept, IsBoard, setup_at, readings_of, accounts_of}
 
-module _ (key : Key) (tid : TableId) (h : Hyper) (cap : ℕ) (b : IsBoard key tid h cap) (ws : List ℕ) (xs : List (Unit {0})) (f : Final (IsKept (setup_at key) key.workers) ws xs) where
+module _ (key : Key) (tid : TableId) (h : Hyper) (cap : ℕ) (b : IsBoard key tid h cap) (ws : List ℕ) (xs : List (Unit {0}))
+    (f : Final (IsKept (setup_at key) key.workers) ws xs) where
   here : setup_at key ≡ setup_of h cap
   here = ap (λ z. setup_of z key.cap) b.same_graph ∙ ap (setup_of h) b.same_cap
 

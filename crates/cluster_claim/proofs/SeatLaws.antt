@@ -1,5 +1,6 @@
 -- A step of one seat on one word: the rule of the table is kept where the step is an event.
-use Rattle.std.proofs.Common.{◌≡◌, ℕ, zero, suc, ◌+◌, ◌*◌, ◌<◌, true, false, ◌&&◌, List, [], ◌∷◌, length, length-set, get_or, slice_index, slice_set, nat_eq, if◌then◌else◌, sym, ap, ◌∙◌, subst, arith, get_or-set_other}
+use Rattle.std.proofs.Common.{◌≡◌, ℕ, zero, suc, ◌+◌, ◌*◌, ◌<◌, true, false, ◌&&◌, List, [], ◌∷◌, length, length-set, get_or}
+use Rattle.std.proofs.Common.{slice_index, slice_set, nat_eq, if◌then◌else◌, sym, ap, ◌∙◌, subst, arith, get_or-set_other}
 use Rattle.std.proofs.lemmas.List.{map-set, get_or-map, length-map}
 use Rattle.std.proofs.lemmas.Bool.{and_from}
 use mathlib.Core.Option.{some, some-injective, some-ne-none}
@@ -69,12 +70,14 @@ module _ (g : Setup) (workers : ℕ) (s : State (Unit {0}) View) (k : IsKept g w
   account_here = get_or-map (λ (z : View). z.account) s.views id v (blank false) seat_below ∙ ap (λ (z : View). z.account) (at_get s.views id v v at)
 
   -- the words and the account of the seat changed
-  pub kept_one : (words : List ℕ) (a' : Account) → length words ≡ length s.words → InBalance g (readings_of (vertex_count g.graph) words) (slice_set accounts id a') → IsKept g workers (record { words = words; homes = s.homes; views = slice_set s.views id (record v { account = a' }) })
+  pub kept_one : (words : List ℕ) (a' : Account) → length words ≡ length s.words → InBalance g (readings_of (vertex_count g.graph) words)
+      (slice_set accounts id a') → IsKept g workers (record { words = words; homes = s.homes; views = slice_set s.views id (record v { account = a' }) })
   kept_one words a' e b = record {
     wide = e ∙ k.wide;
     some = k.some;
     bounds = k.bounds;
-    balance = subst (InBalance g (readings_of (vertex_count g.graph) words)) (sym (map-set (λ (z : View). z.account) s.views id (record v { account = a' }))) b;
+    balance = subst (InBalance g (readings_of (vertex_count g.graph) words))
+        (sym (map-set (λ (z : View). z.account) s.views id (record v { account = a' }))) b;
     made =
         let t = total-set (λ (z : View). z.spare) s.views id (record v { account = a' }) v seat_below in
         let o = ap (λ (z : View). z.spare) (at_get s.views id v v at) in
@@ -85,15 +88,23 @@ module _ (g : Setup) (workers : ℕ) (s : State (Unit {0}) View) (k : IsKept g w
   }
 
   -- an event of this seat alone
-  pub event_kept : (x : ClusterEvent) → pass_of x ≡ id → ((f : ℕ) → accounts_after g accounts x f ≡ slice_set accounts (pass_of x) (account_after g x f (account accounts (pass_of x)))) → others_agree accounts x ≡ true → v.account.live ≡ true → may_step g x v.account ≡ true → (place y found : ℕ) → found ≡ read r (word_of x v.account) → Writes g r (readings_of (vertex_count g.graph) (slice_set s.words place y)) (word_of x v.account) y → y ≡ write_of g x v.account found → IsKept g workers (record { words = slice_set s.words place y; homes = s.homes; views = slice_set s.views id (done g x found v) })
+  pub event_kept : (x : ClusterEvent) → pass_of x ≡ id → ((f : ℕ) → accounts_after g accounts x f ≡ slice_set accounts (pass_of x)
+      (account_after g x f (account accounts (pass_of x)))) → others_agree accounts x ≡ true → v.account.live ≡ true → may_step g x v.account ≡ true →
+      (place y found : ℕ) → found ≡ read r (word_of x v.account) → Writes g r (readings_of (vertex_count g.graph) (slice_set s.words place y))
+      (word_of x v.account) y → y ≡ write_of g x v.account found →
+      IsKept g workers (record { words = slice_set s.words place y; homes = s.homes; views = slice_set s.views id (done g x found v) })
   event_kept x p own others live may place y found f w e =
       kept_one (slice_set s.words place y) (account_after g x found v.account) (length-set s.words place y)
-      (subst (λ i. InBalance g (readings_of (vertex_count g.graph) (slice_set s.words place y)) (slice_set accounts i (account_after g x found v.account))) p
-      (subst (λ (a : Account). InBalance g (readings_of (vertex_count g.graph) (slice_set s.words place y)) (slice_set accounts (pass_of x) (account_after g x found a))) here
-      (subst (λ z. InBalance g (readings_of (vertex_count g.graph) (slice_set s.words place y)) (slice_set accounts (pass_of x) (account_after g x z (account accounts (pass_of x))))) (sym found_here)
+      (subst (λ i. InBalance g (readings_of (vertex_count g.graph) (slice_set s.words place y)) (slice_set accounts i (account_after g x found v.account)))
+      p
+      (subst (λ (a : Account). InBalance g (readings_of (vertex_count g.graph) (slice_set s.words place y))
+      (slice_set accounts (pass_of x) (account_after g x found a))) here
+      (subst (λ z. InBalance g (readings_of (vertex_count g.graph) (slice_set s.words place y))
+      (slice_set accounts (pass_of x) (account_after g x z (account accounts (pass_of x))))) (sym found_here)
       (subst (InBalance g (readings_of (vertex_count g.graph) (slice_set s.words place y))) (own (read r (word_of x (account accounts (pass_of x)))))
       (event_keeps g r accounts k.balance (readings_of (vertex_count g.graph) (slice_set s.words place y)) x enabled
-      (subst (λ (a : Account). Writes g r (readings_of (vertex_count g.graph) (slice_set s.words place y)) (word_of x a) (write_of g x a (read r (word_of x a)))) (sym here)
+      (subst (λ (a : Account). Writes g r (readings_of (vertex_count g.graph) (slice_set s.words place y)) (word_of x a)
+      (write_of g x a (read r (word_of x a)))) (sym here)
       (subst (λ z. Writes g r (readings_of (vertex_count g.graph) (slice_set s.words place y)) (word_of x v.account) (write_of g x v.account z)) f
       (subst (Writes g r (readings_of (vertex_count g.graph) (slice_set s.words place y)) (word_of x v.account)) e w))))))))
     where

@@ -1,6 +1,7 @@
 //! Clustering by many workers at once.
 
-ghost use Rattle.std.specs.Prelude.{◌≡◌, ◌+◌, ◌-◌, ◌*◌, ◌^◌, ◌<◌, ◌≤◌, ℕ, All, IfOk, [], ◌++◌, length, map, replicate, slice_index};
+ghost use Rattle.std.specs.Prelude.{◌≡◌, ◌+◌, ◌-◌, ◌*◌, ◌^◌, ◌<◌, ◌≤◌, ℕ, All, IfOk, [], ◌++◌};
+ghost use Rattle.std.specs.Prelude.{length, map, replicate, slice_index};
 ghost use Rattle.std.specs.List.{range_with_len};
 ghost use Rattle.std.specs.Slots.{slots_items, slots_len, IsFull};
 ghost use Rattle.hg_defs.specs.Hypergraph.{vertex_count, IsWithinLimits};
@@ -123,7 +124,8 @@ fn roots_in(alloc: Global, closed: &Closed<(), Global>, vertices: u32) -> Result
     requires full { IsFull closed.now.words }
     requires long { vertices ≤ slots_len closed.now.words }
     requires below { (v : ℕ) → v < vertices → slice_index (slots_items closed.now.words) v < 2 ^ 32 }
-    ensures { IfOk result (λ roots. roots ≡ map (λ v. root_in (slice_index (slots_items closed.now.words) v) v) (range_with_len 0 vertices)) }
+    ensures { IfOk result (λ roots. roots ≡ map (λ v. root_in (slice_index (slots_items closed.now.words) v) v)
+        (range_with_len 0 vertices)) }
 {
     let mut roots = Vec::with_capacity(alloc, vertices as usize)?;
     'vertices: for v in 0..vertices {

@@ -149,7 +149,8 @@ impl Pass {
         requires vertex { vertex < vertex_count h.now }
         requires taken { HasTaken self.old vertex }
         ensures pass { IsPass words.now.table_id stage.Idle self.new }
-        ensures others { (u : ℕ) → u ≢ vertex → times u (account_in self.new).taken ≡ times u (account_in self.old).taken }
+        ensures others { (u : ℕ) → u ≢ vertex → times u (account_in self.new).taken ≡ times u
+            (account_in self.old).taken }
         ensures known { Knows self.new vertex }
     {
         root_as::<Brand>(words, self, h, cap, vertex);

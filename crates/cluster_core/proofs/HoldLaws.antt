@@ -14,7 +14,9 @@ pub contains_times : (v : ℕ) (xs : List ℕ) → list_any (λ k. is_eq (nat_cm
 contains_times v [] = refl
 contains_times v (x ∷ xs) = ap (λ b. b || list_any (λ k. is_eq (nat_cmp v k)) xs) (unsigned_tied v x) ∙ by (nat_eq v x) refl (contains_times v xs)
   where
-    by : (b : Bool) → nat_eq v x ≡ b → list_any (λ k. is_eq (nat_cmp v k)) xs ≡ nat_lt 0 (times v xs) → (b || list_any (λ k. is_eq (nat_cmp v k)) xs) ≡ nat_lt 0 (times v (x ∷ xs))
+    by : (b : Bool) → nat_eq v x ≡ b → list_any (λ k. is_eq (nat_cmp v k)) xs ≡ nat_lt 0 (times v xs) → (b || list_any (λ k. is_eq (nat_cmp v k)) xs) ≡
+        nat_lt
+        0 (times v (x ∷ xs))
     by true e r = let w = weight_if-same x v 1 (sym (eqb-true v x e)) in sym (lt-ltb 0 (times v (x ∷ xs)) (omega arith))
     by false e r =
         let w = weight_if-other x v 1 (λ q. eqb-false v x e (sym q)) in
@@ -22,6 +24,7 @@ contains_times v (x ∷ xs) = ap (λ b. b || list_any (λ k. is_eq (nat_cmp v k)
         r ∙ ap (nat_lt 0) (sym s)
 
 -- one key more to be put into a list
-pub all_inserted_push : {A : Type 0} (f : A → ℕ) (xs : List ℕ) (ys : List A) (y : A) → all_inserted xs (map f (ys ++ y ∷ [])) ≡ insert_key nat_cmp (all_inserted xs (map f ys)) (f y)
+pub all_inserted_push : {A : Type 0} (f : A → ℕ) (xs : List ℕ) (ys : List A) (y : A) → all_inserted xs (map f (ys ++ y ∷ [])) ≡ insert_key nat_cmp
+    (all_inserted xs (map f ys)) (f y)
 all_inserted_push f xs [] y = refl
 all_inserted_push f xs (z ∷ ys) y = all_inserted_push f (insert_key nat_cmp xs (f z)) ys y

@@ -1,5 +1,7 @@
 -- Every enabled event keeps the balance, and no event changes a decided mark.
-use Rattle.std.proofs.Common.{◌≡◌, ◌≢◌, ℕ, ◌+◌, ◌-◌, ◌<◌, ◌≤◌, inl, inr, Bool, true, false, not, ◌&&◌, List, [], ◌∷◌, ◌++◌, length, length-append, length-set, get_or, set, slice_set, nat_eq, nat_lt, nat_le, if◌then◌else◌, All, refl, sym, ap, ◌∙◌, subst, arith, nat_cmp}
+use Rattle.std.proofs.Common.{◌≡◌, ◌≢◌, ℕ, ◌+◌, ◌-◌, ◌<◌, ◌≤◌, inl, inr, Bool, true, false, not, ◌&&◌}
+use Rattle.std.proofs.Common.{List, [], ◌∷◌, ◌++◌, length, length-append, length-set}
+use Rattle.std.proofs.Common.{get_or, set, slice_set, nat_eq, nat_lt, nat_le, if◌then◌else◌, All, refl, sym, ap, ◌∙◌, subst, arith, nat_cmp}
 use Rattle.std.proofs.lemmas.Bool.{true≢false, eqb-true, eqb-false, ltb-true, leb-true, not-true, and_parts, cases_lt, cases_eq}
 use Rattle.std.proofs.lemmas.List.{get_or_past, set-get_or, get_or-set_other}
 use Rattle.std.proofs.lemmas.List.Elements.{All-append, All-cons, All-nil, All-set}
@@ -14,9 +16,11 @@ use Rattle.cluster_core.specs.declared.account.Stage.TheVariants.{Idle, Refused,
 use Rattle.cluster_core.specs.declared.events.ClusterEvent.{ClusterEvent}
 use Rattle.cluster_core.specs.declared.events.ClusterEvent.TheVariants.{Take, Root, Add, TakeBack, Follow, Peek, Split, Join}
 use Rattle.cluster_core.specs.State.{Setup, Readings, Mark, Mass, Writes, read, times, blank, account}
-use Rattle.cluster_core.specs.Events.{pass_of, word_of, write_of, is_idle, may_step, others_agree, is_enabled, account_after, accounts_after, learned, joined_with, has_taken, knows}
+use Rattle.cluster_core.specs.Events.{pass_of, word_of, write_of, is_idle, may_step, others_agree, is_enabled}
+use Rattle.cluster_core.specs.Events.{account_after, accounts_after, learned, joined_with, has_taken, knows}
 use Rattle.cluster_core.specs.Balance.{InBalance, IsRoot, IsHeld, KeepsDecided, clustered, share, pending_weight, granted_weight, grants}
-use Rattle.cluster_core.proofs.TimesLaws.{times-insert_key, times-remove_key, times-all_inserted, All-insert_key, All-remove_key, All-all_inserted, All_at_times, all_at, pick, total_two}
+use Rattle.cluster_core.proofs.TimesLaws.{times-insert_key, times-remove_key, times-all_inserted, All-insert_key}
+use Rattle.cluster_core.proofs.TimesLaws.{All-remove_key, All-all_inserted, All_at_times, all_at, pick, total_two}
 use Rattle.cluster_core.proofs.MarkLaws.{mark_here, mark_there, mark_stays, root_stays, marks_written, marks_kept}
 use Rattle.cluster_core.proofs.MassLaws.{masses_taken, masses_rooted, masses_followed, masses_kept, masses_refused, masses_granted, masses_taken_back}
 use Rattle.cluster_core.proofs.PassLaws.{staged, staged_at, passes_changed, taken_mark, untaken, held_more}
@@ -67,7 +71,8 @@ balance_same g r r' accounts e b = record {
     root_same q k = record { vertex = k.vertex; mark = e.mark q k.vertex ∙ k.mark }
 
     clustered_same : (q : ℕ) → clustered g.graph r' q ≡ clustered g.graph r q
-    clustered_same q = sum_below-same (share g.graph r' q) (share g.graph r q) (vertex_count g.graph) (λ j k. ap (λ z. weight_if z (q + 2) (weight_of g.graph j)) (e.mark j k))
+    clustered_same q = sum_below-same (share g.graph r' q) (share g.graph r q) (vertex_count g.graph)
+        (λ j k. ap (λ z. weight_if z (q + 2) (weight_of g.graph j)) (e.mark j k))
 
 module _ (g : Setup) (r : Readings) (accounts : List Account) (b : InBalance g r accounts) where
   abbrev h : Hyper
@@ -96,28 +101,39 @@ module _ (g : Setup) (r : Readings) (accounts : List Account) (b : InBalance g r
     pub learn_kept : (v : ℕ) → v < n → (stage : Stage) → Here stage → InBalance g r (slice_set accounts i (learned (r.mark v) (acc stage)))
     learn_kept v lv stage at = by (nat_le 2 (r.mark v)) refl
       where
-        by : (z : Bool) → nat_le 2 (r.mark v) ≡ z → InBalance g r (slice_set accounts i (if z then record (acc stage) { known = insert_key nat_cmp known (r.mark v - 2) } else acc stage))
+        by : (z : Bool) → nat_le 2 (r.mark v) ≡ z → InBalance g r
+            (slice_set accounts i (if z then record (acc stage) { known = insert_key nat_cmp known (r.mark v - 2) } else acc stage))
         by true q = record {
           marks = marks_kept h r r accounts i (acc stage) (staged taken (insert_key nat_cmp known (r.mark v - 2)) stage) l at b.marks (λ u k. refl)
-              (All-insert_key (IsRoot h r) known (r.mark v - 2) (roots_known stage at) (b.marks.roots v (r.mark v - 2) lv (let t = leb-true 2 (r.mark v) q in omega arith)))
+              (All-insert_key (IsRoot h r) known (r.mark v - 2) (roots_known stage at)
+              (b.marks.roots v (r.mark v - 2) lv (let t = leb-true 2 (r.mark v) q in
+              omega arith)))
               refl;
-          masses = masses_kept g r accounts b r i (acc stage) (staged taken (insert_key nat_cmp known (r.mark v - 2)) stage) l at (λ u k. refl) (λ u k. refl) refl;
-          passes = passes_changed accounts i (acc stage) (staged taken (insert_key nat_cmp known (r.mark v - 2)) stage) l at b.passes refl (held_more taken known (r.mark v - 2) stage (held_here stage at));
+          masses = masses_kept g r accounts b r i (acc stage) (staged taken (insert_key nat_cmp known (r.mark v - 2)) stage) l at (λ u k. refl)
+              (λ u k. refl)
+              refl;
+          passes = passes_changed accounts i (acc stage) (staged taken (insert_key nat_cmp known (r.mark v - 2)) stage) l at b.passes refl
+              (held_more taken known (r.mark v - 2) stage (held_here stage at));
         }
         by false q = subst (InBalance g r) (sym (ap (slice_set accounts i) (sym at) ∙ set-get_or accounts i (blank false))) b
 
     module _ (r' : Readings) where
       -- what an event leads to where the pass has this account
       abbrev Kept : ClusterEvent → Stage → Type 0
-      Kept x stage = Writes g r r' (word_of x (acc stage)) (write_of g x (acc stage) (read r (word_of x (acc stage)))) → InBalance g r' (slice_set accounts i (account_after g x (read r (word_of x (acc stage))) (acc stage)))
+      Kept x stage = Writes g r r' (word_of x (acc stage)) (write_of g x (acc stage) (read r (word_of x (acc stage)))) →
+          InBalance g r' (slice_set accounts i (account_after g x (read r (word_of x (acc stage))) (acc stage)))
 
-      stays_known : (v x : ℕ) (lv : v < n) (w : (u : ℕ) → u < n → r'.mark u ≡ (if nat_eq v u then x else r.mark u)) → r.mark v < 2 → All (IsRoot h r) known → All (IsRoot h r') known
+      stays_known : (v x : ℕ) (lv : v < n) (w : (u : ℕ) → u < n → r'.mark u ≡ (if nat_eq v u then x else r.mark u)) → r.mark v < 2 →
+          All (IsRoot h r) known →
+          All (IsRoot h r') known
       stays_known v x lv w vacant k j e p = root_stays h r r' v x lv w vacant (get_or known j e) (k j e p)
 
       -- Take of a vertex that nobody has
-      take_kept : (v : ℕ) → v < n → is_free h v ≡ true → r.mark v ≡ 0 → Here Idle → Writes g r r' (Mark v) 1 → InBalance g r' (set accounts i (staged (insert_key nat_cmp taken v) known Idle))
+      take_kept : (v : ℕ) → v < n → is_free h v ≡ true → r.mark v ≡ 0 → Here Idle → Writes g r r' (Mark v) 1 →
+          InBalance g r' (set accounts i (staged (insert_key nat_cmp taken v) known Idle))
       take_kept v lv free zero at w = record {
-        marks = marks_written h r r' accounts i (acc Idle) (staged (insert_key nat_cmp taken v) known Idle) l at b.marks v 1 lv w.mark vacant (λ q e. absurd (omega arith))
+        marks = marks_written h r r' accounts i (acc Idle) (staged (insert_key nat_cmp taken v) known Idle) l at b.marks v 1 lv w.mark vacant
+            (λ q e. absurd (omega arith))
             (stays_known v 1 lv w.mark vacant (roots_known Idle at))
             count
             (All-insert_key (λ u. u < n) taken v (taken_below Idle at) lv)
@@ -131,7 +147,8 @@ module _ (g : Setup) (r : Readings) (accounts : List Account) (b : InBalance g r
 
           count : (u : ℕ) → u < n → times u (insert_key nat_cmp taken v) + weight_if (r.mark u) 1 1 ≡ times u taken + weight_if (r'.mark u) 1 1
           count u lu =
-              let t = times-insert_key taken v u (untaken accounts i (acc Idle) (staged (insert_key nat_cmp taken v) known Idle) l at h r b.marks v lv zero) in
+              let t = times-insert_key taken v u (untaken accounts i (acc Idle) (staged (insert_key nat_cmp taken v) known Idle) l at h r b.marks v lv
+              zero) in
               elim (cases_eq v u) [
                 | inl s ↦
                     let x = weight_if-same v u 1 s in
@@ -148,7 +165,10 @@ module _ (g : Setup) (r : Readings) (accounts : List Account) (b : InBalance g r
               ]
 
       -- a vertex that the pass had taken is decided
-      released : (v x : ℕ) (stage : Stage) → v < n → 0 < times v taken → 2 ≤ x → Here stage → ((u : ℕ) → u < n → r'.mark u ≡ (if nat_eq v u then x else r.mark u)) → (u : ℕ) → u < n → times u (remove_key (nat_eq v) taken) + weight_if (r.mark u) 1 1 ≡ times u taken + weight_if (r'.mark u) 1 1
+      released : (v x : ℕ) (stage : Stage) → v < n → 0 < times v taken → 2 ≤ x → Here stage →
+          ((u : ℕ) → u < n → r'.mark u ≡ (if nat_eq v u then x else r.mark u)) → (u : ℕ) → u < n → times u (remove_key (nat_eq v) taken) + weight_if
+          (r.mark u)
+          1 1 ≡ times u taken + weight_if (r'.mark u) 1 1
       released v x stage lv has big at w u lu =
           let t = times-remove_key taken v u has in
           let one = taken_mark accounts i (acc stage) (acc stage) l at h r b.marks v lv has in
@@ -167,15 +187,20 @@ module _ (g : Setup) (r : Readings) (accounts : List Account) (b : InBalance g r
                 omega arith
           ]
 
-      root_kept : (v : ℕ) → v < n → 0 < times v taken → Here Idle → Writes g r r' (Mark v) (v + 2) → InBalance g r' (set accounts i (staged (remove_key (nat_eq v) taken) (insert_key nat_cmp known v) Idle))
+      root_kept : (v : ℕ) → v < n → 0 < times v taken → Here Idle → Writes g r r' (Mark v) (v + 2) →
+          InBalance g r' (set accounts i (staged (remove_key (nat_eq v) taken) (insert_key nat_cmp known v) Idle))
       root_kept v lv has at w = record {
-        marks = marks_written h r r' accounts i (acc Idle) (staged (remove_key (nat_eq v) taken) (insert_key nat_cmp known v) Idle) l at b.marks v (v + 2) lv w.mark vacant
+        marks = marks_written h r r' accounts i (acc Idle) (staged (remove_key (nat_eq v) taken) (insert_key nat_cmp known v) Idle) l at b.marks v (v + 2)
+            lv
+            w.mark vacant
             (λ q e. let s : v ≡ q = omega arith in subst (IsRoot h r') s own)
             (All-insert_key (IsRoot h r') known v (stays_known v (v + 2) lv w.mark vacant (roots_known Idle at)) own)
             (released v (v + 2) Idle lv has (omega arith) at w.mark)
             (All-remove_key (λ u. u < n) taken v (taken_below Idle at))
             (λ f. let z = b.marks.fixed v lv f in let e = one in absurd (omega arith));
-        masses = masses_rooted g r accounts b r' i (acc Idle) (staged (remove_key (nat_eq v) taken) (insert_key nat_cmp known v) Idle) l at v (v + 2) lv w.mark w.mass vacant refl refl;
+        masses = masses_rooted g r accounts b r' i (acc Idle) (staged (remove_key (nat_eq v) taken) (insert_key nat_cmp known v) Idle) l at v (v + 2) lv
+            w.mark
+            w.mass vacant refl refl;
         passes = passes_changed accounts i (acc Idle) (staged (remove_key (nat_eq v) taken) (insert_key nat_cmp known v) Idle) l at b.passes refl tt;
       }
         where
@@ -188,15 +213,18 @@ module _ (g : Setup) (r : Readings) (accounts : List Account) (b : InBalance g r
           own : IsRoot h r' v
           own = record { vertex = lv; mark = mark_here h r r' v (v + 2) lv w.mark }
 
-      follow_kept : (v o : ℕ) → Here (Granted v o) → Writes g r r' (Mark v) (o + 2) → InBalance g r' (set accounts i (staged (remove_key (nat_eq v) taken) known Idle))
+      follow_kept : (v o : ℕ) → Here (Granted v o) → Writes g r r' (Mark v) (o + 2) →
+          InBalance g r' (set accounts i (staged (remove_key (nat_eq v) taken) known Idle))
       follow_kept v o at w = record {
-        marks = marks_written h r r' accounts i (acc (Granted v o)) (staged (remove_key (nat_eq v) taken) known Idle) l at b.marks v (o + 2) lv w.mark vacant
+        marks = marks_written h r r' accounts i (acc (Granted v o)) (staged (remove_key (nat_eq v) taken) known Idle) l at b.marks v (o + 2) lv w.mark
+            vacant
             (λ q e. let s : o ≡ q = omega arith in subst (IsRoot h r') s (root_stays h r r' v (o + 2) lv w.mark vacant o root))
             (stays_known v (o + 2) lv w.mark vacant (roots_known (Granted v o) at))
             (released v (o + 2) (Granted v o) lv has (omega arith) at w.mark)
             (All-remove_key (λ u. u < n) taken v (taken_below (Granted v o) at))
             (λ f. let z = b.marks.fixed v lv f in let e = one in absurd (omega arith));
-        masses = masses_followed g r accounts b r' i (acc (Granted v o)) (staged (remove_key (nat_eq v) taken) known Idle) l at v (o + 2) lv w.mark w.mass vacant o refl root.mark refl refl;
+        masses = masses_followed g r accounts b r' i (acc (Granted v o)) (staged (remove_key (nat_eq v) taken) known Idle) l at v (o + 2) lv w.mark w.mass
+            vacant o refl root.mark refl refl;
         passes = passes_changed accounts i (acc (Granted v o)) (staged (remove_key (nat_eq v) taken) known Idle) l at b.passes refl tt;
       }
         where
@@ -215,30 +243,39 @@ module _ (g : Setup) (r : Readings) (accounts : List Account) (b : InBalance g r
           vacant : r.mark v < 2
           vacant = let e = one in omega arith
 
-      granted_kept : (v o : ℕ) → 0 < times v taken → 0 < times o known → r.mass o + weight_of h v ≤ g.cap → Here Idle → Writes g r r' (Mass o) (r.mass o + weight_of h v) → InBalance g r' (set accounts i (acc (Granted v o)))
+      granted_kept : (v o : ℕ) → 0 < times v taken → 0 < times o known → r.mass o + weight_of h v ≤ g.cap → Here Idle →
+          Writes g r r' (Mass o) (r.mass o + weight_of h v) → InBalance g r' (set accounts i (acc (Granted v o)))
       granted_kept v o has knows room at w =
           let root = All_at_times (IsRoot h r) known o (roots_known Idle at) knows in
           record {
             marks = marks_kept h r r' accounts i (acc Idle) (acc (Granted v o)) l at b.marks w.mark (roots_known Idle at) refl;
-            masses = masses_granted g r accounts b r' i (acc Idle) (acc (Granted v o)) l at w.mark v o (r.mass o + weight_of h v) root.vertex root.mark w.mass refl room refl refl;
+            masses = masses_granted g r accounts b r' i (acc Idle) (acc (Granted v o)) l at w.mark v o (r.mass o + weight_of h v) root.vertex root.mark
+                w.mass
+                refl room refl refl;
             passes = passes_changed accounts i (acc Idle) (acc (Granted v o)) l at b.passes refl (has, knows);
           }
 
-      refused_kept : (v o : ℕ) → 0 < times v taken → 0 < times o known → Here Idle → Writes g r r' (Mass o) (r.mass o + weight_of h v) → InBalance g r' (set accounts i (acc (Refused v o)))
+      refused_kept : (v o : ℕ) → 0 < times v taken → 0 < times o known → Here Idle → Writes g r r' (Mass o) (r.mass o + weight_of h v) →
+          InBalance g r' (set accounts i (acc (Refused v o)))
       refused_kept v o has knows at w =
           let root = All_at_times (IsRoot h r) known o (roots_known Idle at) knows in
           record {
             marks = marks_kept h r r' accounts i (acc Idle) (acc (Refused v o)) l at b.marks w.mark (roots_known Idle at) refl;
-            masses = masses_refused g r accounts b r' i (acc Idle) (acc (Refused v o)) l at w.mark v o (r.mass o + weight_of h v) root.vertex root.mark w.mass refl refl refl;
+            masses = masses_refused g r accounts b r' i (acc Idle) (acc (Refused v o)) l at w.mark v o (r.mass o + weight_of h v) root.vertex root.mark
+                w.mass
+                refl refl refl;
             passes = passes_changed accounts i (acc Idle) (acc (Refused v o)) l at b.passes refl (has, knows);
           }
 
-      take_back_kept : (v o : ℕ) (stage : Stage) → Here stage → ((q : ℕ) → pending_weight h q stage ≡ weight_if o q (weight_of h v)) → 0 < times o known → Writes g r r' (Mass o) (r.mass o - weight_of h v) → InBalance g r' (set accounts i (acc Idle))
+      take_back_kept : (v o : ℕ) (stage : Stage) → Here stage → ((q : ℕ) → pending_weight h q stage ≡ weight_if o q (weight_of h v)) → 0 < times o known →
+          Writes g r r' (Mass o) (r.mass o - weight_of h v) → InBalance g r' (set accounts i (acc Idle))
       take_back_kept v o stage at weighs knows w =
           let root = All_at_times (IsRoot h r) known o (roots_known stage at) knows in
           record {
             marks = marks_kept h r r' accounts i (acc stage) (acc Idle) l at b.marks w.mark (roots_known stage at) refl;
-            masses = masses_taken_back g r accounts b r' i (acc stage) (acc Idle) l at w.mark v o (r.mass o - weight_of h v) root.vertex root.mark w.mass refl weighs refl;
+            masses = masses_taken_back g r accounts b r' i (acc stage) (acc Idle) l at w.mark v o (r.mass o - weight_of h v) root.vertex root.mark w.mass
+                refl
+                weighs refl;
             passes = passes_changed accounts i (acc stage) (acc Idle) l at b.passes refl tt;
           }
 
@@ -253,7 +290,8 @@ module _ (g : Setup) (r : Readings) (accounts : List Account) (b : InBalance g r
           lv : v < n
           lv = ltb-true v n parts.0
 
-          by : (z : Bool) → nat_eq (r.mark v) 0 ≡ z → InBalance g r' (slice_set accounts i (if z then record (acc Idle) { taken = insert_key nat_cmp taken v } else learned (r.mark v) (acc Idle)))
+          by : (z : Bool) → nat_eq (r.mark v) 0 ≡ z → InBalance g r'
+              (slice_set accounts i (if z then record (acc Idle) { taken = insert_key nat_cmp taken v } else learned (r.mark v) (acc Idle)))
           by true q = take_kept v lv parts.1 (eqb-true (r.mark v) 0 q) at (subst (Writes g r r' (Mark v)) (ap (λ z. if z then 1 else r.mark v) q) w)
           by false q =
               balance_same g r r' (slice_set accounts i (learned (r.mark v) (acc Idle)))
@@ -278,8 +316,11 @@ module _ (g : Setup) (r : Readings) (accounts : List Account) (b : InBalance g r
               let q = and_parts (nat_lt o n) (nat_lt 0 (times v taken) && nat_lt 0 (times o known)) p.1 in
               and_parts (nat_lt 0 (times v taken)) (nat_lt 0 (times o known)) q.1
 
-          by : (z : Bool) → nat_le (r.mass o + weight_of h v) g.cap ≡ z → InBalance g r' (slice_set accounts i (record (acc Idle) { stage = if z then Granted v o else Refused v o }))
-          by true q = granted_kept v o (ltb-true 0 (times v taken) both.0) (ltb-true 0 (times o known) both.1) (leb-true (r.mass o + weight_of h v) g.cap q) at w
+          by : (z : Bool) → nat_le (r.mass o + weight_of h v) g.cap ≡ z →
+              InBalance g r' (slice_set accounts i (record (acc Idle) { stage = if z then Granted v o else Refused v o }))
+          by true q = granted_kept v o (ltb-true 0 (times v taken) both.0) (ltb-true 0 (times o known) both.1)
+              (leb-true (r.mass o + weight_of h v) g.cap q) at
+              w
           by false q = refused_kept v o (ltb-true 0 (times v taken) both.0) (ltb-true 0 (times o known) both.1) at w
 
       take_back_law : (stage : Stage) → Here stage → may_step g (TakeBack i) (acc stage) ≡ true → Kept (TakeBack i) stage
@@ -315,7 +356,8 @@ module _ (g : Setup) (r : Readings) (accounts : List Account) (b : InBalance g r
       root = λ q l e. let x = same (λ a. pending_weight h q a.stage) refl in let y = b.masses.root q l e in omega arith;
       other = b.masses.other;
       followed = λ q u l k e. let x = same (λ a. granted_weight h q a.stage) refl in let y = b.masses.followed q u l k e in omega arith;
-      granted = λ q p. let x = same (λ a. granted_weight h q a.stage) refl in let z = same (λ a. grants q a.stage) refl in let y = b.masses.granted q (omega arith) in omega arith;
+      granted = λ q p. let x = same (λ a. granted_weight h q a.stage) refl in let z = same (λ a. grants q a.stage) refl in let y = b.masses.granted q
+          (omega arith) in omega arith;
     };
     passes = record {
       held = All_push (λ a. IsHeld a.stage a) b.passes.held tt;
@@ -328,7 +370,8 @@ module _ (g : Setup) (r : Readings) (accounts : List Account) (b : InBalance g r
       same f z = let e = total_push f accounts (blank true) in omega arith
 
   -- Join
-  module _ (i j : ℕ) (li : i < length accounts) (lj : j < length accounts) (apart : i ≢ j) (taken known taken' known' : List ℕ) (at : get_or accounts i (blank false) ≡ staged taken known Idle) (at' : get_or accounts j (blank false) ≡ staged taken' known' Idle) where
+  module _ (i j : ℕ) (li : i < length accounts) (lj : j < length accounts) (apart : i ≢ j) (taken known taken' known' : List ℕ)
+      (at : get_or accounts i (blank false) ≡ staged taken known Idle) (at' : get_or accounts j (blank false) ≡ staged taken' known' Idle) where
     abbrev one : Account
     one = staged taken known Idle
 
@@ -386,11 +429,13 @@ module _ (g : Setup) (r : Readings) (accounts : List Account) (b : InBalance g r
       marks = record {
         roots = b.marks.roots;
         known = all_both (λ a. All (IsRoot h r) a.known) b.marks.known
-            (All-all_inserted (IsRoot h r) known known' (first (λ a. All (IsRoot h r) a.known) b.marks.known) (second (λ a. All (IsRoot h r) a.known) b.marks.known))
+            (All-all_inserted (IsRoot h r) known known' (first (λ a. All (IsRoot h r) a.known) b.marks.known)
+            (second (λ a. All (IsRoot h r) a.known) b.marks.known))
             (All-nil (IsRoot h r));
         taken = λ v k. same (λ a. times v a.taken) refl (times-all_inserted taken taken' disjoint v) ∙ b.marks.taken v k;
         range = all_both (λ a. All (λ v. v < n) a.taken) b.marks.range
-            (All-all_inserted (λ v. v < n) taken taken' (first (λ a. All (λ v. v < n) a.taken) b.marks.range) (second (λ a. All (λ v. v < n) a.taken) b.marks.range))
+            (All-all_inserted (λ v. v < n) taken taken' (first (λ a. All (λ v. v < n) a.taken) b.marks.range)
+            (second (λ a. All (λ v. v < n) a.taken) b.marks.range))
             (All-nil (λ v. v < n));
         fixed = b.marks.fixed;
       };
@@ -398,7 +443,8 @@ module _ (g : Setup) (r : Readings) (accounts : List Account) (b : InBalance g r
         root = λ q l e. let x = same (λ a. pending_weight h q a.stage) refl refl in let y = b.masses.root q l e in omega arith;
         other = b.masses.other;
         followed = λ q u l k e. let x = same (λ a. granted_weight h q a.stage) refl refl in let y = b.masses.followed q u l k e in omega arith;
-        granted = λ q p. let x = same (λ a. granted_weight h q a.stage) refl refl in let z = same (λ a. grants q a.stage) refl refl in let y = b.masses.granted q (omega arith) in omega arith;
+        granted = λ q p. let x = same (λ a. granted_weight h q a.stage) refl refl in let z = same (λ a. grants q a.stage) refl refl in
+            let y = b.masses.granted q (omega arith) in omega arith;
       };
       passes = record {
         held = all_both (λ a. IsHeld a.stage a) b.passes.held tt tt;
@@ -432,7 +478,12 @@ module _ (g : Setup) (r : Readings) (accounts : List Account) (b : InBalance g r
     below_at = live_below accounts (pass_of x) on_at
 
     -- an event of one pass, once the account is known to be that of a live pass
-    one_pass : (r' : Readings) → ((taken known : List ℕ) (stage : Stage) → get_or accounts (pass_of x) (blank false) ≡ staged taken known stage → may_step g x (staged taken known stage) ≡ true → Writes g r r' (word_of x (staged taken known stage)) (write_of g x (staged taken known stage) (read r (word_of x (staged taken known stage)))) → InBalance g r' (slice_set accounts (pass_of x) (account_after g x (read r (word_of x (staged taken known stage))) (staged taken known stage)))) → Writes g r r' (word_of x mine) (write_of g x mine (read r (word_of x mine))) → InBalance g r' (slice_set accounts (pass_of x) (account_after g x (read r (word_of x mine)) mine))
+    one_pass : (r' : Readings) → ((taken known : List ℕ) (stage : Stage) → get_or accounts (pass_of x) (blank false) ≡ staged taken known stage →
+        may_step g x (staged taken known stage) ≡ true → Writes g r r' (word_of x (staged taken known stage))
+        (write_of g x (staged taken known stage) (read r (word_of x (staged taken known stage)))) →
+        InBalance g r' (slice_set accounts (pass_of x) (account_after g x (read r (word_of x (staged taken known stage))) (staged taken known stage)))) →
+        Writes g r r' (word_of x mine) (write_of g x mine (read r (word_of x mine))) →
+        InBalance g r' (slice_set accounts (pass_of x) (account_after g x (read r (word_of x mine)) mine))
     one_pass r' law w =
         let e = staged_at mine on_at in
         subst (λ (z : Account). InBalance g r' (slice_set accounts (pass_of x) (account_after g x (read r (word_of x z)) z))) (sym e)
@@ -441,24 +492,32 @@ module _ (g : Setup) (r : Readings) (accounts : List Account) (b : InBalance g r
         (subst (λ (z : Account). Writes g r r' (word_of x z) (write_of g x z (read r (word_of x z)))) e w))
 
   -- from a balance, every enabled event leads to a balance
-  pub event_keeps : (r' : Readings) (x : ClusterEvent) → is_enabled g accounts x ≡ true → Writes g r r' (word_of x (account accounts (pass_of x))) (write_of g x (account accounts (pass_of x)) (read r (word_of x (account accounts (pass_of x))))) → InBalance g r' (accounts_after g accounts x (read r (word_of x (account accounts (pass_of x)))))
+  pub event_keeps : (r' : Readings) (x : ClusterEvent) → is_enabled g accounts x ≡ true → Writes g r r' (word_of x (account accounts (pass_of x)))
+      (write_of g x (account accounts (pass_of x)) (read r (word_of x (account accounts (pass_of x))))) →
+      InBalance g r' (accounts_after g accounts x (read r (word_of x (account accounts (pass_of x)))))
   event_keeps r' (Take i v) k w = one_pass (Take i v) k r' (λ taken known stage at m. take_law i (below_at (Take i v) k) taken known r' v stage at m) w
   event_keeps r' (Root i v) k w = one_pass (Root i v) k r' (λ taken known stage at m. root_law i (below_at (Root i v) k) taken known r' v stage at m) w
   event_keeps r' (Add i v o) k w = one_pass (Add i v o) k r' (λ taken known stage at m. add_law i (below_at (Add i v o) k) taken known r' v o stage at m) w
-  event_keeps r' (TakeBack i) k w = one_pass (TakeBack i) k r' (λ taken known stage at m. take_back_law i (below_at (TakeBack i) k) taken known r' stage at m) w
+  event_keeps r' (TakeBack i) k w = one_pass (TakeBack i) k r' (λ taken known stage at m. take_back_law i (below_at (TakeBack i) k) taken known r' stage at
+      m) w
   event_keeps r' (Follow i) k w = one_pass (Follow i) k r' (λ taken known stage at m. follow_law i (below_at (Follow i) k) taken known r' stage at m) w
   event_keeps r' (Peek i v) k w = one_pass (Peek i v) k r' (λ taken known stage at m. peek_law i (below_at (Peek i v) k) taken known r' v stage at m) w
-  event_keeps r' (Split i) k w = balance_same g r r' (accounts ++ blank true ∷ []) (same_from_writes g r r' 0 (r.mark 0) w refl) (split_kept (ltb-true (length accounts) 64 (others_at (Split i) k)))
+  event_keeps r' (Split i) k w = balance_same g r r' (accounts ++ blank true ∷ []) (same_from_writes g r r' 0 (r.mark 0) w refl)
+      (split_kept (ltb-true (length accounts) 64 (others_at (Split i) k)))
   event_keeps r' (Join i j) k w =
       let may = and_parts (is_idle (account accounts i).stage) (not (nat_eq i j)) (may_at (Join i j) k) in
       let other = and_parts (account accounts j).live (is_idle (account accounts j).stage) (others_at (Join i j) k) in
       let apart : i ≢ j = eqb-false i j (not-true (nat_eq i j) may.1) in
       let mine = idle_at (account accounts i) (on_at (Join i j) k) may.0 in
       let theirs = idle_at (account accounts j) other.0 other.1 in
-      balance_same g r r' (slice_set (slice_set accounts i (joined_with (account accounts i) (account accounts j))) j (blank false)) (same_from_writes g r r' 0 (r.mark 0) w refl)
+      balance_same g r r' (slice_set (slice_set accounts i (joined_with (account accounts i) (account accounts j))) j (blank false))
+      (same_from_writes g r r' 0 (r.mark 0) w refl)
       (subst (λ (z : Account). InBalance g r (slice_set (slice_set accounts i (joined_with z (account accounts j))) j (blank false))) (sym mine)
-      (subst (λ (z : Account). InBalance g r (slice_set (slice_set accounts i (joined_with (staged (account accounts i).taken (account accounts i).known Idle) z)) j (blank false))) (sym theirs)
-      (join_kept i j (below_at (Join i j) k) (live_below accounts j other.0) apart (account accounts i).taken (account accounts i).known (account accounts j).taken (account accounts j).known mine theirs)))
+      (subst (λ (z : Account). InBalance g r (slice_set
+      (slice_set accounts i (joined_with (staged (account accounts i).taken (account accounts i).known Idle)
+      z)) j (blank false))) (sym theirs)
+      (join_kept i j (below_at (Join i j) k) (live_below accounts j other.0) apart (account accounts i).taken (account accounts i).known
+      (account accounts j).taken (account accounts j).known mine theirs)))
 
   -- where the word of an event is a mark that isn't decided, or is left as it was
   module _ (r' : Readings) where
@@ -471,7 +530,11 @@ module _ (g : Setup) (r : Readings) (accounts : List Account) (b : InBalance g r
   one_mark : (i v : ℕ) → i < length accounts → v < n → 0 < times v (account accounts i).taken → r.mark v < 2
   one_mark i v l lv has = let e = taken_mark accounts i (account accounts i) (account accounts i) l refl h r b.marks v lv has in omega arith
 
-  follow_open : (i : ℕ) → i < length accounts → (stage : Stage) → (account accounts i).stage ≡ stage → may_step g (Follow i) (record (account accounts i) { stage = stage }) ≡ true → (r' : Readings) → Writes g r r' (word_of (Follow i) (record (account accounts i) { stage = stage })) (write_of g (Follow i) (record (account accounts i) { stage = stage }) 0) → KeepsDecided g r r'
+  follow_open : (i : ℕ) → i < length accounts → (stage : Stage) → (account accounts i).stage ≡ stage →
+      may_step g (Follow i) (record (account accounts i) { stage = stage }) ≡ true → (r' : Readings) →
+      Writes g r r' (word_of (Follow i) (record (account accounts i) { stage = stage }))
+      (write_of g (Follow i) (record (account accounts i) { stage = stage })
+      0) → KeepsDecided g r r'
   follow_open i l Idle e m r' w = no m
   follow_open i l (Refused v o) e m r' w = no m
   follow_open i l (Granted v o) e m r' w =
@@ -481,11 +544,13 @@ module _ (g : Setup) (r : Readings) (accounts : List Account) (b : InBalance g r
       let lv = All_at_times (λ u. u < n) a.taken v (all_at accounts i a a l refl (λ z. All (λ u. u < n) z.taken) b.marks.range) mine.0 in
       mark_stays h r r' v (o + 2) lv w.mark (one_mark i v l lv mine.0)
 
-  pub event_stays : (r' : Readings) (x : ClusterEvent) → is_enabled g accounts x ≡ true → Writes g r r' (word_of x (account accounts (pass_of x))) (write_of g x (account accounts (pass_of x)) (read r (word_of x (account accounts (pass_of x))))) → KeepsDecided g r r'
+  pub event_stays : (r' : Readings) (x : ClusterEvent) → is_enabled g accounts x ≡ true → Writes g r r' (word_of x (account accounts (pass_of x)))
+      (write_of g x (account accounts (pass_of x)) (read r (word_of x (account accounts (pass_of x))))) → KeepsDecided g r r'
   event_stays r' (Take i v) k w = by (nat_eq (r.mark v) 0) refl
     where
       lv : v < n
-      lv = ltb-true v n (and_parts (nat_lt v n) (is_free h v) (and_parts (is_idle (account accounts i).stage) (nat_lt v n && is_free h v) (may_at (Take i v) k)).1).0
+      lv = ltb-true v n (and_parts (nat_lt v n) (is_free h v) (and_parts (is_idle (account accounts i).stage) (nat_lt v n && is_free h v)
+          (may_at (Take i v) k)).1).0
 
       by : (z : Bool) → nat_eq (r.mark v) 0 ≡ z → KeepsDecided g r r'
       by true q = mark_stays h r r' v (if nat_eq (r.mark v) 0 then 1 else r.mark v) lv w.mark (let e = eqb-true (r.mark v) 0 q in omega arith)

@@ -9,7 +9,8 @@ use Rattle.cluster_core.specs.Balance.{IsRoot, HasMarks}
 use Rattle.cluster_core.proofs.TimesLaws.{total_changed, all_at, all_changed, pick}
 
 -- the mark of a vertex is written
-module _ (h : Hyper) (r r' : Readings) (v x : ℕ) (lv : v < vertex_count h) (w : (u : ℕ) → u < vertex_count h → r'.mark u ≡ (if nat_eq v u then x else r.mark u)) where
+module _ (h : Hyper) (r r' : Readings) (v x : ℕ) (lv : v < vertex_count h) (w : (u : ℕ) → u < vertex_count h →
+    r'.mark u ≡ (if nat_eq v u then x else r.mark u)) where
   pub mark_here : r'.mark v ≡ x
   mark_here = elim (pick v v x (r.mark v)) [ inl p ↦ w v lv ∙ p.1 | inr p ↦ absurd (p.0 refl) ]
 
@@ -26,8 +27,14 @@ module _ (h : Hyper) (r r' : Readings) (v x : ℕ) (lv : v < vertex_count h) (w 
   pub root_stays : r.mark v < 2 → (q : ℕ) → IsRoot h r q → IsRoot h r' q
   root_stays vacant q k = record { vertex = k.vertex; mark = mark_stays vacant q q k.vertex k.mark }
 
-module _ (h : Hyper) (r r' : Readings) (accounts : List Account) (i : ℕ) (a a' : Account) (l : i < length accounts) (at : get_or accounts i (blank false) ≡ a) (c : HasMarks h r accounts) where
-  pub marks_written : (v x : ℕ) (lv : v < vertex_count h) (w : (u : ℕ) → u < vertex_count h → r'.mark u ≡ (if nat_eq v u then x else r.mark u)) → r.mark v < 2 → ((q : ℕ) → x ≡ q + 2 → IsRoot h r' q) → All (IsRoot h r') a'.known → ((u : ℕ) → u < vertex_count h → times u a'.taken + (if nat_eq (r.mark u) 1 then 1 else 0) ≡ times u a.taken + (if nat_eq (r'.mark u) 1 then 1 else 0)) → All (λ u. u < vertex_count h) a'.taken → (is_free h v ≡ false → x ≡ 0) → HasMarks h r' (set accounts i a')
+module _ (h : Hyper) (r r' : Readings) (accounts : List Account) (i : ℕ) (a a' : Account) (l : i < length accounts)
+    (at : get_or accounts i (blank false) ≡ a)
+    (c : HasMarks h r accounts) where
+  pub marks_written : (v x : ℕ) (lv : v < vertex_count h) (w : (u : ℕ) → u < vertex_count h → r'.mark u ≡ (if nat_eq v u then x else r.mark u)) →
+      r.mark v < 2 → ((q : ℕ) → x ≡ q + 2 → IsRoot h r' q) → All (IsRoot h r') a'.known →
+      ((u : ℕ) → u < vertex_count h → times u a'.taken + (if nat_eq (r.mark u) 1 then 1 else 0) ≡ times u a.taken +
+      (if nat_eq (r'.mark u) 1 then 1 else 0)) →
+      All (λ u. u < vertex_count h) a'.taken → (is_free h v ≡ false → x ≡ 0) → HasMarks h r' (set accounts i a')
   marks_written v x lv w vacant new known count range fixed = record {
     roots = λ u q lu e.
         elim (cases_eq v u) [
@@ -51,7 +58,8 @@ module _ (h : Hyper) (r r' : Readings) (accounts : List Account) (i : ℕ) (a a'
   }
 
   -- where no mark is written, and the pass has taken what it had
-  pub marks_kept : ((u : ℕ) → u < vertex_count h → r'.mark u ≡ r.mark u) → All (IsRoot h r) a'.known → a'.taken ≡ a.taken → HasMarks h r' (set accounts i a')
+  pub marks_kept : ((u : ℕ) → u < vertex_count h → r'.mark u ≡ r.mark u) → All (IsRoot h r) a'.known → a'.taken ≡ a.taken →
+      HasMarks h r' (set accounts i a')
   marks_kept same known taken = record {
     roots = λ u q lu e. root_same q (c.roots u q lu (sym (same u lu) ∙ e));
     known = all_changed accounts i a a' l at (λ z. All (IsRoot h r') z.known)

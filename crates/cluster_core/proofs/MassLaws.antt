@@ -1,5 +1,6 @@
 -- The clause on masses, event by event.
-use Rattle.std.proofs.Common.{◌≡◌, ◌≢◌, ℕ, ◌+◌, ◌-◌, ◌<◌, ◌≤◌, inl, inr, false, List, length, get_or, set, nat_eq, if◌then◌else◌, All, refl, sym, ap, ◌∙◌, subst, arith}
+use Rattle.std.proofs.Common.{◌≡◌, ◌≢◌, ℕ, ◌+◌, ◌-◌, ◌<◌, ◌≤◌, inl, inr, false, List, length, get_or, set}
+use Rattle.std.proofs.Common.{nat_eq, if◌then◌else◌, All, refl, sym, ap, ◌∙◌, subst, arith}
 use Rattle.std.proofs.lemmas.Bool.{cases_eq}
 use Rattle.hg_defs.specs.Sums.{total}
 use Rattle.hg_defs.specs.Hypergraph.{Hyper, vertex_count, weight_of}
@@ -54,7 +55,8 @@ module _ (g : Setup) (r : Readings) (accounts : List Account) (b : InBalance g r
   h = g.graph
 
   pub pending_nothing : (q : ℕ) → r.mark q < 2 → total (λ a. pending_weight h q a.stage) accounts ≡ 0
-  pending_nothing q o = total-zero (λ a. pending_weight h q a.stage) accounts (λ k d l. no_pending h r q (get_or accounts k d).stage (roots_here g r accounts b k d l) o)
+  pending_nothing q o = total-zero (λ a. pending_weight h q a.stage) accounts (λ k d l. no_pending h r q (get_or accounts k d).stage
+      (roots_here g r accounts b k d l) o)
 
   pub grants_nothing : (q : ℕ) → r.mark q < 2 → total (λ a. grants q a.stage) accounts ≡ 0
   grants_nothing q o = total-zero (λ a. grants q a.stage) accounts (λ k d l. no_grant h r q (get_or accounts k d).stage (roots_here g r accounts b k d l) o)
@@ -63,7 +65,8 @@ module _ (g : Setup) (r : Readings) (accounts : List Account) (b : InBalance g r
   pub promised_within : (q : ℕ) → q < vertex_count h → r.mark q ≡ q + 2 → promised h r accounts q ≤ r.mass q
   promised_within q lq e =
       let m = b.masses.root q lq e in
-      let t = total-le (λ a. granted_weight h q a.stage) (λ a. pending_weight h q a.stage) accounts (λ k d l. granted_pending h q (get_or accounts k d).stage) in
+      let t = total-le (λ a. granted_weight h q a.stage) (λ a. pending_weight h q a.stage) accounts
+      (λ k d l. granted_pending h q (get_or accounts k d).stage) in
       omega arith
 
   -- one account changed
@@ -75,7 +78,8 @@ module _ (g : Setup) (r : Readings) (accounts : List Account) (b : InBalance g r
     total_now f = total_changed accounts i a a' l at f
 
     -- the mark of a vertex that isn't decided is written, and no mass
-    module _ (v x : ℕ) (lv : v < vertex_count h) (w : (u : ℕ) → u < vertex_count h → r'.mark u ≡ (if nat_eq v u then x else r.mark u)) (m : (u : ℕ) → u < vertex_count h → r'.mass u ≡ r.mass u) (vacant : r.mark v < 2) where
+    module _ (v x : ℕ) (lv : v < vertex_count h) (w : (u : ℕ) → u < vertex_count h → r'.mark u ≡ (if nat_eq v u then x else r.mark u))
+        (m : (u : ℕ) → u < vertex_count h → r'.mass u ≡ r.mass u) (vacant : r.mark v < 2) where
       here : r'.mark v ≡ x
       here = mark_here h r r' v x lv w
 
@@ -87,7 +91,8 @@ module _ (g : Setup) (r : Readings) (accounts : List Account) (b : InBalance g r
 
       clustered_more : (q : ℕ) → clustered h r' q ≡ clustered h r q + weight_if x (q + 2) (weight_of h v)
       clustered_more q =
-          let e = sum_below-change (share h r' q) (share h r q) (vertex_count h) v lv (λ j k n. ap (λ z. weight_if z (q + 2) (weight_of h j)) (there j k (λ s. n (sym s)))) in
+          let e = sum_below-change (share h r' q) (share h r q) (vertex_count h) v lv (λ j k n. ap (λ z. weight_if z (q + 2) (weight_of h j))
+          (there j k (λ s. n (sym s)))) in
           let old : share h r q v ≡ 0 = weight_if-other (r.mark v) (q + 2) (weight_of h v) (λ s. omega arith) in
           let new : share h r' q v ≡ weight_if x (q + 2) (weight_of h v) = ap (λ z. weight_if z (q + 2) (weight_of h v)) here in
           omega arith
@@ -288,7 +293,8 @@ module _ (g : Setup) (r : Readings) (accounts : List Account) (b : InBalance g r
               omega arith
 
       -- Add and TakeBack: the mass of a root is written
-      module _ (v o x : ℕ) (lo : o < vertex_count h) (root : r.mark o ≡ o + 2) (m : (u : ℕ) → u < vertex_count h → r'.mass u ≡ (if nat_eq o u then x else r.mass u)) where
+      module _ (v o x : ℕ) (lo : o < vertex_count h) (root : r.mark o ≡ o + 2) (m : (u : ℕ) → u < vertex_count h →
+          r'.mass u ≡ (if nat_eq o u then x else r.mass u)) where
         mass_there : (u : ℕ) → u < vertex_count h → (o ≡ u → ⊥) → r'.mass u ≡ r.mass u
         mass_there u lu n = elim (pick o u x (r.mass u)) [ inl p ↦ absurd (n p.0) | inr p ↦ m u lu ∙ p.1 ]
 
@@ -343,7 +349,8 @@ module _ (g : Setup) (r : Readings) (accounts : List Account) (b : InBalance g r
           followed = λ q u lu n e.
               elim (cases_eq o q) [
                 | inl s ↦ subst (λ z. promised h r' now z ≤ g.cap) s within
-                | inr k ↦ let y = b.masses.followed q u lu n (sym (w u lu) ∙ e) in let z = promise q in let j = weight_if-other o q (weight_of h v) k in omega arith
+                | inr k ↦ let y = b.masses.followed q u lu n (sym (w u lu) ∙ e) in let z = promise q in let j = weight_if-other o q (weight_of h v) k in
+                    omega arith
               ];
           granted = λ q p.
               elim (cases_eq o q) [
@@ -384,7 +391,8 @@ module _ (g : Setup) (r : Readings) (accounts : List Account) (b : InBalance g r
             within = let p = promise o in let j = weight_if-same o o (weight_of h v) refl in let y = promised_within o lo root in omega arith
 
         -- TakeBack
-        pub masses_taken_back : x ≡ r.mass o - weight_of h v → ((q : ℕ) → pending_weight h q a.stage ≡ weight_if o q (weight_of h v)) → a'.stage ≡ Idle → HasMasses g r' now
+        pub masses_taken_back : x ≡ r.mass o - weight_of h v → ((q : ℕ) → pending_weight h q a.stage ≡ weight_if o q (weight_of h v)) → a'.stage ≡ Idle →
+            HasMasses g r' now
         masses_taken_back to stage idle = record {
           root = λ q lq e. shrunk q lq (sym (w q lq) ∙ e);
           other = other_left;

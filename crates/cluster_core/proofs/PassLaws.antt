@@ -42,7 +42,8 @@ module _ (accounts : List Account) (i : ℕ) (a a' : Account) (l : i < length ac
       omega arith
 
 -- a pass that learns a root holds what it held
-pub held_more : (taken known : List ℕ) (q : ℕ) (stage : Stage) → IsHeld stage (staged taken known stage) → IsHeld stage (staged taken (insert_key nat_cmp known q) stage)
+pub held_more : (taken known : List ℕ) (q : ℕ) (stage : Stage) → IsHeld stage (staged taken known stage) →
+    IsHeld stage (staged taken (insert_key nat_cmp known q) stage)
 held_more taken known q Idle k = tt
 held_more taken known q (Refused v o) k = (k.0, let x = times-insert_key-le known q o in let y = k.1 in omega arith)
 held_more taken known q (Granted v o) k = (k.0, let x = times-insert_key-le known q o in let y = k.1 in omega arith)

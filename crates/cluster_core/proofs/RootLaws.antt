@@ -1,5 +1,6 @@
 -- The clusters that marks in balance tell are within the cap.
-use Rattle.std.proofs.Common.{◌≡◌, ℕ, ◌+◌, ◌-◌, ◌<◌, ◌≤◌, ◌⊎◌, inl, inr, Bool, true, false, List, length, map, slice_index, nat_le, if◌then◌else◌, refl, sym, ap, ◌∙◌, arith}
+use Rattle.std.proofs.Common.{◌≡◌, ℕ, ◌+◌, ◌-◌, ◌<◌, ◌≤◌, ◌⊎◌, inl, inr, Bool, true, false, List, length, map}
+use Rattle.std.proofs.Common.{slice_index, nat_le, if◌then◌else◌, refl, sym, ap, ◌∙◌, arith}
 use Rattle.std.specs.List.{range_with_len}
 use Rattle.std.proofs.lemmas.List.FromFn.{get_or-map-range_with_len, length-map-range_with_len}
 use Rattle.std.proofs.lemmas.Bool.{eqb-true, leb-true, leb-false, cases_eq}
@@ -126,7 +127,11 @@ module _ (g : Setup) (r : Readings) (accounts : List Account) (b : InBalance g r
   pub roots_are : IsRooted h g.cap roots
   roots_are = record {
     vertices = length-map-range_with_len (λ v. root_in (r.mark v) v) 0 n;
-    below = λ v l. elim (cases v l) [ inl p ↦ let d = p.1 in let x = d.root in let o = d.own.vertex in omega arith | inr p ↦ let x = p.root in omega arith ];
+    below = λ v l. elim (cases v l) [
+      | inl p ↦ let d = p.1 in let x = d.root in let o = d.own.vertex in omega arith
+      | inr p ↦ let x = p.root in
+          omega arith
+    ];
     own = λ v l.
         elim (cases v l) [
           | inl p ↦ let d = p.1 in ap (slice_index roots) d.root ∙ own_root p.0 d.own ∙ sym d.root

@@ -1,6 +1,7 @@
 -- What a step of the machine needs to know of a state: that its places are there, that no number passes its type,
 -- and that what it leaves is the state after the event.
-use Rattle.std.proofs.Common.{◌≡◌, ℕ, zero, suc, ◌+◌, ◌-◌, ◌*◌, ◌^◌, ◌<◌, ◌≤◌, inl, inr, true, false, ◌&&◌, List, [], ◌∷◌, length, get_or, slice_index, slice_set, nat_lt, All, refl, sym, ap, ◌∙◌, subst, arith}
+use Rattle.std.proofs.Common.{◌≡◌, ℕ, zero, suc, ◌+◌, ◌-◌, ◌*◌, ◌^◌, ◌<◌, ◌≤◌, inl, inr, true, false, ◌&&◌, List, [], ◌∷◌, length}
+use Rattle.std.proofs.Common.{get_or, slice_index, slice_set, nat_lt, All, refl, sym, ap, ◌∙◌, subst, arith}
 use Rattle.std.proofs.lemmas.Bool.{true≢false, ltb-true, and_parts, cases_lt, cases_eq}
 use Rattle.std.proofs.lemmas.List.{get_or_past}
 use Rattle.hg_defs.specs.Hypergraph.{Hyper, vertex_count, weight_of, IsWithinLimits}
@@ -11,7 +12,8 @@ use Rattle.cluster_core.specs.declared.account.Stage.TheVariants.{Idle, Refused,
 use Rattle.cluster_core.specs.declared.events.ClusterEvent.{ClusterEvent}
 use Rattle.cluster_core.specs.declared.events.ClusterEvent.TheVariants.{Add, TakeBack, Follow}
 use Rattle.cluster_core.specs.State.{Setup, State, Readings, Word, Mark, Mass, readings, written, blank, account}
-use Rattle.cluster_core.specs.Events.{pass_of, word_of, write_of, found_of, is_idle, is_added, root_at, vertex_at, followed, is_enabled, accounts_after, after, has_taken, knows}
+use Rattle.cluster_core.specs.Events.{pass_of, word_of, write_of, found_of, is_idle, is_added, root_at, vertex_at}
+use Rattle.cluster_core.specs.Events.{followed, is_enabled, accounts_after, after, has_taken, knows}
 use Rattle.cluster_core.specs.Balance.{InBalance, IsRoot, IsHeld, IsClusterState, share, pending_weight}
 use Rattle.cluster_core.specs.Run.{Leads}
 use Rattle.cluster_core.proofs.TimesLaws.{all_at, total_at, All_at_times}
@@ -29,11 +31,15 @@ pub found_at : (xs : List ℕ) (p q found : ℕ) → p ≡ q → q < length xs �
 found_at xs p q found e l f = f ∙ ap (λ z. get_or xs z found) e ∙ same_default xs q found 0 l
 
 -- the state that an event leaves, by its word, what it writes, and the accounts
-pub same_after : (g : Setup) (s : State) (x : ClusterEvent) (w : Word) (y : ℕ) (accounts : List Account) → w ≡ word_of x (account s.accounts (pass_of x)) → y ≡ write_of g x (account s.accounts (pass_of x)) (found_of s x) → accounts ≡ accounts_after g s.accounts x (found_of s x) → record (written s w y) { accounts = accounts } ≡ after g s x
+pub same_after : (g : Setup) (s : State) (x : ClusterEvent) (w : Word) (y : ℕ) (accounts : List Account) → w ≡ word_of x (account s.accounts (pass_of x)) →
+    y ≡ write_of g x (account s.accounts (pass_of x)) (found_of s x) → accounts ≡ accounts_after g s.accounts x (found_of s x) →
+    record (written s w y) { accounts = accounts } ≡ after g s x
 same_after g s x w y accounts e f q =
     ap (λ z. record (written s z y) { accounts = accounts }) e
     ∙ ap (λ z. record (written s (word_of x (account s.accounts (pass_of x))) z) { accounts = accounts }) f
-    ∙ ap (λ z. record (written s (word_of x (account s.accounts (pass_of x))) (write_of g x (account s.accounts (pass_of x)) (found_of s x))) { accounts = z }) q
+    ∙ ap (λ z. record (written s (word_of x (account s.accounts (pass_of x))) (write_of g x (account s.accounts (pass_of x)) (found_of s x)))
+    { accounts = z })
+    q
 
 -- a weight is within the weight of all vertices
 weight_small : (h : Hyper) → IsWithinLimits h → (v : ℕ) → weight_of h v ≤ 2 ^ 54
@@ -50,7 +56,9 @@ pending_small h b q (Refused v o) = let x = weight_if-le o q (weight_of h v) in 
 pending_small h b q (Granted v o) = let x = weight_if-le o q (weight_of h v) in let y = weight_small h b v in omega arith
 
 -- no mass passes its type, with what one more vertex weighs
-pub mass_small : (g : Setup) (r : Readings) (accounts : List Account) → IsWithinLimits g.graph → InBalance g r accounts → (q : ℕ) → q < vertex_count g.graph → r.mass q ≤ 66 * 2 ^ 54
+pub mass_small : (g : Setup) (r : Readings) (accounts : List Account) → IsWithinLimits g.graph → InBalance g r accounts → (q : ℕ) →
+    q < vertex_count g.graph →
+    r.mass q ≤ 66 * 2 ^ 54
 mass_small g r accounts bounds b q lq =
     let w = bounds.weight in
     let h = g.graph in
@@ -76,14 +84,17 @@ module _ (g : Setup) (s : State) (k : IsClusterState g s) where
   pub account_is : (i : ℕ) (a : Account) → i < length s.accounts → a ≡ get_or s.accounts i a → a ≡ account s.accounts i
   account_is i a l e = e ∙ same_default s.accounts i a (blank false) l
 
-  pub stage_is : (i : ℕ) (a : Account) (stage : Stage) → i < length s.accounts → a ≡ get_or s.accounts i a → stage ≡ a.stage → stage ≡ (account s.accounts i).stage
+  pub stage_is : (i : ℕ) (a : Account) (stage : Stage) → i < length s.accounts → a ≡ get_or s.accounts i a → stage ≡ a.stage →
+      stage ≡ (account s.accounts i).stage
   stage_is i a stage l e q = q ∙ ap (λ (z : Account). z.stage) (account_is i a l e)
 
   -- the weight of the vertex of an Add fits beside the mass
   pub add_fits : (i v o : ℕ) → is_enabled g s.accounts (Add i v o) ≡ true → slice_index s.masses o + weight_of g.graph v < 2 ^ 64
   add_fits i v o h =
       let a = account s.accounts i in
-      let p = and_parts (is_idle a.stage) (nat_lt v n && (nat_lt o n && (has_taken a v && knows a o))) (may_at g (readings s) s.accounts k.balance (Add i v o) h) in
+      let p = and_parts (is_idle a.stage) (nat_lt v n && (nat_lt o n && (has_taken a v && knows a o)))
+      (may_at g (readings s) s.accounts k.balance (Add i v o)
+      h) in
       let q = and_parts (nat_lt v n) (nat_lt o n && (has_taken a v && knows a o)) p.1 in
       let lo = ltb-true o n (and_parts (nat_lt o n) (has_taken a v && knows a o) q.1).0 in
       let x = mass_small g (readings s) s.accounts k.bounds k.balance o lo in
@@ -93,13 +104,17 @@ module _ (g : Setup) (s : State) (k : IsClusterState g s) where
   pub add_root_below : (i v o : ℕ) → is_enabled g s.accounts (Add i v o) ≡ true → o < length s.masses
   add_root_below i v o h =
       let a = account s.accounts i in
-      let p = and_parts (is_idle a.stage) (nat_lt v n && (nat_lt o n && (has_taken a v && knows a o))) (may_at g (readings s) s.accounts k.balance (Add i v o) h) in
+      let p = and_parts (is_idle a.stage) (nat_lt v n && (nat_lt o n && (has_taken a v && knows a o)))
+      (may_at g (readings s) s.accounts k.balance (Add i v o)
+      h) in
       let q = and_parts (nat_lt v n) (nat_lt o n && (has_taken a v && knows a o)) p.1 in
       let lo = ltb-true o n (and_parts (nat_lt o n) (has_taken a v && knows a o) q.1).0 in
       subst (λ z. o < z) (sym k.shape.masses) lo
 
   -- what stands at a stage is within the mass of its root
-  weight_within : (i : ℕ) → i < length s.accounts → (stage : Stage) → (account s.accounts i).stage ≡ stage → pending_weight g.graph (root_at stage) stage ≡ weight_of g.graph (vertex_at stage) → IsRoot g.graph (readings s) (root_at stage) → weight_of g.graph (vertex_at stage) ≤ slice_index s.masses (root_at stage)
+  weight_within : (i : ℕ) → i < length s.accounts → (stage : Stage) → (account s.accounts i).stage ≡ stage → pending_weight g.graph (root_at stage) stage ≡
+      weight_of g.graph (vertex_at stage) → IsRoot g.graph (readings s) (root_at stage) → weight_of g.graph (vertex_at stage) ≤ slice_index s.masses
+      (root_at stage)
   weight_within i l stage e w root =
       let a = account s.accounts i in
       let t = total_at s.accounts i a a l refl (λ z. pending_weight g.graph (root_at stage) z.stage) in
@@ -110,16 +125,20 @@ module _ (g : Setup) (s : State) (k : IsClusterState g s) where
   root_held : (i : ℕ) → i < length s.accounts → (v o : ℕ) → IsHeld (Granted v o) (account s.accounts i) → IsRoot g.graph (readings s) o
   root_held i l v o held =
       let a = account s.accounts i in
-      All_at_times (IsRoot g.graph (readings s)) a.known o (all_at s.accounts i a a l refl (λ z. All (IsRoot g.graph (readings s)) z.known) k.balance.marks.known) held.1
+      All_at_times (IsRoot g.graph (readings s)) a.known o (all_at s.accounts i a a l refl (λ z. All (IsRoot g.graph (readings s)) z.known)
+      k.balance.marks.known) held.1
 
-  pub weight_stands : (i : ℕ) → i < length s.accounts → (stage : Stage) → (account s.accounts i).stage ≡ stage → is_added stage ≡ true → weight_of g.graph (vertex_at stage) ≤ slice_index s.masses (root_at stage)
+  pub weight_stands : (i : ℕ) → i < length s.accounts → (stage : Stage) → (account s.accounts i).stage ≡ stage → is_added stage ≡ true →
+      weight_of g.graph (vertex_at stage) ≤ slice_index s.masses (root_at stage)
   weight_stands i l Idle e m = absurd (true≢false (sym m))
   weight_stands i l (Refused v o) e m =
       let a = account s.accounts i in
-      weight_within i l (Refused v o) e (weight_if-same o o (weight_of g.graph v) refl) (root_held i l v o (subst (λ z. IsHeld z a) e (all_at s.accounts i a a l refl (λ z. IsHeld z.stage z) k.balance.passes.held)))
+      weight_within i l (Refused v o) e (weight_if-same o o (weight_of g.graph v) refl)
+      (root_held i l v o (subst (λ z. IsHeld z a) e (all_at s.accounts i a a l refl (λ z. IsHeld z.stage z) k.balance.passes.held)))
   weight_stands i l (Granted v o) e m =
       let a = account s.accounts i in
-      weight_within i l (Granted v o) e (weight_if-same o o (weight_of g.graph v) refl) (root_held i l v o (subst (λ z. IsHeld z a) e (all_at s.accounts i a a l refl (λ z. IsHeld z.stage z) k.balance.passes.held)))
+      weight_within i l (Granted v o) e (weight_if-same o o (weight_of g.graph v) refl)
+      (root_held i l v o (subst (λ z. IsHeld z a) e (all_at s.accounts i a a l refl (λ z. IsHeld z.stage z) k.balance.passes.held)))
 
   -- the stage of a TakeBack or a Follow, as it was read
   pub record IsRead (i : ℕ) (stage : Stage) : Type 0 where
@@ -128,7 +147,8 @@ module _ (g : Setup) (s : State) (k : IsClusterState g s) where
     pub root : root_at stage < n
     pub weight : weight_of g.graph (vertex_at stage) ≤ slice_index s.masses (root_at stage)
 
-  stage_read : (i : ℕ) (b : Account) (stage : Stage) → i < length s.accounts → is_added (account s.accounts i).stage ≡ true → b ≡ get_or s.accounts i b → stage ≡ b.stage → IsRead i stage
+  stage_read : (i : ℕ) (b : Account) (stage : Stage) → i < length s.accounts → is_added (account s.accounts i).stage ≡ true → b ≡ get_or s.accounts i b →
+      stage ≡ b.stage → IsRead i stage
   stage_read i b stage l m eb es =
       let e = stage_is i b stage l eb es in
       let t = stage_there g s k i l (account s.accounts i).stage refl m in
@@ -136,16 +156,25 @@ module _ (g : Setup) (s : State) (k : IsClusterState g s) where
         here = e;
         vertex = subst (λ z. vertex_at z < n) (sym e) t.0;
         root = subst (λ z. root_at z < n) (sym e) t.1;
-        weight = subst (λ z. weight_of g.graph (vertex_at z) ≤ slice_index s.masses (root_at z)) (sym e) (weight_stands i l (account s.accounts i).stage refl m);
+        weight = subst (λ z. weight_of g.graph (vertex_at z) ≤ slice_index s.masses (root_at z)) (sym e) (weight_stands i l (account s.accounts i).stage
+            refl
+            m);
       }
 
-  pub take_back_read : (i : ℕ) (b : Account) (stage : Stage) → is_enabled g s.accounts (TakeBack i) ≡ true → b ≡ get_or s.accounts i b → stage ≡ b.stage → IsRead i stage
+  pub take_back_read : (i : ℕ) (b : Account) (stage : Stage) → is_enabled g s.accounts (TakeBack i) ≡ true → b ≡ get_or s.accounts i b → stage ≡ b.stage →
+      IsRead i stage
   take_back_read i b stage h = stage_read i b stage (pass_below (TakeBack i) h) (may_at g (readings s) s.accounts k.balance (TakeBack i) h)
 
-  pub follow_read : (i : ℕ) (b : Account) (stage : Stage) → is_enabled g s.accounts (Follow i) ≡ true → b ≡ get_or s.accounts i b → stage ≡ b.stage → IsRead i stage
-  follow_read i b stage h = stage_read i b stage (pass_below (Follow i) h) (granted-added g s k (account s.accounts i).stage (may_at g (readings s) s.accounts k.balance (Follow i) h))
+  pub follow_read : (i : ℕ) (b : Account) (stage : Stage) → is_enabled g s.accounts (Follow i) ≡ true → b ≡ get_or s.accounts i b → stage ≡ b.stage →
+      IsRead i stage
+  follow_read i b stage h = stage_read i b stage (pass_below (Follow i) h) (granted-added g s k (account s.accounts i).stage
+      (may_at g (readings s) s.accounts k.balance (Follow i) h))
 
-  pub take_back_leads : (i : ℕ) (h : is_enabled g s.accounts (TakeBack i) ≡ true) (b c a' : Account) (stage : Stage) (v o found weight : ℕ) → b ≡ get_or s.accounts i b → stage ≡ b.stage → v ≡ vertex_at stage → o ≡ root_at stage → found ≡ get_or s.masses o found → weight ≡ weight_of g.graph v → c ≡ get_or s.accounts i c → a' ≡ record c { stage = Idle } → Leads g s (TakeBack i) found (record s { masses = slice_set s.masses o (found - weight); accounts = slice_set s.accounts i a' })
+  pub take_back_leads : (i : ℕ) (h : is_enabled g s.accounts (TakeBack i) ≡ true) (b c a' : Account) (stage : Stage) (v o found weight : ℕ) →
+      b ≡ get_or s.accounts i b → stage ≡ b.stage → v ≡ vertex_at stage → o ≡ root_at stage → found ≡ get_or s.masses o found → weight ≡ weight_of g.graph
+      v →
+      c ≡ get_or s.accounts i c → a' ≡ record c { stage = Idle } → Leads g s (TakeBack i) found
+      (record s { masses = slice_set s.masses o (found - weight); accounts = slice_set s.accounts i a' })
   take_back_leads i h b c a' stage v o found weight eb es ev eo ef ew ec e =
       let t = take_back_read i b stage h eb es in
       let a = account s.accounts i in
@@ -161,7 +190,10 @@ module _ (g : Setup) (s : State) (k : IsClusterState g s) where
             (ap (slice_set s.accounts i) (e ∙ ap (λ (z : Account). record z { stage = Idle }) (account_is i c (pass_below (TakeBack i) h) ec)));
       }
 
-  pub follow_leads : (i : ℕ) (h : is_enabled g s.accounts (Follow i) ≡ true) (b c a' : Account) (stage : Stage) (v o found : ℕ) → b ≡ get_or s.accounts i b → stage ≡ b.stage → v ≡ vertex_at stage → o ≡ root_at stage → found ≡ get_or s.marks v found → c ≡ get_or s.accounts i c → a' ≡ followed c → Leads g s (Follow i) found (record s { marks = slice_set s.marks v (o + 2); accounts = slice_set s.accounts i a' })
+  pub follow_leads : (i : ℕ) (h : is_enabled g s.accounts (Follow i) ≡ true) (b c a' : Account) (stage : Stage) (v o found : ℕ) →
+      b ≡ get_or s.accounts i b →
+      stage ≡ b.stage → v ≡ vertex_at stage → o ≡ root_at stage → found ≡ get_or s.marks v found → c ≡ get_or s.accounts i c → a' ≡ followed c →
+      Leads g s (Follow i) found (record s { marks = slice_set s.marks v (o + 2); accounts = slice_set s.accounts i a' })
   follow_leads i h b c a' stage v o found eb es ev eo ef ec e =
       let t = follow_read i b stage h eb es in
       let a = account s.accounts i in

@@ -1,5 +1,7 @@
 -- States: what an event writes into one, the opening, and lists of events.
-use Rattle.std.proofs.Common.{◌≡◌, ℕ, ◌+◌, ◌*◌, ◌<◌, ◌≤◌, inl, inr, true, false, ◌&&◌, List, [], ◌∷◌, ◌++◌, length, length-set, replicate, take, get_or, get_or-set_same, get_or-set_other, slice_index, slice_set, nat_eq, nat_lt, if◌then◌else◌, All, refl, sym, ap, ◌∙◌, subst, arith}
+use Rattle.std.proofs.Common.{◌≡◌, ℕ, ◌+◌, ◌*◌, ◌<◌, ◌≤◌, inl, inr, true, false, ◌&&◌, List, [], ◌∷◌, ◌++◌, length, length-set, replicate, take, get_or}
+use Rattle.std.proofs.Common.{get_or-set_same, get_or-set_other, slice_index, slice_set, nat_eq, nat_lt}
+use Rattle.std.proofs.Common.{if◌then◌else◌, All, refl, sym, ap, ◌∙◌, subst, arith}
 use Rattle.std.proofs.lemmas.List.{take_more, get_or-replicate, length-replicate}
 use Rattle.std.proofs.lemmas.List.Elements.{All-replicate}
 use Rattle.std.proofs.lemmas.Bool.{true≢false, ltb-true, and_parts, and_from}
@@ -12,7 +14,8 @@ use Rattle.cluster_core.specs.declared.account.Stage.TheVariants.{Idle, Refused,
 use Rattle.cluster_core.specs.declared.events.ClusterEvent.{ClusterEvent}
 use Rattle.cluster_core.specs.declared.events.ClusterEvent.TheVariants.{Take, Root, Add, TakeBack, Follow, Peek, Split, Join}
 use Rattle.cluster_core.specs.State.{Setup, State, Word, Mark, Mass, Writes, readings, written, times, blank, account, opened}
-use Rattle.cluster_core.specs.Events.{pass_of, word_of, write_of, found_of, is_idle, is_added, is_granted, root_at, vertex_at, is_enabled, accounts_after, after, has_taken, knows}
+use Rattle.cluster_core.specs.Events.{pass_of, word_of, write_of, found_of, is_idle, is_added, is_granted, root_at}
+use Rattle.cluster_core.specs.Events.{vertex_at, is_enabled, accounts_after, after, has_taken, knows}
 use Rattle.cluster_core.specs.Balance.{InBalance, IsRoot, IsHeld, IsShaped, IsClusterState, grants}
 use Rattle.cluster_core.specs.Run.{run_of, all_enabled, Leads}
 use Rattle.cluster_core.proofs.TimesLaws.{All_at_times, all_at, pick}
@@ -35,7 +38,8 @@ pub writes_at : (g : Setup) (s : State) (w : Word) (x : ℕ) → IsShaped g s �
 writes_at g s (Mark v) x h l = record { mark = λ u m. set_reads s.marks v x u (subst (λ n. v < n) (sym h.marks) l); mass = λ u m. refl }
 writes_at g s (Mass v) x h l = record { mark = λ u m. refl; mass = λ u m. set_reads s.masses v x u (subst (λ n. v < n) (sym h.masses) l) }
 
-pub shaped_written : (g : Setup) (s : State) (w : Word) (x : ℕ) (accounts : List Account) → IsShaped g s → IsShaped g (record (written s w x) { accounts = accounts })
+pub shaped_written : (g : Setup) (s : State) (w : Word) (x : ℕ) (accounts : List Account) → IsShaped g s →
+    IsShaped g (record (written s w x) { accounts = accounts })
 shaped_written g s (Mark v) x accounts h = record { some = h.some; marks = length-set s.marks v x ∙ h.marks; masses = h.masses }
 shaped_written g s (Mass v) x accounts h = record { some = h.some; marks = h.marks; masses = length-set s.masses v x ∙ h.masses }
 
@@ -47,19 +51,22 @@ module _ (g : Setup) (s : State) (k : IsClusterState g s) where
   n = vertex_count g.graph
 
   -- the vertex and the root of a stage that isn't idle
-  pub stage_there : (i : ℕ) → i < length s.accounts → (stage : Stage) → (account s.accounts i).stage ≡ stage → is_added stage ≡ true → (vertex_at stage < n) × (root_at stage < n)
+  pub stage_there : (i : ℕ) → i < length s.accounts → (stage : Stage) → (account s.accounts i).stage ≡ stage → is_added stage ≡ true →
+      (vertex_at stage < n) × (root_at stage < n)
   stage_there i l Idle e m = no m
   stage_there i l (Refused v o) e m =
       let a = account s.accounts i in
       let held : IsHeld (Refused v o) a = subst (λ z. IsHeld z a) e (all_at s.accounts i a a l refl (λ z. IsHeld z.stage z) k.balance.passes.held) in (
         All_at_times (λ u. u < n) a.taken v (all_at s.accounts i a a l refl (λ z. All (λ u. u < n) z.taken) k.balance.marks.range) held.0,
-        (All_at_times (IsRoot g.graph (readings s)) a.known o (all_at s.accounts i a a l refl (λ z. All (IsRoot g.graph (readings s)) z.known) k.balance.marks.known) held.1).vertex,
+        (All_at_times (IsRoot g.graph (readings s)) a.known o (all_at s.accounts i a a l refl (λ z. All (IsRoot g.graph (readings s)) z.known)
+            k.balance.marks.known) held.1).vertex,
       )
   stage_there i l (Granted v o) e m =
       let a = account s.accounts i in
       let held : IsHeld (Granted v o) a = subst (λ z. IsHeld z a) e (all_at s.accounts i a a l refl (λ z. IsHeld z.stage z) k.balance.passes.held) in (
         All_at_times (λ u. u < n) a.taken v (all_at s.accounts i a a l refl (λ z. All (λ u. u < n) z.taken) k.balance.marks.range) held.0,
-        (All_at_times (IsRoot g.graph (readings s)) a.known o (all_at s.accounts i a a l refl (λ z. All (IsRoot g.graph (readings s)) z.known) k.balance.marks.known) held.1).vertex,
+        (All_at_times (IsRoot g.graph (readings s)) a.known o (all_at s.accounts i a a l refl (λ z. All (IsRoot g.graph (readings s)) z.known)
+            k.balance.marks.known) held.1).vertex,
       )
 
   pub granted-added : (stage : Stage) → is_granted stage ≡ true → is_added stage ≡ true
@@ -69,15 +76,21 @@ module _ (g : Setup) (s : State) (k : IsClusterState g s) where
 
   -- the word of an enabled event is there
   pub word_there : (x : ClusterEvent) → is_enabled g s.accounts x ≡ true → IsWord g (word_of x (account s.accounts (pass_of x)))
-  word_there (Take i v) h = ltb-true v n (and_parts (nat_lt v n) (is_free g.graph v) (and_parts (is_idle (account s.accounts i).stage) (nat_lt v n && is_free g.graph v) (may_at g (readings s) s.accounts k.balance (Take i v) h)).1).0
-  word_there (Root i v) h = ltb-true v n (and_parts (nat_lt v n) (has_taken (account s.accounts i) v) (and_parts (is_idle (account s.accounts i).stage) (nat_lt v n && has_taken (account s.accounts i) v) (may_at g (readings s) s.accounts k.balance (Root i v) h)).1).0
+  word_there (Take i v) h = ltb-true v n (and_parts (nat_lt v n) (is_free g.graph v) (and_parts (is_idle (account s.accounts i).stage)
+      (nat_lt v n && is_free g.graph v) (may_at g (readings s) s.accounts k.balance (Take i v) h)).1).0
+  word_there (Root i v) h = ltb-true v n (and_parts (nat_lt v n) (has_taken (account s.accounts i) v) (and_parts (is_idle (account s.accounts i).stage)
+      (nat_lt v n && has_taken (account s.accounts i) v) (may_at g (readings s) s.accounts k.balance (Root i v) h)).1).0
   word_there (Add i v o) h =
       let a = account s.accounts i in
-      let p = and_parts (is_idle a.stage) (nat_lt v n && (nat_lt o n && (has_taken a v && knows a o))) (may_at g (readings s) s.accounts k.balance (Add i v o) h) in
+      let p = and_parts (is_idle a.stage) (nat_lt v n && (nat_lt o n && (has_taken a v && knows a o)))
+      (may_at g (readings s) s.accounts k.balance (Add i v o)
+      h) in
       let q = and_parts (nat_lt v n) (nat_lt o n && (has_taken a v && knows a o)) p.1 in
       ltb-true o n (and_parts (nat_lt o n) (has_taken a v && knows a o) q.1).0
-  word_there (TakeBack i) h = (stage_there i (below_at g (readings s) s.accounts k.balance (TakeBack i) h) (account s.accounts i).stage refl (may_at g (readings s) s.accounts k.balance (TakeBack i) h)).1
-  word_there (Follow i) h = (stage_there i (below_at g (readings s) s.accounts k.balance (Follow i) h) (account s.accounts i).stage refl (granted-added (account s.accounts i).stage (may_at g (readings s) s.accounts k.balance (Follow i) h))).0
+  word_there (TakeBack i) h = (stage_there i (below_at g (readings s) s.accounts k.balance (TakeBack i) h) (account s.accounts i).stage refl
+      (may_at g (readings s) s.accounts k.balance (TakeBack i) h)).1
+  word_there (Follow i) h = (stage_there i (below_at g (readings s) s.accounts k.balance (Follow i) h) (account s.accounts i).stage refl
+      (granted-added (account s.accounts i).stage (may_at g (readings s) s.accounts k.balance (Follow i) h))).0
   word_there (Peek i v) h = ltb-true v n (may_at g (readings s) s.accounts k.balance (Peek i v) h)
   word_there (Split i) h = k.shape.some
   word_there (Join i j) h = k.shape.some
@@ -90,10 +103,12 @@ module _ (g : Setup) (s : State) (k : IsClusterState g s) where
       record {
         bounds = k.bounds;
         shape = shaped_written g s w y accounts k.shape;
-        balance = balance_at w y accounts (event_keeps g (readings s) s.accounts k.balance (readings (written s w y)) x h (writes_at g s w y k.shape (word_there x h)));
+        balance = balance_at w y accounts (event_keeps g (readings s) s.accounts k.balance (readings (written s w y)) x h
+            (writes_at g s w y k.shape (word_there x h)));
       }
     where
-      balance_at : (w : Word) (y : ℕ) (accounts : List Account) → InBalance g (readings (written s w y)) accounts → InBalance g (readings (record (written s w y) { accounts = accounts })) accounts
+      balance_at : (w : Word) (y : ℕ) (accounts : List Account) → InBalance g (readings (written s w y)) accounts →
+          InBalance g (readings (record (written s w y) { accounts = accounts })) accounts
       balance_at (Mark v) y accounts b = b
       balance_at (Mass v) y accounts b = b
 
@@ -106,7 +121,8 @@ opened_state g passes some bounds few = record {
     marks = record {
       roots = λ v q l e. let z = zero v l in absurd (omega arith);
       known = All-replicate (λ a. All (IsRoot g.graph (readings (opened g passes))) a.known) passes (blank true) nothing;
-      taken = λ v l. none (λ a. times v a.taken) refl ∙ sym (weight_if-other ((readings (opened g passes)).mark v) 1 1 (λ e. let z = zero v l in omega arith));
+      taken = λ v l. none (λ a. times v a.taken) refl ∙
+          sym (weight_if-other ((readings (opened g passes)).mark v) 1 1 (λ e. let z = zero v l in omega arith));
       range = All-replicate (λ a. All (λ v. v < vertex_count g.graph) a.taken) passes (blank true) nothing_below;
       fixed = λ v l f. zero v l;
     };
@@ -136,7 +152,9 @@ opened_state g passes some bounds few = record {
     nothing_below : All (λ v. v < vertex_count g.graph) []
     nothing_below k d l = absurd (omega arith)
 
-pub opened_from : (g : Setup) (passes : ℕ) (marks masses : List ℕ) (accounts : List Account) → 0 < vertex_count g.graph → IsWithinLimits g.graph → passes ≤ 64 → marks ≡ replicate (vertex_count g.graph) 0 → masses ≡ g.graph.weights → accounts ≡ replicate passes (blank true) → IsClusterState g (record { marks = marks; masses = masses; accounts = accounts })
+pub opened_from : (g : Setup) (passes : ℕ) (marks masses : List ℕ) (accounts : List Account) → 0 < vertex_count g.graph → IsWithinLimits g.graph →
+    passes ≤ 64 → marks ≡ replicate (vertex_count g.graph) 0 → masses ≡ g.graph.weights → accounts ≡ replicate passes (blank true) →
+    IsClusterState g (record { marks = marks; masses = masses; accounts = accounts })
 opened_from g passes marks masses accounts some bounds few e f h =
     subst (λ z. IsClusterState g (record { marks = z; masses = masses; accounts = accounts })) (sym e)
     (subst (λ z. IsClusterState g (record { marks = replicate (vertex_count g.graph) 0; masses = z; accounts = accounts })) (sym f)
@@ -150,7 +168,9 @@ run_keeps g s (x ∷ xs) k h =
     run_keeps g (after g s x) xs (state_keeps g s k x p.0) p.1
 
 -- one event more
-pub all_enabled_push : (g : Setup) (s : State) (xs : List ClusterEvent) (x : ClusterEvent) → all_enabled g s xs ≡ true → is_enabled g (run_of g s xs).accounts x ≡ true → all_enabled g s (xs ++ x ∷ []) ≡ true
+pub all_enabled_push : (g : Setup) (s : State) (xs : List ClusterEvent) (x : ClusterEvent) → all_enabled g s xs ≡ true →
+    is_enabled g (run_of g s xs).accounts
+    x ≡ true → all_enabled g s (xs ++ x ∷ []) ≡ true
 all_enabled_push g s [] x h e = and_from (is_enabled g s.accounts x) true e refl
 all_enabled_push g s (y ∷ xs) x h e =
     let p = and_parts (is_enabled g s.accounts y) (all_enabled g (after g s y) xs) h in
@@ -166,11 +186,14 @@ pub record IsMore (g : Setup) (s u : State) (xs : List ClusterEvent) (i : ℕ) :
   pub state : u ≡ run_of g s (take (i + 1) xs)
   pub balance : IsClusterState g u
 
-pub made_more : (g : Setup) (s : State) (xs : List ClusterEvent) (i : ℕ) (d : ClusterEvent) → i < length xs → (t u : State) (f : ℕ) → Leads g t (get_or xs i d) f u → IsClusterState g t → t ≡ run_of g s (take i xs) → all_enabled g s (take i xs) ≡ true → IsMore g s u xs i
+pub made_more : (g : Setup) (s : State) (xs : List ClusterEvent) (i : ℕ) (d : ClusterEvent) → i < length xs → (t u : State) (f : ℕ) →
+    Leads g t (get_or xs i d)
+    f u → IsClusterState g t → t ≡ run_of g s (take i xs) → all_enabled g s (take i xs) ≡ true → IsMore g s u xs i
 made_more g s xs i d l t u f e k r h =
     let more = take_more xs i d l in
     record {
-      enabled = subst (λ ys. all_enabled g s ys ≡ true) (sym more) (all_enabled_push g s (take i xs) (get_or xs i d) h (subst (λ (z : State). is_enabled g z.accounts (get_or xs i d) ≡ true) r e.enabled));
+      enabled = subst (λ ys. all_enabled g s ys ≡ true) (sym more) (all_enabled_push g s (take i xs) (get_or xs i d) h
+          (subst (λ (z : State). is_enabled g z.accounts (get_or xs i d) ≡ true) r e.enabled));
       state = e.state ∙ ap (λ z. after g z (get_or xs i d)) r ∙ sym (run_of_push g s (take i xs) (get_or xs i d)) ∙ ap (run_of g s) (sym more);
       balance = subst (IsClusterState g) (sym e.state) (state_keeps g t k (get_or xs i d) e.enabled);
     }

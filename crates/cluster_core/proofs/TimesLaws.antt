@@ -1,5 +1,6 @@
 -- How often a number stands in a list: after an insertion, after a removal, and in all accounts after a change of one.
-use Rattle.std.proofs.Common.{◌≡◌, ℕ, ◌+◌, ◌<◌, ◌≤◌, ◌⊎◌, inl, inr, Bool, true, false, cond, if◌then◌else◌, nat_eq, List, [], ◌∷◌, length, length-set, get_or, get_or-set_other, set, All, refl, sym, ap, subst, arith, nat_cmp}
+use Rattle.std.proofs.Common.{◌≡◌, ℕ, ◌+◌, ◌<◌, ◌≤◌, ◌⊎◌, inl, inr, Bool, true, false, cond, if◌then◌else◌, nat_eq, List, [], ◌∷◌, length}
+use Rattle.std.proofs.Common.{length-set, get_or, get_or-set_other, set, All, refl, sym, ap, subst, arith, nat_cmp}
 use Rattle.std.specs.BTreeSet.{insert_key}
 use Rattle.std.specs.Set.{remove_key}
 use Rattle.std.specs.Ordering.{match_ordering}
@@ -19,7 +20,8 @@ pub times-insert_key : (xs : List ℕ) (v u : ℕ) → times v xs ≡ 0 → time
 times-insert_key [] v u h = omega arith
 times-insert_key (x ∷ xs) v u h = by (nat_cmp v x) refl (times-insert_key xs v u)
   where
-    by : (o : Ordering) → nat_cmp v x ≡ o → (times v xs ≡ 0 → times u (insert_key nat_cmp xs v) ≡ times u xs + weight_if v u 1) → times u (match_ordering o (v ∷ x ∷ xs) (x ∷ xs) (x ∷ insert_key nat_cmp xs v)) ≡ times u (x ∷ xs) + weight_if v u 1
+    by : (o : Ordering) → nat_cmp v x ≡ o → (times v xs ≡ 0 → times u (insert_key nat_cmp xs v) ≡ times u xs + weight_if v u 1) →
+        times u (match_ordering o (v ∷ x ∷ xs) (x ∷ xs) (x ∷ insert_key nat_cmp xs v)) ≡ times u (x ∷ xs) + weight_if v u 1
     by Less e r = omega arith
     by Equal e r =
         let s = weight_if-same x v 1 (sym (nat_cmp_exact v x e)) in
@@ -31,7 +33,8 @@ pub times-insert_key-le : (xs : List ℕ) (v u : ℕ) → times u xs ≤ times u
 times-insert_key-le [] v u = omega arith
 times-insert_key-le (x ∷ xs) v u = by (nat_cmp v x) (times-insert_key-le xs v u)
   where
-    by : (o : Ordering) → times u xs ≤ times u (insert_key nat_cmp xs v) → times u (x ∷ xs) ≤ times u (match_ordering o (v ∷ x ∷ xs) (x ∷ xs) (x ∷ insert_key nat_cmp xs v))
+    by : (o : Ordering) → times u xs ≤ times u (insert_key nat_cmp xs v) → times u (x ∷ xs) ≤ times u
+        (match_ordering o (v ∷ x ∷ xs) (x ∷ xs) (x ∷ insert_key nat_cmp xs v))
     by Less r = omega arith
     by Equal r = omega arith
     by Greater r = omega arith
@@ -40,7 +43,8 @@ pub times-insert_key-has : (xs : List ℕ) (v : ℕ) → 0 < times v (insert_key
 times-insert_key-has [] v = let s = weight_if-same v v 1 refl in omega arith
 times-insert_key-has (x ∷ xs) v = by (nat_cmp v x) refl (times-insert_key-has xs v)
   where
-    by : (o : Ordering) → nat_cmp v x ≡ o → 0 < times v (insert_key nat_cmp xs v) → 0 < times v (match_ordering o (v ∷ x ∷ xs) (x ∷ xs) (x ∷ insert_key nat_cmp xs v))
+    by : (o : Ordering) → nat_cmp v x ≡ o → 0 < times v (insert_key nat_cmp xs v) →
+        0 < times v (match_ordering o (v ∷ x ∷ xs) (x ∷ xs) (x ∷ insert_key nat_cmp xs v))
     by Less e r = let s = weight_if-same v v 1 refl in omega arith
     by Equal e r = let s = weight_if-same x v 1 (sym (nat_cmp_exact v x e)) in omega arith
     by Greater e r = omega arith
@@ -50,7 +54,8 @@ pub times-remove_key : (xs : List ℕ) (v u : ℕ) → 0 < times v xs → times 
 times-remove_key [] v u h = absurd (omega arith)
 times-remove_key (x ∷ xs) v u h = by (nat_eq v x) refl (times-remove_key xs v u)
   where
-    by : (b : Bool) → nat_eq v x ≡ b → (0 < times v xs → times u (remove_key (nat_eq v) xs) + weight_if v u 1 ≡ times u xs) → times u (cond b xs (x ∷ remove_key (nat_eq v) xs)) + weight_if v u 1 ≡ times u (x ∷ xs)
+    by : (b : Bool) → nat_eq v x ≡ b → (0 < times v xs → times u (remove_key (nat_eq v) xs) + weight_if v u 1 ≡ times u xs) →
+        times u (cond b xs (x ∷ remove_key (nat_eq v) xs)) + weight_if v u 1 ≡ times u (x ∷ xs)
     by true e r = subst (λ z. times u xs + weight_if z u 1 ≡ times u (x ∷ xs)) (sym (eqb-true v x e)) (omega arith)
     by false e r =
         let s = weight_if-other x v 1 (λ q. eqb-false v x e (sym q)) in
@@ -127,7 +132,8 @@ pick p q x y = by (nat_eq p q) refl
     by false e = inr (eqb-false p q e, refl)
 
 -- two different places of a list are within the sum
-pub total_two : (f : Account → ℕ) (accounts : List Account) (i k : ℕ) → f (blank false) ≡ 0 → i < length accounts → k < length accounts → (k ≡ i → ⊥) → f (get_or accounts i (blank false)) + f (get_or accounts k (blank false)) ≤ total f accounts
+pub total_two : (f : Account → ℕ) (accounts : List Account) (i k : ℕ) → f (blank false) ≡ 0 → i < length accounts → k < length accounts → (k ≡ i → ⊥) →
+    f (get_or accounts i (blank false)) + f (get_or accounts k (blank false)) ≤ total f accounts
 total_two f accounts i k z li lk q =
     let e = total-set f accounts i (blank false) (blank false) li in
     let o = get_or-set_other accounts i k (blank false) (blank false) q in

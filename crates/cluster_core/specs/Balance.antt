@@ -53,7 +53,8 @@ promised h r accounts q = clustered h r q + total (λ a. granted_weight h q a.st
 -- Masses. The mass of a root is the weight of its cluster and of what stands at stages for it; that of another vertex is
 -- its weight. The cluster of a root with a follower or a grant, with all grants, is within the cap.
 pub record HasMasses (g : Setup) (r : Readings) (accounts : List Account) : Type 0 where
-  pub root : (q : ℕ) → q < vertex_count g.graph → r.mark q ≡ q + 2 → r.mass q ≡ clustered g.graph r q + total (λ a. pending_weight g.graph q a.stage) accounts
+  pub root : (q : ℕ) → q < vertex_count g.graph → r.mark q ≡ q + 2 → r.mass q ≡ clustered g.graph r q + total (λ a. pending_weight g.graph q a.stage)
+      accounts
   pub other : (q : ℕ) → q < vertex_count g.graph → r.mark q ≢ q + 2 → r.mass q ≡ weight_of g.graph q
   pub followed : (q v : ℕ) → v < vertex_count g.graph → v ≢ q → r.mark v ≡ q + 2 → promised g.graph r accounts q ≤ g.cap
   pub granted : (q : ℕ) → 0 < total (λ a. grants q a.stage) accounts → promised g.graph r accounts q ≤ g.cap

@@ -27,7 +27,8 @@ impl Marks {
     fn take(&mut self, _h: &FlatHyper, _cap: u64, pass: u32, vertex: u32) -> Result<u64, NoMemory>
         requires balance { IsClusterState (setup_of _h.now _cap) self.old }
         requires enabled { is_enabled (setup_of _h.now _cap) self.old.accounts (ClusterEvent.Take pass vertex) ≡ true }
-        ensures ok { IfOk result (λ found. Leads (setup_of _h.now _cap) self.old (ClusterEvent.Take pass vertex) found self.new) }
+        ensures ok { IfOk result (λ found. Leads (setup_of _h.now _cap) self.old (ClusterEvent.Take pass vertex) found
+            self.new) }
         ensures err { OnErr result (self.new ≡ self.old) }
     {
         let found = self.marks[vertex as usize];
@@ -49,7 +50,8 @@ impl Marks {
     ) -> Result<u64, NoMemory>
         requires balance { IsClusterState (setup_of _h.now _cap) self.old }
         requires enabled { is_enabled (setup_of _h.now _cap) self.old.accounts (ClusterEvent.Root pass vertex) ≡ true }
-        ensures ok { IfOk result (λ found. Leads (setup_of _h.now _cap) self.old (ClusterEvent.Root pass vertex) found self.new) }
+        ensures ok { IfOk result (λ found. Leads (setup_of _h.now _cap) self.old (ClusterEvent.Root pass vertex) found
+            self.new) }
         ensures err { OnErr result (self.new ≡ self.old) }
     {
         let found = self.marks[vertex as usize];
@@ -60,7 +62,8 @@ impl Marks {
 
     fn add(&mut self, h: &FlatHyper, cap: u64, pass: u32, vertex: u32, root: u32) -> u64
         requires balance { IsClusterState (setup_of h.now cap) self.old }
-        requires enabled { is_enabled (setup_of h.now cap) self.old.accounts (ClusterEvent.Add pass vertex root) ≡ true }
+        requires enabled { is_enabled (setup_of h.now cap) self.old.accounts (ClusterEvent.Add pass vertex root) ≡
+            true }
         ensures { Leads (setup_of h.now cap) self.old (ClusterEvent.Add pass vertex root) result self.new }
     {
         let weight = h.vertex_weight(vertex);
@@ -101,7 +104,8 @@ impl Marks {
     fn peek(&mut self, _h: &FlatHyper, _cap: u64, pass: u32, vertex: u32) -> Result<u64, NoMemory>
         requires balance { IsClusterState (setup_of _h.now _cap) self.old }
         requires enabled { is_enabled (setup_of _h.now _cap) self.old.accounts (ClusterEvent.Peek pass vertex) ≡ true }
-        ensures ok { IfOk result (λ found. Leads (setup_of _h.now _cap) self.old (ClusterEvent.Peek pass vertex) found self.new) }
+        ensures ok { IfOk result (λ found. Leads (setup_of _h.now _cap) self.old (ClusterEvent.Peek pass vertex) found
+            self.new) }
         ensures err { OnErr result (self.new ≡ self.old) }
     {
         let found = self.marks[vertex as usize];
@@ -114,7 +118,8 @@ impl Marks {
     fn split(&mut self, _h: &FlatHyper, _cap: u64, _pass: u32) -> Result<u64, NoMemory>
         requires balance { IsClusterState (setup_of _h.now _cap) self.old }
         requires enabled { is_enabled (setup_of _h.now _cap) self.old.accounts (ClusterEvent.Split _pass) ≡ true }
-        ensures ok { IfOk result (λ found. Leads (setup_of _h.now _cap) self.old (ClusterEvent.Split _pass) found self.new) }
+        ensures ok { IfOk result (λ found. Leads (setup_of _h.now _cap) self.old (ClusterEvent.Split _pass) found
+            self.new) }
         ensures err { OnErr result (self.new ≡ self.old) }
     {
         let found = self.marks[0];
@@ -125,7 +130,8 @@ impl Marks {
     fn join(&mut self, _h: &FlatHyper, _cap: u64, pass: u32, other: u32) -> Result<u64, NoMemory>
         requires balance { IsClusterState (setup_of _h.now _cap) self.old }
         requires enabled { is_enabled (setup_of _h.now _cap) self.old.accounts (ClusterEvent.Join pass other) ≡ true }
-        ensures ok { IfOk result (λ found. Leads (setup_of _h.now _cap) self.old (ClusterEvent.Join pass other) found self.new) }
+        ensures ok { IfOk result (λ found. Leads (setup_of _h.now _cap) self.old (ClusterEvent.Join pass other) found
+            self.new) }
         ensures err { OnErr result (self.new ≡ self.old) }
     {
         let found = self.marks[0];

@@ -48,7 +48,8 @@ impl Marks {
 
     fn may_take(&self, h: &FlatHyper, _cap: u64, pass: u32, vertex: u32) -> bool
         requires { pass < length self.now.accounts }
-        ensures { result ≡ may_step (setup_of h.now _cap) (ClusterEvent.Take pass vertex) (account self.now.accounts pass) }
+        ensures { result ≡ may_step (setup_of h.now _cap) (ClusterEvent.Take pass vertex)
+            (account self.now.accounts pass) }
     {
         self.passes[pass as usize].stage().is_idle()
             && vertex < h.vertices()
@@ -57,7 +58,8 @@ impl Marks {
 
     fn may_root(&self, h: &FlatHyper, _cap: u64, pass: u32, vertex: u32) -> bool
         requires { pass < length self.now.accounts }
-        ensures { result ≡ may_step (setup_of h.now _cap) (ClusterEvent.Root pass vertex) (account self.now.accounts pass) }
+        ensures { result ≡ may_step (setup_of h.now _cap) (ClusterEvent.Root pass vertex)
+            (account self.now.accounts pass) }
     {
         self.passes[pass as usize].stage().is_idle()
             && vertex < h.vertices()
@@ -66,7 +68,8 @@ impl Marks {
 
     fn may_add(&self, h: &FlatHyper, _cap: u64, pass: u32, vertex: u32, root: u32) -> bool
         requires { pass < length self.now.accounts }
-        ensures { result ≡ may_step (setup_of h.now _cap) (ClusterEvent.Add pass vertex root) (account self.now.accounts pass) }
+        ensures { result ≡ may_step (setup_of h.now _cap) (ClusterEvent.Add pass vertex root)
+            (account self.now.accounts pass) }
     {
         self.passes[pass as usize].stage().is_idle()
             && vertex < h.vertices()

@@ -3,7 +3,8 @@ ghost use Rattle.std.specs.Ordering.{nat_cmp};
 ghost use Rattle.std.specs.BTreeSet.{insert_key};
 ghost use Rattle.std.specs.Set.{remove_key};
 ghost use Rattle.cluster_core.specs.State.{blank};
-ghost use Rattle.cluster_core.specs.Events.{took, learned, rooted, followed, idle, joined_with, all_inserted, has_taken, knows};
+ghost use Rattle.cluster_core.specs.Events.{took, learned, rooted, followed, idle, joined_with};
+ghost use Rattle.cluster_core.specs.Events.{all_inserted, has_taken, knows};
 
 use crate::account::Stage;
 use hg_base::NoMemory;

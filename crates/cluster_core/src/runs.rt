@@ -107,8 +107,10 @@ pub fn run(
     requires some { 1 ≤ passes }
     requires few { passes ≤ 64 }
     requires events { length events.now < 2 ^ 32 }
-    ensures enabled { OnOk result (all_enabled (setup_of h.now cap) (opened (setup_of h.now cap) passes) events.now ≡ true) }
-    ensures state { IfOk result (λ marks. marks ≡ run_of (setup_of h.now cap) (opened (setup_of h.now cap) passes) events.now) }
+    ensures enabled { OnOk result (all_enabled (setup_of h.now cap) (opened (setup_of h.now cap) passes) events.now ≡
+        true) }
+    ensures state { IfOk result (λ marks. marks ≡ run_of (setup_of h.now cap) (opened (setup_of h.now cap) passes)
+        events.now) }
     ensures balance { IfOk result (λ marks. IsClusterState (setup_of h.now cap) marks) }
     ensures refused { IfErr result (IsStoppedBy (setup_of h.now cap) (opened (setup_of h.now cap) passes) events.now) }
 {

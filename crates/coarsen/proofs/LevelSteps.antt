@@ -1,5 +1,6 @@
 -- Laws of one level more.
-use Rattle.std.proofs.Common.{◌≡◌, ◌≢◌, ◌⊎◌, inl, inr, ◌↔◌, ℕ, suc, ◌+◌, ◌-◌, ◌*◌, ◌^◌, ◌<◌, ◌≤◌, Bool, true, false, true≢false, nat_eq, List, [], ◌∷◌, ◌++◌, length, get_or, All, Contains, refl, sym, ap, ◌∙◌, subst, arith}
+use Rattle.std.proofs.Common.{◌≡◌, ◌≢◌, ◌⊎◌, inl, inr, ◌↔◌, ℕ, suc, ◌+◌, ◌-◌, ◌*◌, ◌^◌, ◌<◌, ◌≤◌, Bool, true, false, true≢false, nat_eq}
+use Rattle.std.proofs.Common.{List, [], ◌∷◌, ◌++◌, length, get_or, All, Contains, refl, sym, ap, ◌∙◌, subst, arith}
 use Rattle.std.specs.Bool.{IsTrue}
 use Rattle.std.specs.List.{range_with_len, IsDistinct}
 use Rattle.std.specs.Set.{is_member}
@@ -45,7 +46,8 @@ count_le clusters count used =
 pub count_within : (h : Hyper) (cap : ℕ) (clusters : List ℕ) → IsClustering h cap clusters → cluster_count clusters ≤ vertex_count h
 count_within h cap clusters c = let n = count_le clusters (cluster_count clusters) c.full.used in let v = c.full.vertices in omega arith
 
-pub all_small : (h : Hyper) (cap : ℕ) (clusters lent : List ℕ) → IsClustering h cap clusters → IsWithinLimits h → lent ≡ clusters → All (λ i. i < 2 ^ 22) lent
+pub all_small : (h : Hyper) (cap : ℕ) (clusters lent : List ℕ) → IsClustering h cap clusters → IsWithinLimits h → lent ≡ clusters →
+    All (λ i. i < 2 ^ 22) lent
 all_small h cap clusters lent c limits same =
     subst (All (λ i. i < 2 ^ 22)) (sym same)
     (λ k d l. let a = c.full.below k d l in let b = count_within h cap clusters c in let v = limits.vertices in omega arith)
@@ -53,7 +55,9 @@ all_small h cap clusters lent c limits same =
 pub apart_from : (h : Hyper) (cap : ℕ) (clusters : List ℕ) → IsClustering h cap clusters → IsApart h clusters
 apart_from h cap clusters c v u l m e n = c.free v u (record { first = l; second = m; different = n; cluster = e })
 
-pub leads_from : (h top coarse : Hyper) (cap : ℕ) (clusters lent : List ℕ) (ledger : List Merged) → IsClustering h cap clusters → top ≡ h → lent ≡ clusters → IsLedger top lent coarse ledger → LeadsUp h clusters coarse ledger
+pub leads_from : (h top coarse : Hyper) (cap : ℕ) (clusters lent : List ℕ) (ledger : List Merged) → IsClustering h cap clusters → top ≡ h →
+    lent ≡ clusters →
+    IsLedger top lent coarse ledger → LeadsUp h clusters coarse ledger
 leads_from h top coarse cap clusters lent ledger c a b books = record {
   full = c.full;
   apart = apart_from h cap clusters c;
@@ -74,14 +78,19 @@ coarse_count base maps clusters =
     ∙ length-map-range_with_len (weight_in (coarsest base maps).weights clusters) 0 (cluster_count clusters)
 
 -- the level is large
-pub large_at : (stack base top : Hyper) (maps : List (List ℕ)) (k a b m : ℕ) → stack ≡ base → top ≡ coarsest stack maps → m ≡ vertex_count top → a ≡ m → b ≡ k → 32 * b < a → IsLarge (coarsest base maps) k
+pub large_at : (stack base top : Hyper) (maps : List (List ℕ)) (k a b m : ℕ) → stack ≡ base → top ≡ coarsest stack maps → m ≡ vertex_count top → a ≡ m →
+    b ≡ k → 32 * b < a → IsLarge (coarsest base maps) k
 large_at stack base top maps k a b m same is count from to large =
     let e = ap (λ (x : Hyper). vertex_count x) (is ∙ ap (λ (x : Hyper). coarsest x maps) same) in omega arith
 
 -- the next level has fewer vertices
-pub fewer_at : (stack new : Stack) (clusters : List ℕ) (count : ℕ) (top : Hyper) → new.base ≡ stack.base → new.maps ≡ stack.maps ++ clusters ∷ [] → top ≡ coarsest stack.base stack.maps
-    → count ≡ cluster_count clusters → vertex_count top ≤ 20 * (vertex_count top - count) → 0 < vertex_count top → vertex_count (coarsest new.base new.maps) < vertex_count (coarsest stack.base stack.maps)
+pub fewer_at : (stack new : Stack) (clusters : List ℕ) (count : ℕ) (top : Hyper) → new.base ≡ stack.base → new.maps ≡ stack.maps ++ clusters ∷ [] →
+    top ≡ coarsest stack.base stack.maps
+    → count ≡ cluster_count clusters → vertex_count top ≤ 20 * (vertex_count top - count) → 0 < vertex_count top →
+    vertex_count (coarsest new.base new.maps) <
+    vertex_count (coarsest stack.base stack.maps)
 fewer_at stack new clusters count top base maps is number fewer some =
     let e = ap (λ (x : Hyper). vertex_count x) is in
-    let d = ap (λ (x : Hyper). vertex_count (coarsest x new.maps)) base ∙ ap (λ (ms : List (List ℕ)). vertex_count (coarsest stack.base ms)) maps ∙ coarse_count stack.base stack.maps clusters in
+    let d = ap (λ (x : Hyper). vertex_count (coarsest x new.maps)) base ∙ ap (λ (ms : List (List ℕ)). vertex_count (coarsest stack.base ms)) maps ∙
+    coarse_count stack.base stack.maps clusters in
     omega arith

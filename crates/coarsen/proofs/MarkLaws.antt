@@ -1,5 +1,6 @@
 -- Laws of the marks of single vertices.
-use Rattle.std.proofs.Common.{◌≡◌, ◌≢◌, ◌⊎◌, inl, inr, ⊎_elim, ◌↔◌, ℕ, ◌+◌, ◌<◌, ◌≤◌, Bool, true, false, true≢false, nat_eq, List, length, get_or, set, slice_index, refl, sym, ap, ◌∙◌, subst, arith, length-set, get_or-set_same, get_or-set_other}
+use Rattle.std.proofs.Common.{◌≡◌, ◌≢◌, ◌⊎◌, inl, inr, ⊎_elim, ◌↔◌, ℕ, ◌+◌, ◌<◌, ◌≤◌, Bool, true, false, true≢false, nat_eq, List, length, get_or, set}
+use Rattle.std.proofs.Common.{slice_index, refl, sym, ap, ◌∙◌, subst, arith, length-set, get_or-set_same, get_or-set_other}
 use Rattle.std.proofs.lemmas.Bool.{cases_eq, eqb-true, eq-eqb}
 use Rattle.hg_defs.specs.declared.objective.TheConstants.{FREE}
 use Rattle.hg_defs.specs.Hypergraph.{Hyper, vertex_count, fix_of, is_free, IsFree}
@@ -18,7 +19,8 @@ pub record AreMarkedUpto (h : Hyper) (roots : List ℕ) (i : ℕ) (single : List
   pub untouched : (u : ℕ) → u < vertex_count h → get_or single u false ≡ true → IsUntouched roots i u
   pub marked : (u : ℕ) → u < vertex_count h → IsFree h u → IsUntouched roots i u → get_or single u false ≡ true
 
-pub marked_none : (h : Hyper) (roots : List ℕ) (single : List Bool) → ((u : ℕ) → u < vertex_count h → get_or single u false ≡ is_free h u) → AreMarkedUpto h roots 0 single
+pub marked_none : (h : Hyper) (roots : List ℕ) (single : List Bool) → ((u : ℕ) → u < vertex_count h → get_or single u false ≡ is_free h u) →
+    AreMarkedUpto h roots 0 single
 marked_none h roots single each = record {
   free = λ u l e. eqb-true (fix_of h u) FREE (sym (each u l) ∙ e);
   untouched = λ u l e w m. absurd (omega arith);
@@ -43,7 +45,8 @@ module _ (h : Hyper) (roots : List ℕ) (i : ℕ) (single : List Bool) (m : AreM
     marked = λ u l f t. m.marked u l f (untouched_less u t);
   }
 
-  pub marked_more : slice_index roots i ≢ i → i < length single → slice_index roots i < length single → AreMarkedUpto h roots (i + 1) (set (set single i false) (slice_index roots i) false)
+  pub marked_more : slice_index roots i ≢ i → i < length single → slice_index roots i < length single → AreMarkedUpto h roots (i + 1)
+      (set (set single i false) (slice_index roots i) false)
   marked_more other low below = record {
     free = λ u l e. m.free u l (was u e);
     untouched = λ u l e. untouched_more u (m.untouched u l (was u e)) (λ o. (not_i u e, not_root u e));
@@ -79,10 +82,12 @@ same_tests false true f g = g refl
 same_tests false false f g = refl
 
 -- in the end they tell the single vertices
-pub marked_all : (h : Hyper) (roots : List ℕ) (single : List Bool) → AreRoots (vertex_count h) roots → length single ≡ vertex_count h → AreMarkedUpto h roots (vertex_count h) single → AreMarked h roots single
+pub marked_all : (h : Hyper) (roots : List ℕ) (single : List Bool) → AreRoots (vertex_count h) roots → length single ≡ vertex_count h →
+    AreMarkedUpto h roots (vertex_count h) single → AreMarked h roots single
 marked_all h roots single are long m = record {
   vertices = long;
-  each = λ u l. same_tests (get_or single u false) (is_single h roots u) (λ e. is_single_from h roots u (to u l e)) (λ e. from u l (single_is h roots u l e));
+  each = λ u l. same_tests (get_or single u false) (is_single h roots u) (λ e. is_single_from h roots u (to u l e))
+      (λ e. from u l (single_is h roots u l e));
 }
   where
     to : (u : ℕ) → u < vertex_count h → get_or single u false ≡ true → IsSingleton h roots u

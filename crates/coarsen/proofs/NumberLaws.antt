@@ -1,5 +1,7 @@
 -- Laws of numbering roots one after the other.
-use Rattle.std.proofs.Common.{◌≡◌, ◌≢◌, ◌⊎◌, inl, inr, ⊎_elim, ℕ, zero, suc, if◌then◌else◌, ◌+◌, ◌<◌, ◌≤◌, Bool, true, false, cond, nat_eq, List, [], ◌∷◌, ◌++◌, length, map, filter, get_or, set, slice_index, replicate, refl, sym, ap, ◌∙◌, subst, arith, length-set, get_or-set_same, get_or-set_other}
+use Rattle.std.proofs.Common.{◌≡◌, ◌≢◌, ◌⊎◌, inl, inr, ⊎_elim, ℕ, zero, suc, if◌then◌else◌, ◌+◌, ◌<◌, ◌≤◌, Bool, true, false, cond}
+use Rattle.std.proofs.Common.{nat_eq, List, [], ◌∷◌, ◌++◌, length, map, filter, get_or, set, slice_index, replicate, refl, sym, ap}
+use Rattle.std.proofs.Common.{◌∙◌, subst, arith, length-set, get_or-set_same, get_or-set_other}
 use Rattle.std.specs.List.{range_with_len}
 use Rattle.std.proofs.lemmas.Bool.{cases_eq, eq-eqb, ne_eqb}
 use Rattle.std.proofs.lemmas.List.{length-append, map-id, ext_get_or, length-map, get_or-map, length-replicate, get_or-replicate}
@@ -23,7 +25,8 @@ roots_below_more roots v =
     ∙ length-append (filter test (range_with_len 0 v)) (cond (nat_eq (slice_index roots v) v) (v ∷ []) [])
 
 pub roots_below_root : (roots : List ℕ) (v : ℕ) → slice_index roots v ≡ v → roots_below roots (v + 1) ≡ roots_below roots v + 1
-roots_below_root roots v own = roots_below_more roots v ∙ ap (λ (b : Bool). roots_below roots v + length (cond b (v ∷ []) [])) (eq-eqb (slice_index roots v) v own)
+roots_below_root roots v own = roots_below_more roots v ∙ ap (λ (b : Bool). roots_below roots v + length (cond b (v ∷ []) []))
+    (eq-eqb (slice_index roots v) v own)
 
 pub roots_below_other : (roots : List ℕ) (v : ℕ) → slice_index roots v ≢ v → roots_below roots (v + 1) ≡ roots_below roots v
 roots_below_other roots v other =
@@ -49,7 +52,8 @@ module _ (roots numbers : List ℕ) (v count : ℕ) (m : IsNumbering roots v cou
       vertices = length-set numbers v count ∙ m.done.vertices;
       each = λ r l o.
           ⊎_elim
-          (λ (e : r ≡ v). ap (λ (x : ℕ). get_or (set numbers v count) x 0) e ∙ get_or-set_same numbers v count 0 (let n = m.done.vertices in omega arith) ∙ m.counts ∙ ap (roots_below roots) (sym e))
+          (λ (e : r ≡ v). ap (λ (x : ℕ). get_or (set numbers v count) x 0) e ∙ get_or-set_same numbers v count 0 (let n = m.done.vertices in omega arith) ∙
+          m.counts ∙ ap (roots_below roots) (sym e))
           (λ (n : r ≢ v). get_or-set_other numbers v r count 0 n ∙ m.done.each r (omega arith) o)
           (cases_eq r v);
     };

@@ -1,5 +1,9 @@
 -- Laws of joining ranked single vertices two by two.
-use Rattle.std.proofs.Common.{◌≡◌, ◌≢◌, ◌⊎◌, inl, inr, ⊎_elim, ℕ, zero, suc, ◌+◌, ◌-◌, ◌<◌, ◌≤◌, Bool, true, false, true≢false, if◌then◌else◌, cond, ◌&&◌, min, max, nat_eq, nat_le, List, [], ◌∷◌, length, map, filter, drop, get_or, set, slice_index, All, AllPairs, Contains, IsPermutation, IsSorted, replicate, refl, sym, ap, ◌∙◌, subst, arith, length-set, get_or-set_same, get_or-set_other}
+use Rattle.std.proofs.Common.{◌≡◌, ◌≢◌, ◌⊎◌, inl, inr, ⊎_elim, ℕ, zero, suc, ◌+◌, ◌-◌, ◌<◌, ◌≤◌, Bool, true}
+use Rattle.std.proofs.Common.{false, true≢false, if◌then◌else◌, cond, ◌&&◌, min}
+use Rattle.std.proofs.Common.{max, nat_eq, nat_le, List, [], ◌∷◌, length, map, filter, drop, get_or, set}
+use Rattle.std.proofs.Common.{slice_index, All, AllPairs, Contains, IsPermutation}
+use Rattle.std.proofs.Common.{IsSorted, replicate, refl, sym, ap, ◌∙◌, subst, arith, length-set, get_or-set_same, get_or-set_other}
 use Rattle.std.specs.List.{range_with_len}
 use Rattle.std.specs.List.Sorted.{IsStrictlyIncreasing}
 use Rattle.std.proofs.lemmas.Bool.{cases_lt, cases_eq, le-leb, leb-true, lt-leb, and_parts}
@@ -42,7 +46,8 @@ same_tests false true f g = g refl
 same_tests false false f g = refl
 
 -- two single vertices that are joined aren't single any longer
-module _ (h : Hyper) (cap : ℕ) (roots : List ℕ) (single : List Bool) (r : IsRooted h cap roots) (m : AreMarked h roots single) (u v : ℕ) (su : IsSingleton h roots u) (sv : IsSingleton h roots v) (differ : u ≢ v) where
+module _ (h : Hyper) (cap : ℕ) (roots : List ℕ) (single : List Bool) (r : IsRooted h cap roots) (m : AreMarked h roots single) (u v : ℕ)
+    (su : IsSingleton h roots u) (sv : IsSingleton h roots v) (differ : u ≢ v) where
   abbrev pub joined : List ℕ
   joined = set roots (max u v) (min u v)
 
@@ -118,7 +123,8 @@ module _ (h : Hyper) (cap : ℕ) (roots : List ℕ) (single : List Bool) (r : Is
           by false e = refl
 
       at_v : get_or (set (set single u false) v false) v false ≡ false
-      at_v = get_or-set_same (set single u false) v false false (let n = length-set single u false in let k = m.vertices in let w = sv.vertex in omega arith)
+      at_v = get_or-set_same (set single u false) v false false (let n = length-set single u false in let k = m.vertices in let w = sv.vertex in
+          omega arith)
 
       each : (x : ℕ) → x < vertex_count h → (x ≡ u) ⊎ (x ≢ u) → (x ≡ v) ⊎ (x ≢ v) → get_or (set (set single u false) v false) x false ≡ is_single h joined x
       each x l c (inl e) = ap (λ (y : ℕ). get_or (set (set single u false) v false) y false) e ∙ at_v ∙ sym (none x l (inr e))
@@ -148,17 +154,20 @@ pub record IsJoining (h : Hyper) (cap : ℕ) (ranks : List Rank) (start : List �
   pub ready : IsReady h cap ranks i roots single
   pub rest : pair_up h cap 1 no_block roots (vertices_of (drop i ranks)) ≡ pair_up h cap 1 no_block start (vertices_of ranks)
 
-pub joining_none : (h : Hyper) (cap : ℕ) (ranks : List Rank) (roots : List ℕ) (single : List Bool) → IsRooted h cap roots → AreMarked h roots single → All (λ rank. IsSingleton h roots rank.1) ranks → IsJoining h cap ranks roots 0 roots single
+pub joining_none : (h : Hyper) (cap : ℕ) (ranks : List Rank) (roots : List ℕ) (single : List Bool) → IsRooted h cap roots → AreMarked h roots single →
+    All (λ rank. IsSingleton h roots rank.1) ranks → IsJoining h cap ranks roots 0 roots single
 joining_none h cap ranks roots single r m s = record { ready = record { within = omega arith; rooted = r; marked = m; singles = s }; rest = refl }
 
-module _ (h : Hyper) (cap : ℕ) (ranks : List Rank) (start : List ℕ) (i : ℕ) (roots : List ℕ) (single : List Bool) (j : IsJoining h cap ranks start i roots single) where
+module _ (h : Hyper) (cap : ℕ) (ranks : List Rank) (start : List ℕ) (i : ℕ) (roots : List ℕ) (single : List Bool)
+    (j : IsJoining h cap ranks start i roots single) where
   -- at the end at most one rank is left
   pub joining_end : length ranks ≤ i + 1 → roots ≡ pair_up h cap 1 no_block start (vertices_of ranks)
   joining_end short = by (cases_lt i (length ranks))
     where
       by : (i < length ranks) ⊎ (length ranks ≤ i) → roots ≡ pair_up h cap 1 no_block start (vertices_of ranks)
       by (inl l) =
-          ap (λ (rs : List Rank). pair_up h cap 1 no_block roots (vertices_of rs)) (sym (drop_more ranks i (0, 0) l ∙ ap (λ (rs : List Rank). get_or ranks i (0, 0) ∷ rs) (drop_all (i + 1) ranks short)))
+          ap (λ (rs : List Rank). pair_up h cap 1 no_block roots (vertices_of rs))
+          (sym (drop_more ranks i (0, 0) l ∙ ap (λ (rs : List Rank). get_or ranks i (0, 0) ∷ rs) (drop_all (i + 1) ranks short)))
           ∙ j.rest
       by (inr l) = ap (λ (rs : List Rank). pair_up h cap 1 no_block roots (vertices_of rs)) (sym (drop_all i ranks l)) ∙ j.rest
 
@@ -170,22 +179,27 @@ module _ (h : Hyper) (cap : ℕ) (ranks : List Rank) (start : List ℕ) (i : ℕ
         (drop_more ranks (i + 1) (0, 0) low ∙ ap (λ (n : ℕ). get_or ranks (i + 1) (0, 0) ∷ drop n ranks) (let e : i + 1 + 1 ≡ i + 2 = omega arith in e))
 
     both : vertices_of (drop i ranks) ≡ u ∷ v ∷ vertices_of (drop (i + 2) ranks)
-    both = ap vertices_of next ∙ ap (λ (x : ℕ). x ∷ (get_or ranks (i + 1) (0, 0)).1 ∷ vertices_of (drop (i + 2) ranks)) (sym first) ∙ ap (λ (y : ℕ). u ∷ y ∷ vertices_of (drop (i + 2) ranks)) (sym second)
+    both = ap vertices_of next ∙ ap (λ (x : ℕ). x ∷ (get_or ranks (i + 1) (0, 0)).1 ∷ vertices_of (drop (i + 2) ranks)) (sym first) ∙
+        ap (λ (y : ℕ). u ∷ y ∷ vertices_of (drop (i + 2) ranks)) (sym second)
 
     left : All (λ (rank : Rank). IsSingleton h roots rank.1) (get_or ranks i (0, 0) ∷ get_or ranks (i + 1) (0, 0) ∷ drop (i + 2) ranks)
     left = subst (All (λ (rank : Rank). IsSingleton h roots rank.1)) next j.ready.singles
 
     pub first_single : IsSingleton h roots u
-    first_single = subst (IsSingleton h roots) (sym first) (All-head (λ (rank : Rank). IsSingleton h roots rank.1) (get_or ranks i (0, 0)) (get_or ranks (i + 1) (0, 0) ∷ drop (i + 2) ranks) left)
+    first_single = subst (IsSingleton h roots) (sym first) (All-head (λ (rank : Rank). IsSingleton h roots rank.1) (get_or ranks i (0, 0))
+        (get_or ranks (i + 1) (0, 0) ∷ drop (i + 2) ranks) left)
 
     more : All (λ (rank : Rank). IsSingleton h roots rank.1) (get_or ranks (i + 1) (0, 0) ∷ drop (i + 2) ranks)
     more = All-tail (λ (rank : Rank). IsSingleton h roots rank.1) (get_or ranks i (0, 0)) (get_or ranks (i + 1) (0, 0) ∷ drop (i + 2) ranks) left
 
     pub second_single : IsSingleton h roots v
-    second_single = subst (IsSingleton h roots) (sym second) (All-head (λ (rank : Rank). IsSingleton h roots rank.1) (get_or ranks (i + 1) (0, 0)) (drop (i + 2) ranks) more)
+    second_single = subst (IsSingleton h roots) (sym second) (All-head (λ (rank : Rank). IsSingleton h roots rank.1) (get_or ranks (i + 1) (0, 0))
+        (drop (i + 2) ranks) more)
 
     tested : (b : Bool) → nat_le (weight_of h u + weight_of h v) cap ≡ b
-        → (if b then pair_up h cap 1 no_block (set roots (max u v) (min u v)) (vertices_of (drop (i + 2) ranks)) else roots) ≡ pair_up h cap 1 no_block start (vertices_of ranks)
+        → (if b then pair_up h cap 1 no_block (set roots (max u v) (min u v)) (vertices_of (drop (i + 2) ranks)) else roots) ≡ pair_up h cap 1 no_block
+        start
+        (vertices_of ranks)
     tested b e =
         ap (λ (t : Bool). if t then pair_up h cap 1 no_block (set roots (max u v) (min u v)) (vertices_of (drop (i + 2) ranks)) else roots) (sym e)
         ∙ ap (pair_up h cap 1 no_block roots) (sym both)
@@ -200,7 +214,8 @@ module _ (h : Hyper) (cap : ℕ) (ranks : List Rank) (start : List ℕ) (i : ℕ
       differ e = apart i (i + 1) (0, 0) (omega arith) low (sym first ∙ e ∙ second)
 
       -- the two are joined
-      pub joining_more : weight_of h u + weight_of h v ≤ cap → IsJoining h cap ranks start (i + 2) (set roots (max u v) (min u v)) (set (set single u false) v false)
+      pub joining_more : weight_of h u + weight_of h v ≤ cap → IsJoining h cap ranks start (i + 2) (set roots (max u v) (min u v))
+          (set (set single u false) v false)
       joining_more light = record {
         ready = record {
           within = omega arith;
@@ -217,5 +232,7 @@ module _ (h : Hyper) (cap : ℕ) (ranks : List Rank) (start : List ℕ) (i : ℕ
               let at = get_or-drop (i + 2) ranks k d in
               others_stay h cap roots single j.ready.rooted j.ready.marked u v first_single second_single differ (get_or (drop (i + 2) ranks) k d).1
               (All-tail (λ (rank : Rank). IsSingleton h roots rank.1) (get_or ranks (i + 1) (0, 0)) (drop (i + 2) ranks) more k d l)
-              (λ e. apart i (i + 2 + k) d (omega arith) (omega arith) (ap (λ (rank : Rank). rank.1) (get_or_default ranks i d (0, 0) (omega arith)) ∙ sym first ∙ sym e ∙ ap (λ (rank : Rank). rank.1) at))
-              (λ e. apart (i + 1) (i + 2 + k) d (omega arith) (omega arith) (ap (λ (rank : Rank). rank.1) (get_or_default ranks (i + 1) d (0, 0) low) ∙ sym second ∙ sym e ∙ ap (λ (rank : Rank). rank.1) at))
+              (λ e. apart i (i + 2 + k) d (omega arith) (omega arith) (ap (λ (rank : Rank). rank.1) (get_or_default ranks i d (0, 0) (omega arith)) ∙
+              sym first ∙ sym e ∙ ap (λ (rank : Rank). rank.1) at))
+              (λ e. apart (i + 1) (i + 2 + k) d (omega arith) (omega arith) (ap (λ (rank : Rank). rank.1) (get_or_default ranks (i + 1) d (0, 0) low) ∙
+              sym second ∙ sym e ∙ ap (λ (rank : Rank). rank.1) at))

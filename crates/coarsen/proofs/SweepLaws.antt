@@ -1,5 +1,9 @@
 -- Laws of the pairing sweep, block by block and net by net.
-use Rattle.std.proofs.Common.{◌≡◌, ◌≢◌, ◌⊎◌, inl, inr, ⊎_elim, ℕ, zero, suc, ◌+◌, ◌-◌, ◌<◌, ◌≤◌, Bool, true, false, true≢false, if◌then◌else◌, cond, ◌&&◌, max, min, nat_eq, nat_le, List, [], ◌∷◌, length, map, filter, drop, get_or, set, slice_index, All, AllPairs, IsPermutation, IsSorted, replicate, nat_cmp, is_eq, Ordering, Less, Equal, refl, sym, ap, ap₂, ◌∙◌, subst, arith}
+use Rattle.std.proofs.Common.{◌≡◌, ◌≢◌, ◌⊎◌, inl, inr, ⊎_elim, ℕ, zero, suc, ◌+◌, ◌-◌, ◌<◌, ◌≤◌, Bool, true}
+use Rattle.std.proofs.Common.{false, true≢false, if◌then◌else◌, cond, ◌&&◌, max}
+use Rattle.std.proofs.Common.{min, nat_eq, nat_le, List, [], ◌∷◌, length, map, filter, drop, get_or, set}
+use Rattle.std.proofs.Common.{slice_index, All, AllPairs, IsPermutation, IsSorted}
+use Rattle.std.proofs.Common.{replicate, nat_cmp, is_eq, Ordering, Less, Equal, refl, sym, ap, ap₂, ◌∙◌, subst, arith}
 use Rattle.std.specs.List.{range_with_len}
 use Rattle.std.specs.List.Sorted.{IsStrictlyIncreasing}
 use Rattle.std.proofs.lemmas.Bool.{cases_lt, le-leb, lt-leb, and_parts}
@@ -34,7 +38,8 @@ filter_both_le : (p q : ℕ → Bool) (xs : List ℕ) → length (filter (λ x. 
 filter_both_le p q [] = omega arith
 filter_both_le p q (x ∷ xs) = by (p x) (q x) (filter_both_le p q xs)
   where
-    by : (b c : Bool) → length (filter (λ y. p y && q y) xs) ≤ length (filter p xs) → length (cond (b && c) (x ∷ filter (λ y. p y && q y) xs) (filter (λ y. p y && q y) xs)) ≤ length (cond b (x ∷ filter p xs) (filter p xs))
+    by : (b c : Bool) → length (filter (λ y. p y && q y) xs) ≤ length (filter p xs) →
+        length (cond (b && c) (x ∷ filter (λ y. p y && q y) xs) (filter (λ y. p y && q y) xs)) ≤ length (cond b (x ∷ filter p xs) (filter p xs))
     by true true h = omega arith
     by true false h = omega arith
     by false c h = h
@@ -85,9 +90,11 @@ module _ (h : Hyper) (blocks roots pins : List ℕ) (b : ℕ) where
     pub ranks_apart : IsStrictlyIncreasing pins → AllPairs (λ x y. x.1 ≢ y.1) ranks
     ranks_apart rising =
         let test : ℕ → Bool = λ v. is_single h roots v && nat_eq (block_of blocks v) b in
-        let distinct = by_key-distinct lower_first (weight_of h) singles_of (AllPairs-filter (λ (x y : ℕ). x ≢ y) test pins (increasing_apart pins rising)) in
+        let distinct = by_key-distinct lower_first (weight_of h) singles_of (AllPairs-filter (λ (x y : ℕ). x ≢ y) test pins
+        (increasing_apart pins rising)) in
         let pairs = AllPairs-from_IsDistinct Decides-eqb (vertices_of (sorted lower_first (map (weighed h) singles_of))) distinct in
-        let here : AllPairs (λ x y. x ≢ y) (vertices_of ranks) = subst (λ (rs : List (ℕ × ℕ)). AllPairs (λ x y. x ≢ y) (vertices_of rs)) (sym ranks_are) pairs in
+        let here : AllPairs (λ x y. x ≢ y) (vertices_of ranks) = subst (λ (rs : List (ℕ × ℕ)). AllPairs (λ x y. x ≢ y) (vertices_of rs)) (sym ranks_are)
+        pairs in
         λ i j d l m e.
         let n = length-map ranks (λ (rank : ℕ × ℕ). rank.1) in
         here i j 0 l (omega arith)
@@ -101,7 +108,8 @@ module _ (h : Hyper) (cap k : ℕ) (blocks pins : List ℕ) where
   pair_up_short roots (v ∷ []) s = refl
   pair_up_short roots (u ∷ v ∷ vs) s = absurd (omega arith)
 
-  lightest_short : (roots : List ℕ) (b : ℕ) → length (filter (λ v. is_single h roots v) pins) ≤ 1 → length (lightest_first h cap k (block_of blocks) roots b pins) ≤ 1
+  lightest_short : (roots : List ℕ) (b : ℕ) → length (filter (λ v. is_single h roots v) pins) ≤ 1 →
+      length (lightest_first h cap k (block_of blocks) roots b pins) ≤ 1
   lightest_short roots b few =
       let keys = map (weighed h) (singles_of h blocks roots pins b) in
       let a = length-map (sorted lower_first keys) (λ (rank : ℕ × ℕ). rank.1) in
@@ -111,13 +119,16 @@ module _ (h : Hyper) (cap k : ℕ) (blocks pins : List ℕ) where
       omega arith
 
   -- a net with fewer than two single vertices stays as it is
-  pub pair_blocks_few : (roots bs : List ℕ) → length (filter (λ v. is_single h roots v) pins) ≤ 1 → pair_blocks h cap k (block_of blocks) roots pins bs ≡ roots
+  pub pair_blocks_few : (roots bs : List ℕ) → length (filter (λ v. is_single h roots v) pins) ≤ 1 → pair_blocks h cap k (block_of blocks) roots pins bs ≡
+      roots
   pair_blocks_few roots [] few = refl
   pair_blocks_few roots (b ∷ bs) few =
-      ap (λ (rs : List ℕ). pair_blocks h cap k (block_of blocks) rs pins bs) (pair_up_short roots (lightest_first h cap k (block_of blocks) roots b pins) (lightest_short roots b few))
+      ap (λ (rs : List ℕ). pair_blocks h cap k (block_of blocks) rs pins bs) (pair_up_short roots (lightest_first h cap k (block_of blocks) roots b pins)
+      (lightest_short roots b few))
       ∙ pair_blocks_few roots bs few
 
-  pub few_marked : (roots : List ℕ) (single : List Bool) → AreMarked h roots single → All (λ v. v < vertex_count h) pins → length (filter (λ v. get_or single v false) pins) < 2 → length (filter (λ v. is_single h roots v) pins) ≤ 1
+  pub few_marked : (roots : List ℕ) (single : List Bool) → AreMarked h roots single → All (λ v. v < vertex_count h) pins →
+      length (filter (λ v. get_or single v false) pins) < 2 → length (filter (λ v. is_single h roots v) pins) ≤ 1
   few_marked roots single m below few =
       let e = ap length (filter_same (λ v. get_or single v false) (λ v. is_single h roots v) pins (λ i d l. m.each (get_or pins i d) (below i d l))) in
       omega arith
@@ -126,22 +137,26 @@ module _ (h : Hyper) (cap k : ℕ) (blocks pins : List ℕ) where
   pub record IsPairing (start : List ℕ) (b : ℕ) (roots : List ℕ) (single : List Bool) : Type 0 where
     pub rooted : IsRooted h cap roots
     pub marked : AreMarked h roots single
-    pub rest : pair_blocks h cap k (block_of blocks) roots pins (range_with_len b (k - b)) ≡ pair_blocks h cap k (block_of blocks) start pins (range_with_len 0 k)
+    pub rest : pair_blocks h cap k (block_of blocks) roots pins (range_with_len b (k - b)) ≡ pair_blocks h cap k (block_of blocks) start pins
+        (range_with_len 0 k)
 
   range_next : (b : ℕ) → b < k → range_with_len b (k - b) ≡ b ∷ range_with_len (b + 1) (k - (b + 1))
   range_next b l = ap (range_with_len b) (let e : k - b ≡ suc (k - (b + 1)) = omega arith in e)
 
   pub pairing_more : (start roots next : List ℕ) (single marks : List Bool) (b : ℕ) → IsPairing start b roots single → b < k
-      → next ≡ pair_up h cap 1 no_block roots (lightest_first h cap 1 (block_of blocks) roots b pins) → IsRooted h cap next → AreMarked h next marks → IsPairing start (b + 1) next marks
+      → next ≡ pair_up h cap 1 no_block roots (lightest_first h cap 1 (block_of blocks) roots b pins) → IsRooted h cap next → AreMarked h next marks →
+      IsPairing start (b + 1) next marks
   pairing_more start roots next single marks b p l made r m = record {
     rooted = r;
     marked = m;
-    rest = ap (λ (rs : List ℕ). pair_blocks h cap k (block_of blocks) rs pins (range_with_len (b + 1) (k - (b + 1)))) (made ∙ pair_up_any h cap k (block_of blocks) (lightest_first h cap 1 (block_of blocks) roots b pins) roots)
+    rest = ap (λ (rs : List ℕ). pair_blocks h cap k (block_of blocks) rs pins (range_with_len (b + 1) (k - (b + 1))))
+        (made ∙ pair_up_any h cap k (block_of blocks) (lightest_first h cap 1 (block_of blocks) roots b pins) roots)
         ∙ ap (pair_blocks h cap k (block_of blocks) roots pins) (sym (range_next b l))
         ∙ p.rest;
   }
 
-  pub pairing_end : (start roots : List ℕ) (single : List Bool) (b : ℕ) → IsPairing start b roots single → k ≤ b → roots ≡ pair_blocks h cap k (block_of blocks) start pins (range_with_len 0 k)
+  pub pairing_end : (start roots : List ℕ) (single : List Bool) (b : ℕ) → IsPairing start b roots single → k ≤ b → roots ≡ pair_blocks h cap k
+      (block_of blocks) start pins (range_with_len 0 k)
   pairing_end start roots single b p l =
       ap (λ (n : ℕ). pair_blocks h cap k (block_of blocks) roots pins (range_with_len b n)) (let e : 0 ≡ k - b = omega arith in e) ∙ p.rest
 
@@ -149,13 +164,16 @@ module _ (h : Hyper) (cap k : ℕ) (blocks pins : List ℕ) where
 
 module _ (h : Hyper) (cap k : ℕ) (blocks : List ℕ) where
   -- what one net becomes
-  pub small_net : (roots : List ℕ) (e : Net) (out : List ℕ) → length e.pins ≤ 1000 → out ≡ pair_blocks h cap k (block_of blocks) roots e.pins (range_with_len 0 k)
+  pub small_net : (roots : List ℕ) (e : Net) (out : List ℕ) → length e.pins ≤ 1000 → out ≡ pair_blocks h cap k (block_of blocks) roots e.pins
+      (range_with_len 0 k)
       → out ≡ pair_nets h cap k (block_of blocks) roots (e ∷ [])
   small_net roots e out small made =
-      made ∙ ap (λ (b : Bool). if b then pair_blocks h cap k (block_of blocks) roots e.pins (range_with_len 0 k) else roots) (sym (le-leb (length e.pins) 1000 small))
+      made ∙ ap (λ (b : Bool). if b then pair_blocks h cap k (block_of blocks) roots e.pins (range_with_len 0 k) else roots)
+      (sym (le-leb (length e.pins) 1000 small))
 
   pub large_net : (roots : List ℕ) (e : Net) → 1000 < length e.pins → roots ≡ pair_nets h cap k (block_of blocks) roots (e ∷ [])
-  large_net roots e large = ap (λ (b : Bool). if b then pair_blocks h cap k (block_of blocks) roots e.pins (range_with_len 0 k) else roots) (sym (lt-leb (length e.pins) 1000 large))
+  large_net roots e large = ap (λ (b : Bool). if b then pair_blocks h cap k (block_of blocks) roots e.pins (range_with_len 0 k) else roots)
+      (sym (lt-leb (length e.pins) 1000 large))
 
   -- the nets before e were visited
   pub record IsSweeping (start : List ℕ) (e : ℕ) (roots : List ℕ) (single : List Bool) : Type 0 where
@@ -164,7 +182,8 @@ module _ (h : Hyper) (cap k : ℕ) (blocks : List ℕ) where
     pub rest : pair_nets h cap k (block_of blocks) roots (drop e h.nets) ≡ pair_nets h cap k (block_of blocks) start h.nets
 
   pub sweeping_more : (start roots next : List ℕ) (single marks : List Bool) (e : ℕ) → IsSweeping start e roots single → e < net_count h
-      → next ≡ pair_nets h cap k (block_of blocks) roots (net_of h e ∷ []) → IsRooted h cap next → AreMarked h next marks → IsSweeping start (e + 1) next marks
+      → next ≡ pair_nets h cap k (block_of blocks) roots (net_of h e ∷ []) → IsRooted h cap next → AreMarked h next marks → IsSweeping start (e + 1) next
+      marks
   sweeping_more start roots next single marks e s l made r m = record {
     rooted = r;
     marked = m;
@@ -173,7 +192,8 @@ module _ (h : Hyper) (cap k : ℕ) (blocks : List ℕ) where
         ∙ s.rest;
   }
 
-  pub sweeping_end : (start roots : List ℕ) (single : List Bool) (e : ℕ) → IsSweeping start e roots single → net_count h ≤ e → roots ≡ pair_nets h cap k (block_of blocks) start h.nets
+  pub sweeping_end : (start roots : List ℕ) (single : List Bool) (e : ℕ) → IsSweeping start e roots single → net_count h ≤ e → roots ≡ pair_nets h cap k
+      (block_of blocks) start h.nets
   sweeping_end start roots single e s l = ap (pair_nets h cap k (block_of blocks) roots) (sym (drop_all e h.nets l)) ∙ s.rest
 
 -- ---- one block for all

@@ -35,7 +35,8 @@ pub fn coarsen<R: Threads + Sync, G: Gate>(
     requires few { workers ≤ 64 }
     ensures base { IfOk result (λ pair. pair.0.base ≡ h) }
     ensures levels { IfOk result (λ pair. AreContracted (IsGoodClustering k) 0 h k pair.0.maps) }
-    ensures stop { IfOk result (λ pair. IsStop (IsGoodClustering k) (length pair.0.maps) (coarsest h pair.0.maps) k pair.1) }
+    ensures stop { IfOk result (λ pair. IsStop (IsGoodClustering k) (length pair.0.maps) (coarsest h pair.0.maps) k
+        pair.1) }
 {
     let mut stack = LevelStack::start(alloc, h)?;
     'levels: while u64::from(stack.top().vertices()) > 32 * u64::from(k) {
@@ -68,7 +69,8 @@ pub fn coarsen_inside<R: Threads + Sync, G: Gate>(
     requires few { workers ≤ 64 }
     ensures base { IfOk result (λ all. all.0.base ≡ h) }
     ensures levels { IfOk result (λ all. AreContracted (IsInsideAt k all.0.maps blocks.now) 0 h k all.0.maps) }
-    ensures stop { IfOk result (λ all. IsStop (IsInsideAt k all.0.maps blocks.now) (length all.0.maps) (coarsest h all.0.maps) k all.1) }
+    ensures stop { IfOk result (λ all. IsStop (IsInsideAt k all.0.maps blocks.now) (length all.0.maps)
+        (coarsest h all.0.maps) k all.1) }
     ensures top { IfOk result (λ all. all.2 ≡ lifted_to blocks.now all.0.maps (length all.0.maps)) }
 {
     let mut stack = LevelStack::start(alloc, h)?;

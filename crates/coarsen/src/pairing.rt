@@ -1,6 +1,7 @@
 //! The pairing sweep: single vertices of a net are joined two by two.
 
-ghost use Rattle.std.specs.Prelude.{◌≡◌, ◌≢◌, ◌+◌, ◌-◌, ◌<◌, ◌≤◌, ◌^◌, ℕ, [], ◌∷◌, length, map, filter, All, AllPairs, IfOk, OnOk, nat_eq, false, slice_index_or, ◌&&◌};
+ghost use Rattle.std.specs.Prelude.{◌≡◌, ◌≢◌, ◌+◌, ◌-◌, ◌<◌, ◌≤◌, ◌^◌, ℕ, [], ◌∷◌, length, map, filter, All};
+ghost use Rattle.std.specs.Prelude.{AllPairs, IfOk, OnOk, nat_eq, false, slice_index_or, ◌&&◌};
 ghost use Rattle.std.specs.List.{range_with_len};
 ghost use Rattle.std.specs.List.Sorted.{IsStrictlyIncreasing};
 ghost use Rattle.hg_defs.specs.Hypergraph.{vertex_count, net_count, net_of, vertices};
@@ -130,7 +131,8 @@ fn pair_net(
     requires rooted { IsRooted h.now cap roots.old }
     requires marked { AreMarked h.now roots.old single.old }
     requires blocks { length blocks.now ≡ vertex_count h.now }
-    ensures paired { OnOk result (roots.new ≡ pairing.pair_nets h.now cap k (block_of blocks.now) roots.old (net_of h.now e ∷ [])) }
+    ensures paired { OnOk result (roots.new ≡ pairing.pair_nets h.now cap k (block_of blocks.now) roots.old
+        (net_of h.now e ∷ [])) }
     ensures rooted { OnOk result (IsRooted h.now cap roots.new) }
     ensures marked { OnOk result (AreMarked h.now roots.new single.new) }
 {
@@ -160,7 +162,8 @@ fn pair_block(
     requires rooted { IsRooted h.now cap roots.old }
     requires marked { AreMarked h.now roots.old single.old }
     requires blocks { length blocks.now ≡ vertex_count h.now }
-    ensures paired { OnOk result (roots.new ≡ pair_up h.now cap 1 (λ v. 0) roots.old (lightest_first h.now cap 1 (block_of blocks.now) roots.old b pins.now)) }
+    ensures paired { OnOk result (roots.new ≡ pair_up h.now cap 1 (λ v. 0) roots.old
+        (lightest_first h.now cap 1 (block_of blocks.now) roots.old b pins.now)) }
     ensures rooted { OnOk result (IsRooted h.now cap roots.new) }
     ensures marked { OnOk result (AreMarked h.now roots.new single.new) }
 {
@@ -182,7 +185,8 @@ fn rank_singles(
     requires pins { All (λ v. v < vertex_count h.now) pins.now }
     requires single { length single.now ≡ vertex_count h.now }
     requires blocks { length blocks.now ≡ vertex_count h.now }
-    ensures { OnOk result (ranks.new.items ≡ map (weighed h.now) (filter (λ v. slice_index_or single.now v false && nat_eq (block_of blocks.now v) b) pins.now)) }
+    ensures { OnOk result (ranks.new.items ≡ map (weighed h.now)
+        (filter (λ v. slice_index_or single.now v false && nat_eq (block_of blocks.now v) b) pins.now)) }
 {
     ranks.clear();
     for v in pins {

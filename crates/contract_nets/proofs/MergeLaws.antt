@@ -1,8 +1,10 @@
 -- Laws of merging equal neighbours.
-use Rattle.std.proofs.Common.{◌≡◌, ◌≢◌, ℕ, ◌+◌, ◌<◌, ◌≤◌, ◌^◌, ◌⊎◌, ⊎_elim, Bool, true, false, if◌then◌else◌, List, [], ◌∷◌, ◌++◌, length, map, take, drop, get_or, slice_index, slice_set, All, nat_cmp, is_eq, refl, sym, ap, ap₂, ◌∙◌, subst, arith, Ordering}
+use Rattle.std.proofs.Common.{◌≡◌, ◌≢◌, ℕ, ◌+◌, ◌<◌, ◌≤◌, ◌^◌, ◌⊎◌, ⊎_elim, Bool, true, false, if◌then◌else◌, List, [], ◌∷◌, ◌++◌, length, map, take, drop}
+use Rattle.std.proofs.Common.{get_or, slice_index, slice_set, All, nat_cmp, is_eq, refl, sym, ap, ap₂, ◌∙◌, subst, arith, Ordering}
 use Rattle.std.proofs.lemmas.Bool.{cases_eq}
 use Rattle.std.proofs.lemmas.Cmp.{tied_itself}
-use Rattle.std.proofs.lemmas.List.{append_assoc, length-map, map_push, length_push, get_or_push, get_or_append_left, get_or-set_same, get_or-set_other, drop_all, drop_more}
+use Rattle.std.proofs.lemmas.List.{append_assoc, length-map, map_push, length_push, get_or_push, get_or_append_left}
+use Rattle.std.proofs.lemmas.List.{get_or-set_same, get_or-set_other, drop_all, drop_more}
 use Rattle.std.proofs.lemmas.List.Elements.{All-more, All-weaker}
 use Rattle.std.specs.Cmp.{Equal-is}
 use Rattle.std.specs.List.Sorted.{IsStrictlyIncreasing}
@@ -44,11 +46,15 @@ added_same w v ps (e ∷ nets) = by (is_eq (slice_cmp nat_cmp ps e.pins)) refl
         ∙ sym (added_test (w + v) ps e nets false h)
 
 -- a net with other pins than the next one
-pub added_other : (w v : ℕ) (ps qs : List ℕ) (nets : List Net) → is_eq (slice_cmp nat_cmp ps qs) ≡ false → added w ps (added v qs nets) ≡ record { weight = w; pins = ps } ∷ added v qs nets
+pub added_other : (w v : ℕ) (ps qs : List ℕ) (nets : List Net) → is_eq (slice_cmp nat_cmp ps qs) ≡ false → added w ps (added v qs nets) ≡ record {
+  weight = w;
+  pins = ps;
+} ∷ added v qs nets
 added_other w v ps qs [] h = added_test w ps (record { weight = v; pins = qs }) [] false h
 added_other w v ps qs (e ∷ nets) h = by (is_eq (slice_cmp nat_cmp qs e.pins)) refl
   where
-    by : (b : Bool) → is_eq (slice_cmp nat_cmp qs e.pins) ≡ b → added w ps (added v qs (e ∷ nets)) ≡ record { weight = w; pins = ps } ∷ added v qs (e ∷ nets)
+    by : (b : Bool) → is_eq (slice_cmp nat_cmp qs e.pins) ≡ b → added w ps (added v qs (e ∷ nets)) ≡ record { weight = w; pins = ps } ∷
+        added v qs (e ∷ nets)
     by true k =
         ap (added w ps) (added_test v qs e nets true k)
         ∙ added_test w ps (record { weight = v + e.weight; pins = qs }) nets false h
@@ -59,15 +65,18 @@ added_other w v ps qs (e ∷ nets) h = by (is_eq (slice_cmp nat_cmp qs e.pins)) 
         ∙ ap (before w ps) (sym (added_test v qs e nets false k))
 
 -- the weights of the first nets and of the next one are among all
-pub weight_of_next : (w v : ℕ) (ps qs : List ℕ) (nets : List Net) → total (λ (e : Net). e.weight) (added w ps (added v qs nets)) ≡ w + v + total (λ (e : Net). e.weight) nets
+pub weight_of_next : (w v : ℕ) (ps qs : List ℕ) (nets : List Net) → total (λ (e : Net). e.weight) (added w ps (added v qs nets)) ≡ w + v + total
+    (λ (e : Net). e.weight) nets
 weight_of_next w v ps qs nets = let a = weight_added w ps (added v qs nets) in let b = weight_added v qs nets in omega arith
   where
     weight_added : (x : ℕ) (rs : List ℕ) (es : List Net) → total (λ (e : Net). e.weight) (added x rs es) ≡ x + total (λ (e : Net). e.weight) es
     weight_added x rs [] = refl
     weight_added x rs (e ∷ es) = by (is_eq (slice_cmp nat_cmp rs e.pins)) refl
       where
-        by : (b : Bool) → is_eq (slice_cmp nat_cmp rs e.pins) ≡ b → total (λ (e : Net). e.weight) (added x rs (e ∷ es)) ≡ x + total (λ (e : Net). e.weight) (e ∷ es)
-        by true h = ap (total (λ (e : Net). e.weight)) (added_test x rs e es true h) ∙ (let t = total (λ (e : Net). e.weight) es in let f = e.weight in let q : x + f + t ≡ x + (f + t) = omega arith in q)
+        by : (b : Bool) → is_eq (slice_cmp nat_cmp rs e.pins) ≡ b → total (λ (e : Net). e.weight) (added x rs (e ∷ es)) ≡ x + total (λ (e : Net). e.weight)
+            (e ∷ es)
+        by true h = ap (total (λ (e : Net). e.weight)) (added_test x rs e es true h) ∙ (let t = total (λ (e : Net). e.weight) es in let f = e.weight in
+            let q : x + f + t ≡ x + (f + t) = omega arith in q)
         by false h = ap (total (λ (e : Net). e.weight)) (added_test x rs e es false h)
 
 tied_from_different : (ps qs : List ℕ) → (ps ≡ qs → ⊥) → is_eq (slice_cmp nat_cmp ps qs) ≡ false
@@ -98,7 +107,8 @@ pub IsMerging-start : (nets start : Hyper) (keys rest : List Key) (places : List
 IsMerging-start nets start keys rest places first same is none dropped =
     let f = net_of_key nets in
     let n = net_of nets first.2 in
-    let two : added 0 n.pins (merged (map f (first ∷ rest))) ≡ merged (map f (first ∷ rest)) = added_same 0 n.weight n.pins (merged (map f rest)) ∙ ap (λ (w : ℕ). added w n.pins (merged (map f rest))) (let w = n.weight in let z : 0 + w ≡ w = omega arith in z) in
+    let two : added 0 n.pins (merged (map f (first ∷ rest))) ≡ merged (map f (first ∷ rest)) = added_same 0 n.weight n.pins (merged (map f rest)) ∙
+    ap (λ (w : ℕ). added w n.pins (merged (map f rest))) (let w = n.weight in let z : 0 + w ≡ w = omega arith in z) in
     record {
       unfinished = is;
       rest = refl;
@@ -108,7 +118,8 @@ IsMerging-start nets start keys rest places first same is none dropped =
       all = λ k d l. absurd (omega arith);
     }
 
-module _ (nets start : Hyper) (keys : List Key) (i : ℕ) (places : List ℕ) (coarse : Hyper) (last : Key) (weight : ℕ) (m : IsMerging nets start keys i places coarse last weight)
+module _ (nets start : Hyper) (keys : List Key) (i : ℕ) (places : List ℕ) (coarse : Hyper) (last : Key) (weight : ℕ)
+    (m : IsMerging nets start keys i places coarse last weight)
     (limits : IsWithinLimits (record start { nets = merged (map (net_of_key nets) keys) })) where
   -- at the end
   pub whole_at_end : length keys ≤ i → coarse.nets ++ record { weight = weight; pins = pins nets last } ∷ [] ≡ merged (map (net_of_key nets) keys)
@@ -116,17 +127,22 @@ module _ (nets start : Hyper) (keys : List Key) (i : ℕ) (places : List ℕ) (c
       ap (λ (ks : List Key). coarse.nets ++ added weight (pins nets last) (merged (map (net_of_key nets) ks))) (sym (drop_all i keys h)) ∙ m.whole
 
   pub room_at_end : length keys ≤ i → HasRoom coarse.nets weight (length (pins nets last))
-  room_at_end h = room_before (record start { nets = merged (map (net_of_key nets) keys) }) coarse.nets [] (record { weight = weight; pins = pins nets last }) limits (sym (whole_at_end h))
+  room_at_end h = room_before (record start { nets = merged (map (net_of_key nets) keys) }) coarse.nets []
+      (record { weight = weight; pins = pins nets last })
+      limits (sym (whole_at_end h))
 
-  pub pushed_nets : (pushed : Hyper) (ps : List ℕ) → ps ≡ pins nets last → IsStrictlyIncreasing ps → pushed ≡ record coarse { nets = coarse.nets ++ record { weight = weight; pins = set_of nat_cmp ps } ∷ [] }
+  pub pushed_nets : (pushed : Hyper) (ps : List ℕ) → ps ≡ pins nets last → IsStrictlyIncreasing ps →
+      pushed ≡ record coarse { nets = coarse.nets ++ record { weight = weight; pins = set_of nat_cmp ps } ∷ [] }
       → pushed ≡ record start { nets = coarse.nets ++ record { weight = weight; pins = pins nets last } ∷ [] }
   pushed_nets pushed ps same rising e =
       e
-      ∙ ap (λ (qs : List ℕ). let h : Hyper = record coarse { nets = coarse.nets ++ record { weight = weight; pins = qs } ∷ [] } in h) (set_of-increasing ps rising ∙ same)
+      ∙ ap (λ (qs : List ℕ). let h : Hyper = record coarse { nets = coarse.nets ++ record { weight = weight; pins = qs } ∷ [] } in h)
+      (set_of-increasing ps rising ∙ same)
       ∙ ap (λ (h : Hyper). record h { nets = coarse.nets ++ record { weight = weight; pins = pins nets last } ∷ [] }) m.rest
 
   module _ (key : Key) (next : drop i keys ≡ key ∷ drop (i + 1) keys) (is : IsKey nets key) where
-    whole_at_next : coarse.nets ++ added weight (pins nets last) (added (net_of nets key.2).weight (pins nets key) (merged (map (net_of_key nets) (drop (i + 1) keys)))) ≡ merged (map (net_of_key nets) keys)
+    whole_at_next : coarse.nets ++ added weight (pins nets last) (added (net_of nets key.2).weight (pins nets key)
+        (merged (map (net_of_key nets) (drop (i + 1) keys)))) ≡ merged (map (net_of_key nets) keys)
     whole_at_next = ap (λ (ks : List Key). coarse.nets ++ added weight (pins nets last) (merged (map (net_of_key nets) ks))) (sym next) ∙ m.whole
 
     pub weight_fits : weight + (net_of nets key.2).weight < 2 ^ 54
@@ -139,24 +155,31 @@ module _ (nets start : Hyper) (keys : List Key) (i : ℕ) (places : List ℕ) (c
         omega arith
 
     module _ (other : pins nets last ≡ pins nets key → ⊥) where
-      whole_at_other : coarse.nets ++ record { weight = weight; pins = pins nets last } ∷ added (net_of nets key.2).weight (pins nets key) (merged (map (net_of_key nets) (drop (i + 1) keys))) ≡ merged (map (net_of_key nets) keys)
+      whole_at_other : coarse.nets ++ record { weight = weight; pins = pins nets last } ∷ added (net_of nets key.2).weight (pins nets key)
+          (merged (map (net_of_key nets) (drop (i + 1) keys))) ≡ merged (map (net_of_key nets) keys)
       whole_at_other =
-          ap (λ (es : List Net). coarse.nets ++ es) (sym (added_other weight (net_of nets key.2).weight (pins nets last) (pins nets key) (merged (map (net_of_key nets) (drop (i + 1) keys))) (tied_from_different _ _ other)))
+          ap (λ (es : List Net). coarse.nets ++ es) (sym (added_other weight (net_of nets key.2).weight (pins nets last) (pins nets key)
+          (merged (map (net_of_key nets) (drop (i + 1) keys))) (tied_from_different _ _ other)))
           ∙ whole_at_next
 
       pub room_at_other : HasRoom coarse.nets weight (length (pins nets last))
       room_at_other =
-          room_before (record start { nets = merged (map (net_of_key nets) keys) }) coarse.nets (added (net_of nets key.2).weight (pins nets key) (merged (map (net_of_key nets) (drop (i + 1) keys))))
+          room_before (record start { nets = merged (map (net_of_key nets) keys) }) coarse.nets (added (net_of nets key.2).weight (pins nets key)
+          (merged (map (net_of_key nets) (drop (i + 1) keys))))
           (record { weight = weight; pins = pins nets last }) limits (sym whole_at_other)
 
       -- the net is finished, and the next one begins
-      pub IsMerging-other : (pushed : Hyper) → pushed ≡ record start { nets = coarse.nets ++ record { weight = weight; pins = pins nets last } ∷ [] } → IsMerging nets start keys i places pushed key 0
+      pub IsMerging-other : (pushed : Hyper) → pushed ≡ record start { nets = coarse.nets ++ record { weight = weight; pins = pins nets last } ∷ [] } →
+          IsMerging nets start keys i places pushed key 0
       IsMerging-other pushed e =
           let n = net_of nets key.2 in
           let rest = merged (map (net_of_key nets) (drop (i + 1) keys)) in
           let es : pushed.nets ≡ coarse.nets ++ record { weight = weight; pins = pins nets last } ∷ [] = ap (λ (h : Hyper). h.nets) e in
-          let none : added 0 n.pins (added n.weight n.pins rest) ≡ added n.weight n.pins rest = added_same 0 n.weight n.pins rest ∙ ap (λ (w : ℕ). added w n.pins rest) (let w = n.weight in let z : 0 + w ≡ w = omega arith in z) in
-          let more : lists nets pushed key ≡ lists nets coarse last ++ pins nets key ∷ [] = ap (λ (xs : List Net). map (λ (x : Net). x.pins) xs ++ pins nets key ∷ []) es ∙ ap (λ (ls : List (List ℕ)). ls ++ pins nets key ∷ []) (map_push (λ (x : Net). x.pins) coarse.nets (record { weight = weight; pins = pins nets last })) in
+          let none : added 0 n.pins (added n.weight n.pins rest) ≡ added n.weight n.pins rest = added_same 0 n.weight n.pins rest ∙
+          ap (λ (w : ℕ). added w n.pins rest) (let w = n.weight in let z : 0 + w ≡ w = omega arith in z) in
+          let more : lists nets pushed key ≡ lists nets coarse last ++ pins nets key ∷
+          [] = ap (λ (xs : List Net). map (λ (x : Net). x.pins) xs ++ pins nets key ∷ []) es ∙ ap (λ (ls : List (List ℕ)). ls ++ pins nets key ∷ [])
+          (map_push (λ (x : Net). x.pins) coarse.nets (record { weight = weight; pins = pins nets last })) in
           record {
             unfinished = is;
             rest = e ∙ ap (λ (xs : List Net). let h : Hyper = record start { nets = xs } in h) (sym es);
@@ -177,7 +200,9 @@ module _ (nets start : Hyper) (keys : List Key) (i : ℕ) (places : List ℕ) (c
           }
 
     -- the next net is added to the one that isn't finished
-    module _ (same : pins nets last ≡ pins nets key) (number : ℕ) (counts : number ≡ net_count coarse) (few : net_count coarse ≤ 2 ^ 22) (h : i < length keys) (long : length places ≡ length nets.nets) where
+    module _ (same : pins nets last ≡ pins nets key) (number : ℕ) (counts : number ≡ net_count coarse) (few : net_count coarse ≤ 2 ^ 22)
+        (h : i < length keys)
+        (long : length places ≡ length nets.nets) where
       place_is : HasPinsAt (lists nets coarse last) number (pins nets key)
       place_is =
           let a = length-map coarse.nets (λ (e : Net). e.pins) in
@@ -188,7 +213,8 @@ module _ (nets start : Hyper) (keys : List Key) (i : ℕ) (places : List ℕ) (c
           }
 
       written : (u : ℕ) → u ≡ key.2 → slice_index (slice_set places key.2 number) u ≡ number
-      written u e = let k = is.net in let b : key.2 < length places = omega arith in ap (slice_index (slice_set places key.2 number)) e ∙ get_or-set_same places key.2 number 0 b
+      written u e = let k = is.net in let b : key.2 < length places = omega arith in ap (slice_index (slice_set places key.2 number)) e ∙
+          get_or-set_same places key.2 number 0 b
 
       kept : (u : ℕ) → u ≢ key.2 → slice_index (slice_set places key.2 number) u ≡ slice_index places u
       kept u o = get_or-set_other places key.2 u number 0 o
@@ -200,7 +226,8 @@ module _ (nets start : Hyper) (keys : List Key) (i : ℕ) (places : List ℕ) (c
           (λ (o : u ≢ key.2). there (sym (kept u o) ∙ gone))
           (cases_eq u key.2)
 
-      pub IsMerging-same : (d : Key) → key ≡ get_or keys i d → IsMerging nets start keys (i + 1) (slice_set places key.2 number) coarse last (weight + (net_of nets key.2).weight)
+      pub IsMerging-same : (d : Key) → key ≡ get_or keys i d → IsMerging nets start keys (i + 1) (slice_set places key.2 number) coarse last
+          (weight + (net_of nets key.2).weight)
       IsMerging-same d read =
           let n = net_of nets key.2 in
           let rest = merged (map (net_of_key nets) (drop (i + 1) keys)) in
@@ -209,7 +236,8 @@ module _ (nets start : Hyper) (keys : List Key) (i : ℕ) (places : List ℕ) (c
             rest = m.rest;
             whole =
                 ap (λ (es : List Net). coarse.nets ++ es)
-                (sym (ap (λ (qs : List ℕ). added weight (pins nets last) (added n.weight qs rest)) (sym same) ∙ added_same weight n.weight (pins nets last) rest))
+                (sym (ap (λ (qs : List ℕ). added weight (pins nets last) (added n.weight qs rest)) (sym same) ∙ added_same weight n.weight (pins nets last)
+                rest))
                 ∙ whole_at_next;
             placed = λ u l there.
                 ⊎_elim
@@ -222,6 +250,7 @@ module _ (nets start : Hyper) (keys : List Key) (i : ℕ) (places : List ℕ) (c
                 (cases_eq u key.2);
             all =
                 All-more (λ (k : Key). slice_index (slice_set places key.2 number) k.2 ≢ DROPPED) keys i d h
-                (All-weaker (λ (k : Key). slice_index places k.2 ≢ DROPPED) (λ (k : Key). slice_index (slice_set places key.2 number) k.2 ≢ DROPPED) (λ k. known k.2) (take i keys) m.all)
+                (All-weaker (λ (k : Key). slice_index places k.2 ≢ DROPPED) (λ (k : Key). slice_index (slice_set places key.2 number) k.2 ≢ DROPPED)
+                (λ k. known k.2) (take i keys) m.all)
                 (λ gone. let w = written (get_or keys i d).2 (ap (λ (k : Key). k.2) (sym read)) in absurd (omega arith));
           }

@@ -1,5 +1,6 @@
 -- What must be left to add a net to others.
-use Rattle.std.proofs.Common.{◌≡◌, ℕ, ◌+◌, ◌*◌, ◌^◌, ◌<◌, ◌≤◌, List, [], ◌∷◌, ◌++◌, length, map, take, drop, get_or, slice_index, nat_cmp, All, refl, sym, ap, ◌∙◌, subst, arith}
+use Rattle.std.proofs.Common.{◌≡◌, ℕ, ◌+◌, ◌*◌, ◌^◌, ◌<◌, ◌≤◌, List, [], ◌∷◌, ◌++◌, length, map, take, drop, get_or}
+use Rattle.std.proofs.Common.{slice_index, nat_cmp, All, refl, sym, ap, ◌∙◌, subst, arith}
 use Rattle.std.proofs.lemmas.List.{length-append, length-map, length_push, take-append-drop, drop_more, get_or_default}
 use Rattle.std.proofs.Math.Nat.{mul-le-mul_left}
 use Rattle.hg_defs.specs.Sums.{total}
@@ -17,7 +18,8 @@ pub record HasRoom (nets : List Net) (weight pins : ℕ) : Type 0 where
   pub pin_weight : total (λ e. e.weight * length e.pins) nets + weight * pins < 2 ^ 57
 
 -- so it is among the nets of a hypergraph within its limits
-pub room_before : (h : Hyper) (before after : List Net) (e : Net) → IsWithinLimits h → h.nets ≡ before ++ e ∷ after → HasRoom before e.weight (length e.pins)
+pub room_before : (h : Hyper) (before after : List Net) (e : Net) → IsWithinLimits h → h.nets ≡ before ++ e ∷ after →
+    HasRoom before e.weight (length e.pins)
 room_before h before after e limits same =
     let whole = before ++ e ∷ after in
     let a = length-append before (e ∷ after) in

@@ -40,4 +40,5 @@ pub record HasPinsAt (lists : List (List ℕ)) (i : ℕ) (pins : List ℕ) : Typ
 -- each place that isn't DROPPED is that of the net's pins
 abbrev pub ArePlaces : List Net → List (List ℕ) → List ℕ → Type 0
 ArePlaces nets lists places =
-    (e : ℕ) → e < length nets → slice_index places e ≢ DROPPED → HasPinsAt lists (slice_index places e) (slice_index_or nets e (record { weight = 0; pins = [] })).pins
+    (e : ℕ) → e < length nets → slice_index places e ≢ DROPPED → HasPinsAt lists (slice_index places e)
+    (slice_index_or nets e (record { weight = 0; pins = [] })).pins

@@ -56,8 +56,10 @@ fn merge(
     requires full { IsFull h.now map.now (cluster_count map.now) }
     requires places { places.old ≡ replicate (net_count h.now) DROPPED }
     ensures coarse { IfOk result (λ coarse. coarse ≡ contraction.contract h.now map.now (cluster_count map.now)) }
-    ensures placed { IfOk result (λ coarse. ArePlaces (images.map (mapped_net map.now) h.now.nets) (images.map (λ e. e.pins) coarse.nets) places.new) }
-    ensures all { OnOk result ((e : ℕ) → e < net_count h.now → 2 ≤ length (image map.now (net_of h.now e)) → slice_index places.new e ≢ DROPPED) }
+    ensures placed { IfOk result (λ coarse. ArePlaces (images.map (mapped_net map.now) h.now.nets)
+        (images.map (λ e. e.pins) coarse.nets) places.new) }
+    ensures all { OnOk result ((e : ℕ) → e < net_count h.now → 2 ≤ length (image map.now (net_of h.now e)) →
+        slice_index places.new e ≢ DROPPED) }
 {
     let _vertices = h.vertices();
     let count = count_of(map);

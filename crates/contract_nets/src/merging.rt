@@ -22,7 +22,9 @@ pub(crate) fn merge_nets(
     requires none { coarse.old.nets ≡ [] }
     requires limits { IsWithinLimits (record coarse.old { nets = merged (map (net_of_key nets.now) keys.now) }) }
     requires places { places.old ≡ replicate (net_count nets.now) DROPPED }
-    ensures merged { OnOk result (coarse.new ≡ record coarse.old { nets = merged (map (net_of_key nets.now) keys.now) }) }
+    ensures merged { OnOk result (coarse.new ≡ record coarse.old {
+      nets = merged (map (net_of_key nets.now) keys.now);
+    }) }
     ensures placed { OnOk result (ArePlaces nets.now.nets (map (λ e. e.pins) coarse.new.nets) places.new) }
     ensures all { OnOk result (All (λ key. slice_index places.new key.2 ≢ DROPPED) keys.now) }
 {

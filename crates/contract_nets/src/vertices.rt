@@ -50,7 +50,10 @@ fn add_weights(h: &Hypergraph, clusters: &[u32], coarse: &mut FlatHyper)
     requires vertices { length clusters.now ≡ vertex_count h.now }
     requires below { All (λ i. i < vertex_count coarse.old) clusters.now }
     requires zero { coarse.old.weights ≡ replicate (vertex_count coarse.old) 0 }
-    ensures { coarse.new ≡ record coarse.old { weights = map (weight_in h.now.weights clusters.now) (range_with_len 0 (vertex_count coarse.old)) } }
+    ensures { coarse.new ≡ record coarse.old {
+      weights = map (weight_in h.now.weights clusters.now)
+          (range_with_len 0 (vertex_count coarse.old));
+    } }
 {
     for v in 0..h.vertices() {
         let i = clusters[v as usize];
@@ -63,7 +66,10 @@ fn copy_fixes(h: &Hypergraph, clusters: &[u32], coarse: &mut FlatHyper)
     requires vertices { length clusters.now ≡ vertex_count h.now }
     requires below { All (λ i. i < vertex_count coarse.old) clusters.now }
     requires free { coarse.old.fixes ≡ replicate (vertex_count coarse.old) FREE }
-    ensures { coarse.new ≡ record coarse.old { fixes = map (fix_in h.now.fixes clusters.now) (range_with_len 0 (vertex_count coarse.old)) } }
+    ensures { coarse.new ≡ record coarse.old {
+      fixes = map (fix_in h.now.fixes clusters.now)
+          (range_with_len 0 (vertex_count coarse.old));
+    } }
 {
     for v in (0..h.vertices()).rev() {
         let fix = h.fix(v);

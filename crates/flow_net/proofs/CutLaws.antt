@@ -1,8 +1,10 @@
 -- A flow that no half raises fills the cut between the nodes that more could flow from and the others.
-use Rattle.std.proofs.Common.{◌≡◌, ◌≢◌, ℕ, ◌+◌, ◌*◌, ◌/◌, ◌%◌, ◌^◌, ◌<◌, ◌≤◌, List, length, slice_index, nat_eq, refl, sym, ap, ◌∙◌, subst, arith, ◌⊎◌, inl, inr, Bool, true, false, not, ◌&&◌, if◌then◌else◌}
+use Rattle.std.proofs.Common.{◌≡◌, ◌≢◌, ℕ, ◌+◌, ◌*◌, ◌/◌, ◌%◌, ◌^◌, ◌<◌, ◌≤◌, List, length, slice_index, nat_eq, refl, sym, ap}
+use Rattle.std.proofs.Common.{◌∙◌, subst, arith, ◌⊎◌, inl, inr, Bool, true, false, not, ◌&&◌, if◌then◌else◌}
 use Rattle.std.proofs.lemmas.Bool.{cases_eq, eqb-true, eqb-false, eq-eqb, ne_eqb}
 use Rattle.hg_defs.specs.Sums.{sum_below}
-use Rattle.hg_defs.proofs.SumLaws.{sum_below-change, sum_below-same, sum_below-le, sum_below-add, sum_below-zero, sum_below-only, sum_below-swap, weight_if, weight_if-same, weight_if-other, weight_if-le}
+use Rattle.hg_defs.proofs.SumLaws.{sum_below-change, sum_below-same, sum_below-le, sum_below-add, sum_below-zero, sum_below-only}
+use Rattle.hg_defs.proofs.SumLaws.{sum_below-swap, weight_if, weight_if-same, weight_if-other, weight_if-le}
 use Rattle.flow_net.specs.declared.network.Arc.{Arc}
 use Rattle.flow_net.specs.Flow.{arc_at, leaving, entering, is_in, cut_capacity, IsFlow, IsFilledCut}
 use Rattle.flow_net.specs.Laws.{FlowsAreWithinCuts}
@@ -17,12 +19,14 @@ module _ (m n : ℕ) (flow : ℕ → ℕ) (S : ℕ → Bool) where
   pub side_sum : (ends : ℕ → ℕ) → ((i : ℕ) → i < m → ends i < n)
       → sum_below (λ v. if S v then sum_below (λ i. weight_if (ends i) v (flow i)) m else 0) n ≡ sum_below (λ i. if S (ends i) then flow i else 0) m
   side_sum ends inside =
-      sum_below-same (λ v. if S v then sum_below (λ i. weight_if (ends i) v (flow i)) m else 0) (λ v. sum_below (λ i. if S v then weight_if (ends i) v (flow i) else 0) m) n
+      sum_below-same (λ v. if S v then sum_below (λ i. weight_if (ends i) v (flow i)) m else 0)
+      (λ v. sum_below (λ i. if S v then weight_if (ends i) v (flow i) else 0) m) n
       (λ v l. chosen (S v) (λ i. weight_if (ends i) v (flow i)))
       ∙ sum_below-swap (λ v i. if S v then weight_if (ends i) v (flow i) else 0) n m
       ∙ sum_below-same (λ i. sum_below (λ v. if S v then weight_if (ends i) v (flow i) else 0) n) (λ i. if S (ends i) then flow i else 0) m
       (λ i l.
-      sum_below-only (λ v. if S v then weight_if (ends i) v (flow i) else 0) n (ends i) (inside i l) (λ v k q. none (S v) (weight_if (ends i) v (flow i)) (weight_if-other (ends i) v (flow i) (λ e. q (sym e))))
+      sum_below-only (λ v. if S v then weight_if (ends i) v (flow i) else 0) n (ends i) (inside i l) (λ v k q. none (S v) (weight_if (ends i) v (flow i))
+      (weight_if-other (ends i) v (flow i) (λ e. q (sym e))))
       ∙ ap (λ w. if S (ends i) then w else 0) (weight_if-same (ends i) (ends i) (flow i) refl))
     where
       none : (t : Bool) (w : ℕ) → w ≡ 0 → (if t then w else 0) ≡ 0
@@ -60,10 +64,12 @@ module _ (m n source sink : ℕ) (from to flow cap : ℕ → ℕ) (S : ℕ → B
       let g_source : g source ≡ in_ source = ap (λ b. if b then in_ source else 0) s in
       let leave : sum_below f n ≡ sum_below (λ i. if S (from i) then flow i else 0) m = side_sum m n flow S from from_in in
       let enter : sum_below g n ≡ sum_below (λ i. if S (to i) then flow i else 0) m = side_sum m n flow S to to_in in
-      let arcs : sum_below (λ i. if S (from i) then flow i else 0) m ≡ sum_below (λ i. (if S (to i) then flow i else 0) + (if S (from i) && not (S (to i)) then cap i else 0)) m =
+      let arcs : sum_below (λ i. if S (from i) then flow i else 0) m ≡ sum_below
+      (λ i. (if S (to i) then flow i else 0) + (if S (from i) && not (S (to i)) then cap i else 0)) m =
       sum_below-same (λ i. if S (from i) then flow i else 0) (λ i. (if S (to i) then flow i else 0) + (if S (from i) && not (S (to i)) then cap i else 0)) m
       (λ i l. per_arc (S (from i)) (S (to i)) (flow i) (cap i) (full i l) (empty i l)) in
-      let split : sum_below (λ i. (if S (to i) then flow i else 0) + (if S (from i) && not (S (to i)) then cap i else 0)) m ≡ sum_below (λ i. if S (to i) then flow i else 0) m + sum_below (λ i. if S (from i) && not (S (to i)) then cap i else 0) m =
+      let split : sum_below (λ i. (if S (to i) then flow i else 0) + (if S (from i) && not (S (to i)) then cap i else 0)) m ≡ sum_below
+      (λ i. if S (to i) then flow i else 0) m + sum_below (λ i. if S (from i) && not (S (to i)) then cap i else 0) m =
       sum_below-add (λ i. if S (to i) then flow i else 0) (λ i. if S (from i) && not (S (to i)) then cap i else 0) m in
       omega arith
     where
@@ -85,7 +91,8 @@ reached level e = by (cases_eq level 0)
 
 module _ (nodes source sink : ℕ) (arcs : List Arc) (flows heads before rests levels : List ℕ) (side : List Bool)
     (joined : AreJoined nodes arcs) (source_in : source < nodes) (sink_in : sink < nodes) (apart : source ≢ sink)
-    (long_heads : length heads ≡ 2 * length arcs) (long_before : length before ≡ 2 * length arcs) (long_flows : length flows ≡ length arcs) (long_side : length side ≡ nodes)
+    (long_heads : length heads ≡ 2 * length arcs) (long_before : length before ≡ 2 * length arcs) (long_flows : length flows ≡ length arcs)
+    (long_side : length side ≡ nodes)
     (laid : AreLaid arcs heads before (length arcs)) (raised : IsRaised heads source sink 0 before rests)
     (at_source : slice_index levels source ≡ 0) (at_sink : slice_index levels sink ≡ 1) (closed : IsClosed heads rests levels)
     (sides : (v : ℕ) → v < length side → is_in side v ≡ nat_eq (slice_index levels v) 0)
@@ -95,13 +102,17 @@ module _ (nodes source sink : ℕ) (arcs : List Arc) (flows heads before rests l
 
   leaving_is : (v : ℕ) → leaving arcs flows v ≡ out_of heads rests v
   leaving_is v =
-      sum_below-same (λ i. weight_if (arc_at arcs i).from v (slice_index flows i)) (λ i. weight_if (slice_index heads (2 * i + 1)) v (slice_index rests (2 * i + 1))) (length arcs)
-      (λ i l. ap (λ u. weight_if u v (slice_index flows i)) (sym (laid.from i l)) ∙ ap (weight_if (slice_index heads (2 * i + 1)) v) (written i (omega arith)))
+      sum_below-same (λ i. weight_if (arc_at arcs i).from v (slice_index flows i)) (λ i. weight_if (slice_index heads (2 * i + 1)) v
+      (slice_index rests (2 * i + 1))) (length arcs)
+      (λ i l. ap (λ u. weight_if u v (slice_index flows i)) (sym (laid.from i l)) ∙ ap (weight_if (slice_index heads (2 * i + 1)) v)
+      (written i (omega arith)))
       ∙ ap (sum_below (λ i. weight_if (slice_index heads (2 * i + 1)) v (slice_index rests (2 * i + 1)))) (sym half_count)
 
   entering_is : (v : ℕ) → entering arcs flows v ≡ into heads rests v
   entering_is v =
-      sum_below-same (λ i. weight_if (arc_at arcs i).to v (slice_index flows i)) (λ i. weight_if (slice_index heads (2 * i)) v (slice_index rests (2 * i + 1))) (length arcs)
+      sum_below-same (λ i. weight_if (arc_at arcs i).to v (slice_index flows i))
+      (λ i. weight_if (slice_index heads (2 * i)) v (slice_index rests (2 * i + 1)))
+      (length arcs)
       (λ i l. ap (λ u. weight_if u v (slice_index flows i)) (sym (laid.to i l)) ∙ ap (weight_if (slice_index heads (2 * i)) v) (written i (omega arith)))
       ∙ ap (sum_below (λ i. weight_if (slice_index heads (2 * i)) v (slice_index rests (2 * i + 1)))) (sym half_count)
 
@@ -121,7 +132,8 @@ module _ (nodes source sink : ℕ) (arcs : List Arc) (flows heads before rests l
   pair_is : (i : ℕ) → i < length arcs → slice_index rests (2 * i) + slice_index rests (2 * i + 1) ≡ (arc_at arcs i).cap
   pair_is i l =
       let other : mate (2 * i) ≡ 2 * i + 1 = omega arith in
-      let a : slice_index rests (2 * i) + slice_index rests (mate (2 * i)) ≡ slice_index before (2 * i) + slice_index before (mate (2 * i)) = raised.pairs (2 * i) (omega arith) in
+      let a : slice_index rests (2 * i) + slice_index rests (mate (2 * i)) ≡ slice_index before (2 * i) + slice_index before (mate (2 * i)) = raised.pairs
+      (2 * i) (omega arith) in
       let b : slice_index rests (mate (2 * i)) ≡ slice_index rests (2 * i + 1) = ap (slice_index rests) other in
       let c : slice_index before (mate (2 * i)) ≡ slice_index before (2 * i + 1) = ap (slice_index before) other in
       let d = laid.along i l in
@@ -146,7 +158,8 @@ module _ (nodes source sink : ℕ) (arcs : List Arc) (flows heads before rests l
   level_at : (v : ℕ) → v < nodes → (b : Bool) → is_in side v ≡ b → nat_eq (slice_index levels v) 0 ≡ b
   level_at v l b e = sym (sides v (omega arith)) ∙ e
 
-  full_at : (i : ℕ) → i < length arcs → is_in side (arc_at arcs i).from ≡ true → is_in side (arc_at arcs i).to ≡ false → slice_index flows i ≡ (arc_at arcs i).cap
+  full_at : (i : ℕ) → i < length arcs → is_in side (arc_at arcs i).from ≡ true → is_in side (arc_at arcs i).to ≡ false →
+      slice_index flows i ≡ (arc_at arcs i).cap
   full_at i l p q =
       let far = unreached (slice_index levels (arc_at arcs i).from) (level_at (arc_at arcs i).from (from_in i l) true p) in
       let near = reached (slice_index levels (arc_at arcs i).to) (level_at (arc_at arcs i).to (to_in i l) false q) in
@@ -183,7 +196,8 @@ module _ (nodes source sink : ℕ) (arcs : List Arc) (flows heads before rests l
         holds_source = holds;
         lacks_sink = lacks;
         flow =
-            filled (length arcs) nodes source sink (λ i. (arc_at arcs i).from) (λ i. (arc_at arcs i).to) (slice_index flows) (λ i. (arc_at arcs i).cap) (is_in side)
+            filled (length arcs) nodes source sink (λ i. (arc_at arcs i).from) (λ i. (arc_at arcs i).to) (slice_index flows) (λ i. (arc_at arcs i).cap)
+            (is_in side)
             source_in apart holds lacks from_in to_in (λ v l p q. balanced_at v p q) full_at empty_at;
         capacity = refl;
       }
@@ -198,11 +212,13 @@ module _ (nodes : ℕ) (arcs : List Arc) (heads rests : List ℕ) (joined : AreJ
       by (inl e) =
           let here : 2 * (h / 2) ≡ h = omega arith in
           let inside : h / 2 < length arcs = omega arith in
-          subst (λ v. v < nodes) (sym (ap (slice_index heads) (sym here) ∙ laid.to (h / 2) inside)) (joined (h / 2) (record { from = 0; to = 0; cap = 0 }) inside).1
+          subst (λ v. v < nodes) (sym (ap (slice_index heads) (sym here) ∙ laid.to (h / 2) inside)) (joined (h / 2) (record { from = 0; to = 0; cap = 0 })
+          inside).1
       by (inr e) =
           let here : 2 * (h / 2) + 1 ≡ h = omega arith in
           let inside : h / 2 < length arcs = omega arith in
-          subst (λ v. v < nodes) (sym (ap (slice_index heads) (sym here) ∙ laid.from (h / 2) inside)) (joined (h / 2) (record { from = 0; to = 0; cap = 0 }) inside).0
+          subst (λ v. v < nodes) (sym (ap (slice_index heads) (sym here) ∙ laid.from (h / 2) inside)) (joined (h / 2) (record { from = 0; to = 0; cap = 0 })
+          inside).0
 
   pub laid_bounded : (h : ℕ) → h < 2 * length arcs → slice_index rests h + slice_index rests (mate h) < 2 ^ 63
   laid_bounded h l = by (cases_eq (h % 2) 0)
@@ -260,16 +276,19 @@ module _ (m n source sink : ℕ) (from to flow cap : ℕ → ℕ) (S : ℕ → B
       let g_source : g source ≡ in_ source = ap (λ b. if b then in_ source else 0) s in
       let leave : sum_below f n ≡ sum_below (λ i. if S (from i) then flow i else 0) m = side_sum m n flow S from from_in in
       let enter : sum_below g n ≡ sum_below (λ i. if S (to i) then flow i else 0) m = side_sum m n flow S to to_in in
-      let arcs : sum_below (λ i. if S (from i) then flow i else 0) m ≤ sum_below (λ i. (if S (to i) then flow i else 0) + (if S (from i) && not (S (to i)) then cap i else 0)) m =
+      let arcs : sum_below (λ i. if S (from i) then flow i else 0) m ≤ sum_below
+      (λ i. (if S (to i) then flow i else 0) + (if S (from i) && not (S (to i)) then cap i else 0)) m =
       sum_below-le (λ i. if S (from i) then flow i else 0) (λ i. (if S (to i) then flow i else 0) + (if S (from i) && not (S (to i)) then cap i else 0)) m
       (λ i l. arc_within (S (from i)) (S (to i)) (flow i) (cap i) (small i l)) in
-      let split : sum_below (λ i. (if S (to i) then flow i else 0) + (if S (from i) && not (S (to i)) then cap i else 0)) m ≡ sum_below (λ i. if S (to i) then flow i else 0) m + sum_below (λ i. if S (from i) && not (S (to i)) then cap i else 0) m =
+      let split : sum_below (λ i. (if S (to i) then flow i else 0) + (if S (from i) && not (S (to i)) then cap i else 0)) m ≡ sum_below
+      (λ i. if S (to i) then flow i else 0) m + sum_below (λ i. if S (from i) && not (S (to i)) then cap i else 0) m =
       sum_below-add (λ i. if S (to i) then flow i else 0) (λ i. if S (from i) && not (S (to i)) then cap i else 0) m in
       omega arith
 
 pub flow_within_cut : FlowsAreWithinCuts
 flow_within_cut network source sink side sound inside flow s t =
     let none : Arc = record { from = 0; to = 0; cap = 0 } in
-    within_cut (length network.arcs) network.nodes source sink (λ i. (arc_at network.arcs i).from) (λ i. (arc_at network.arcs i).to) (slice_index network.flows)
+    within_cut (length network.arcs) network.nodes source sink (λ i. (arc_at network.arcs i).from) (λ i. (arc_at network.arcs i).to)
+    (slice_index network.flows)
     (λ i. (arc_at network.arcs i).cap) (is_in side) inside s t
     (λ i l. (sound.joined i none l).0) (λ i l. (sound.joined i none l).1) flow.balanced flow.within

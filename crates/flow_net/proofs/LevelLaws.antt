@@ -1,9 +1,11 @@
 -- The breadth-first search: how its state begins, how it goes on, and what it says at the end.
-use Rattle.std.proofs.Common.{◌≡◌, ◌≢◌, ℕ, ◌+◌, ◌-◌, ◌%◌, ◌<◌, ◌≤◌, List, length, set, slice_index, nat_eq, refl, sym, ap, ◌∙◌, subst, arith, length-set, get_or-set_same, get_or-set_other, ◌⊎◌, inl, inr, Bool, true, false, if◌then◌else◌}
+use Rattle.std.proofs.Common.{◌≡◌, ◌≢◌, ℕ, ◌+◌, ◌-◌, ◌%◌, ◌<◌, ◌≤◌, List, length, set, slice_index, nat_eq, refl, sym, ap, ◌∙◌, subst, arith}
+use Rattle.std.proofs.Common.{length-set, get_or-set_same, get_or-set_other, ◌⊎◌, inl, inr, Bool, true, false, if◌then◌else◌}
 use Rattle.std.proofs.lemmas.Bool.{cases_eq, eq-eqb, ne_eqb}
 use Rattle.hg_defs.specs.Sums.{sum_below}
 use Rattle.hg_defs.proofs.SumLaws.{sum_below-change, sum_below-constant, sum_below-le, sum_below-zero}
-use Rattle.flow_net.specs.Residual.{mate, head, tail, mark, reached_count, IsLinked, IsStep, IsTree, IsOpen, IsClosed, IsDone, IsAbsent, IsSearched, IsScanned}
+use Rattle.flow_net.specs.Residual.{mate, head, tail, mark, reached_count, IsLinked, IsStep, IsTree, IsOpen}
+use Rattle.flow_net.specs.Residual.{IsClosed, IsDone, IsAbsent, IsSearched, IsScanned}
 
 -- ---- halves
 
@@ -37,7 +39,8 @@ reached-le levels =
     let b = sum_below-constant 1 (length levels) in
     omega arith
 
-pub reached-set : (levels : List ℕ) (u x : ℕ) → u < length levels → slice_index levels u ≡ 0 → 0 < x → reached_count (set levels u x) ≡ reached_count levels + 1
+pub reached-set : (levels : List ℕ) (u x : ℕ) → u < length levels → slice_index levels u ≡ 0 → 0 < x → reached_count (set levels u x) ≡ reached_count
+    levels + 1
 reached-set levels u x l e p =
     let n = length levels in
     let f : ℕ → ℕ = λ v. mark (slice_index levels v) in
@@ -79,7 +82,8 @@ module _ (heads levels ways : List ℕ) (sink u x back : ℕ) where
     steps = λ v k ne p. by v (cases_eq v u) (subst (λ n. v < n) (length-set levels u x) k) ne p;
   }
     where
-      by : (v : ℕ) → (v ≡ u) ⊎ (v ≢ u) → v < length levels → v ≢ sink → 0 < slice_index (set levels u x) v → IsStep heads (set levels u x) v (slice_index (set ways u back) v)
+      by : (v : ℕ) → (v ≡ u) ⊎ (v ≢ u) → v < length levels → v ≢ sink → 0 < slice_index (set levels u x) v → IsStep heads (set levels u x) v
+          (slice_index (set ways u back) v)
       by v (inl q) k ne p =
           let way : slice_index (set ways u back) v ≡ back = ap (slice_index (set ways u back)) q ∙ get_or-set_same ways u back 0 (omega arith) in
           let kept = level_kept (head heads back) e reached in
@@ -148,99 +152,110 @@ module _ (heads nexts firsts rests : List ℕ) (linked : IsLinked heads nexts fi
         done = s.done;
       }
 
-  pub node_level : (levels ways queue : List ℕ) (sink start end node at : ℕ) → IsScanned heads rests levels ways queue sink start end node at → 0 < slice_index levels node
+  pub node_level : (levels ways queue : List ℕ) (sink start end node at : ℕ) → IsScanned heads rests levels ways queue sink start end node at →
+      0 < slice_index levels node
   node_level levels ways queue sink start end node at s = subst (λ v. 0 < slice_index levels v) s.here (s.reached start s.order)
 
   module _ (levels ways queue : List ℕ) (sink start end node at u x : ℕ)
       (long_levels : length levels ≡ length firsts) (long_ways : length ways ≡ length levels) (long_queue : length queue ≡ length levels)
       (s : IsScanned heads rests levels ways queue sink start end node at) (p : 0 < at)
-      (u_is : head heads (at - 1) ≡ u) (x_is : x ≡ slice_index levels node + 1) (e : slice_index levels u ≡ 0) (r : 0 < slice_index rests (mate (at - 1))) where
-    taken_in : u < length levels
-    taken_in = let l = s.last in let a = linked.nodes (at - 1) (omega arith) in omega arith
+      (u_is : head heads (at - 1) ≡ u) (x_is : x ≡ slice_index levels node + 1) (e : slice_index levels u ≡ 0) (r : 0 < slice_index rests (mate (at - 1)))
+    where
+      taken_in : u < length levels
+      taken_in = let l = s.last in let a = linked.nodes (at - 1) (omega arith) in omega arith
 
-    taken_room : end < length queue
-    taken_room = let a = reached-lt levels u taken_in e in let b = s.count in omega arith
+      taken_room : end < length queue
+      taken_room = let a = reached-lt levels u taken_in e in let b = s.count in omega arith
 
-    old_place : (j : ℕ) → j < end → slice_index (set queue end u) j ≡ slice_index queue j
-    old_place j k = get_or-set_other queue end j u 0 (λ q. absurd (omega arith))
+      old_place : (j : ℕ) → j < end → slice_index (set queue end u) j ≡ slice_index queue j
+      old_place j k = get_or-set_other queue end j u 0 (λ q. absurd (omega arith))
 
-    new_place : slice_index (set queue end u) end ≡ u
-    new_place = get_or-set_same queue end u 0 taken_room
+      new_place : slice_index (set queue end u) end ≡ u
+      new_place = get_or-set_same queue end u 0 taken_room
 
-    each_place : (P : ℕ → Type 0) → ((j : ℕ) → j < end → P (slice_index queue j)) → P u → (j : ℕ) → j < end + 1 → P (slice_index (set queue end u) j)
-    each_place P before here j k = by (cases_eq j end)
-      where
-        by : (j ≡ end) ⊎ (j ≢ end) → P (slice_index (set queue end u) j)
-        by (inl q) = subst P (sym (ap (slice_index (set queue end u)) q ∙ new_place)) here
-        by (inr q) = let l : j < end = omega arith in subst P (sym (old_place j l)) (before j l)
+      each_place : (P : ℕ → Type 0) → ((j : ℕ) → j < end → P (slice_index queue j)) → P u → (j : ℕ) → j < end + 1 → P (slice_index (set queue end u) j)
+      each_place P before here j k = by (cases_eq j end)
+        where
+          by : (j ≡ end) ⊎ (j ≢ end) → P (slice_index (set queue end u) j)
+          by (inl q) = subst P (sym (ap (slice_index (set queue end u)) q ∙ new_place)) here
+          by (inr q) = let l : j < end = omega arith in subst P (sym (old_place j l)) (before j l)
 
-    taken_level : slice_index (set levels u x) u ≡ x
-    taken_level = get_or-set_same levels u x 0 taken_in
+      taken_level : slice_index (set levels u x) u ≡ x
+      taken_level = get_or-set_same levels u x 0 taken_in
 
-    kept_level : (w : ℕ) → 0 < slice_index levels w → slice_index (set levels u x) w ≡ slice_index levels w
-    kept_level w l = level_kept heads levels ways sink u x (mate (at - 1)) w e l
+      kept_level : (w : ℕ) → 0 < slice_index levels w → slice_index (set levels u x) w ≡ slice_index levels w
+      kept_level w l = level_kept heads levels ways sink u x (mate (at - 1)) w e l
 
-    node_low : slice_index levels node ≤ start + 1
-    node_low = subst (λ v. slice_index levels v ≤ start + 1) s.here (s.low start s.order)
+      node_low : slice_index levels node ≤ start + 1
+      node_low = subst (λ v. slice_index levels v ≤ start + 1) s.here (s.low start s.order)
 
-    taken_low : (j : ℕ) → j < end + 1 → slice_index (set levels u x) (slice_index (set queue end u) j) ≤ j + 1
-    taken_low j k = by (cases_eq j end)
-      where
-        by : (j ≡ end) ⊎ (j ≢ end) → slice_index (set levels u x) (slice_index (set queue end u) j) ≤ j + 1
-        by (inl q) =
-            let order = s.order in
-            let low = node_low in
-            let level : slice_index (set levels u x) (slice_index (set queue end u) j) ≡ x =
-            ap (slice_index (set levels u x)) (ap (slice_index (set queue end u)) q ∙ new_place) ∙ taken_level in
-            omega arith
-        by (inr q) =
-            let before : j < end = omega arith in
-            let level : slice_index (set levels u x) (slice_index (set queue end u) j) ≡ slice_index levels (slice_index queue j) =
-            ap (slice_index (set levels u x)) (old_place j before) ∙ kept_level (slice_index queue j) (s.reached j before) in
-            let low = s.low j before in
-            omega arith
+      taken_low : (j : ℕ) → j < end + 1 → slice_index (set levels u x) (slice_index (set queue end u) j) ≤ j + 1
+      taken_low j k = by (cases_eq j end)
+        where
+          by : (j ≡ end) ⊎ (j ≢ end) → slice_index (set levels u x) (slice_index (set queue end u) j) ≤ j + 1
+          by (inl q) =
+              let order = s.order in
+              let low = node_low in
+              let level : slice_index (set levels u x) (slice_index (set queue end u) j) ≡ x =
+              ap (slice_index (set levels u x)) (ap (slice_index (set queue end u)) q ∙ new_place) ∙ taken_level in
+              omega arith
+          by (inr q) =
+              let before : j < end = omega arith in
+              let level : slice_index (set levels u x) (slice_index (set queue end u) j) ≡ slice_index levels (slice_index queue j) =
+              ap (slice_index (set levels u x)) (old_place j before) ∙ kept_level (slice_index queue j) (s.reached j before) in
+              let low = s.low j before in
+              omega arith
 
-    taken_done : (v : ℕ) → v < length (set levels u x) → v ≢ node → 0 < slice_index (set levels u x) v → IsAbsent (set queue end u) (start + 1) (end + 1) v
-        → IsDone heads rests (set levels u x) 0 v
-    taken_done v k ne q absent = by (cases_eq v u)
-      where
-        by : (v ≡ u) ⊎ (v ≢ u) → IsDone heads rests (set levels u x) 0 v
-        by (inl same) = absurd (absent end (let a = s.order in omega arith) (omega arith) (new_place ∙ sym same))
-        by (inr other) =
-            done-set heads levels ways sink u x (mate (at - 1)) rests 0 v taken_in (omega arith)
-            (s.done v (subst (λ n. v < n) (length-set levels u x) k) ne (let a = get_or-set_other levels u v x 0 other in omega arith)
-            (λ j a b z. absent j a (omega arith) (old_place j b ∙ z)))
+      taken_done : (v : ℕ) → v < length (set levels u x) → v ≢ node → 0 < slice_index (set levels u x) v → IsAbsent (set queue end u) (start + 1) (end + 1)
+          v
+          → IsDone heads rests (set levels u x) 0 v
+      taken_done v k ne q absent = by (cases_eq v u)
+        where
+          by : (v ≡ u) ⊎ (v ≢ u) → IsDone heads rests (set levels u x) 0 v
+          by (inl same) = absurd (absent end (let a = s.order in omega arith) (omega arith) (new_place ∙ sym same))
+          by (inr other) =
+              done-set heads levels ways sink u x (mate (at - 1)) rests 0 v taken_in (omega arith)
+              (s.done v (subst (λ n. v < n) (length-set levels u x) k) ne (let a = get_or-set_other levels u v x 0 other in omega arith)
+              (λ j a b z. absent j a (omega arith) (old_place j b ∙ z)))
 
-    pub scan_take : IsScanned heads rests (set levels u x) (set ways u (mate (at - 1))) (set queue end u) sink start (end + 1) node (slice_index nexts (at - 1))
-    scan_take =
-        let back = mate (at - 1) in
-        let last = s.last in
-        let l : at - 1 < length heads = omega arith in
-        let next = linked.next (at - 1) l in
-        let to_node : head heads back ≡ node = s.leaves p in
-        let size = length-set levels u x in
-        record {
-          tree =
-              tree-set heads levels ways sink u x back taken_in long_ways e s.tree (mate-within (length heads) (at - 1) linked.pairs l) (tail-mate heads (at - 1) ∙ u_is)
-              (ap (λ v. slice_index levels v + 1) to_node ∙ sym x_is) (subst (λ v. 0 < slice_index levels v) (sym to_node) (node_level levels ways queue sink start end node at s));
-          opens = open-set heads levels ways sink u x back rests taken_in long_ways s.opens r;
-          count = reached-set levels u x taken_in e (omega arith) ∙ ap (λ n. n + 1) s.count;
-          within = each_place (λ v. v < length (set levels u x)) (λ i m. subst (λ n. slice_index queue i < n) (sym size) (s.within i m)) (subst (λ n. u < n) (sym size) taken_in);
-          reached = each_place (λ v. 0 < slice_index (set levels u x) v)
-              (λ i m. subst (λ n. 0 < n) (sym (kept_level (slice_index queue i) (s.reached i m))) (s.reached i m))
-              (subst (λ n. 0 < n) (sym taken_level) (omega arith));
-          low = taken_low;
-          order = let a = s.order in omega arith;
-          here = old_place start s.order ∙ s.here;
-          last = let a = next.within in omega arith;
-          leaves = λ q. next.leaves q ∙ s.leaves p;
-          part =
-              part-next (set levels u x) node at p s.last (s.leaves p) (done-set heads levels ways sink u x back rests at node taken_in (omega arith) s.part)
-              (λ z. absurd (let a : slice_index (set levels u x) u ≡ 0 = ap (slice_index (set levels u x)) (sym u_is) ∙ z in let b = taken_level in omega arith));
-          done = taken_done;
-        }
+      pub scan_take : IsScanned heads rests (set levels u x) (set ways u (mate (at - 1))) (set queue end u) sink start (end + 1) node
+          (slice_index nexts (at - 1))
+      scan_take =
+          let back = mate (at - 1) in
+          let last = s.last in
+          let l : at - 1 < length heads = omega arith in
+          let next = linked.next (at - 1) l in
+          let to_node : head heads back ≡ node = s.leaves p in
+          let size = length-set levels u x in
+          record {
+            tree =
+                tree-set heads levels ways sink u x back taken_in long_ways e s.tree (mate-within (length heads) (at - 1) linked.pairs l)
+                (tail-mate heads (at - 1) ∙ u_is)
+                (ap (λ v. slice_index levels v + 1) to_node ∙ sym x_is) (subst (λ v. 0 < slice_index levels v) (sym to_node)
+                (node_level levels ways queue sink start end node at s));
+            opens = open-set heads levels ways sink u x back rests taken_in long_ways s.opens r;
+            count = reached-set levels u x taken_in e (omega arith) ∙ ap (λ n. n + 1) s.count;
+            within = each_place (λ v. v < length (set levels u x)) (λ i m. subst (λ n. slice_index queue i < n) (sym size) (s.within i m))
+                (subst (λ n. u < n) (sym size) taken_in);
+            reached = each_place (λ v. 0 < slice_index (set levels u x) v)
+                (λ i m. subst (λ n. 0 < n) (sym (kept_level (slice_index queue i) (s.reached i m))) (s.reached i m))
+                (subst (λ n. 0 < n) (sym taken_level) (omega arith));
+            low = taken_low;
+            order = let a = s.order in omega arith;
+            here = old_place start s.order ∙ s.here;
+            last = let a = next.within in omega arith;
+            leaves = λ q. next.leaves q ∙ s.leaves p;
+            part =
+                part-next (set levels u x) node at p s.last (s.leaves p) (done-set heads levels ways sink u x back rests at node taken_in (omega arith)
+                s.part)
+                (λ z. absurd (let a : slice_index (set levels u x) u ≡ 0 = ap (slice_index (set levels u x)) (sym u_is) ∙ z in let b = taken_level in
+                omega arith));
+            done = taken_done;
+          }
 
-  pub scan_begin : (levels ways queue : List ℕ) (sink start end : ℕ) → length levels ≡ length firsts → start < end → IsSearched heads rests levels ways queue sink start end
+  pub scan_begin : (levels ways queue : List ℕ) (sink start end : ℕ) → length levels ≡ length firsts → start < end → IsSearched heads rests levels ways
+      queue
+      sink start end
       → IsScanned heads rests levels ways queue sink start end (slice_index queue start) (slice_index firsts (slice_index queue start))
   scan_begin levels ways queue sink start end long order s =
       let node = slice_index queue start in
@@ -261,7 +276,8 @@ module _ (heads nexts firsts rests : List ℕ) (linked : IsLinked heads nexts fi
         done = λ v k ne p absent. s.done v k p (λ j a b q. by v j (cases_eq j start) ne a b absent q);
       }
     where
-      by : (v j : ℕ) → (j ≡ start) ⊎ (j ≢ start) → v ≢ slice_index queue start → start ≤ j → j < end → IsAbsent queue (start + 1) end v → slice_index queue j ≡ v → ⊥
+      by : (v j : ℕ) → (j ≡ start) ⊎ (j ≢ start) → v ≢ slice_index queue start → start ≤ j → j < end → IsAbsent queue (start + 1) end v →
+          slice_index queue j ≡ v → ⊥
       by v j (inl z) ne a b absent q = ne (sym q ∙ ap (slice_index queue) z)
       by v j (inr z) ne a b absent q = absent j (omega arith) b q
 
@@ -277,21 +293,25 @@ module _ (heads nexts firsts rests : List ℕ) (linked : IsLinked heads nexts fi
     done = λ v k p absent. by v k p absent (cases_eq v node);
   }
     where
-      by : (v : ℕ) → v < length levels → 0 < slice_index levels v → IsAbsent queue (start + 1) end v → (v ≡ node) ⊎ (v ≢ node) → IsDone heads rests levels 0 v
+      by : (v : ℕ) → v < length levels → 0 < slice_index levels v → IsAbsent queue (start + 1) end v → (v ≡ node) ⊎ (v ≢ node) → IsDone heads rests levels
+          0 v
       by v k p absent (inl q) = λ h a b t e. s.part h (omega arith) b (t ∙ q) e
       by v k p absent (inr q) = s.done v k q p absent
 
-  pub search_begin : (zeros ways queue : List ℕ) (sink : ℕ) → ((v : ℕ) → v < length zeros → slice_index zeros v ≡ 0) → sink < length zeros → length queue ≡ length zeros
+  pub search_begin : (zeros ways queue : List ℕ) (sink : ℕ) → ((v : ℕ) → v < length zeros → slice_index zeros v ≡ 0) → sink < length zeros →
+      length queue ≡ length zeros
       → IsSearched heads rests (set zeros sink 1) ways (set queue 0 sink) sink 0 1
   search_begin zeros ways queue sink none l long =
       let first : slice_index (set queue 0 sink) 0 ≡ sink = get_or-set_same queue 0 sink 0 (omega arith) in
       let root : slice_index (set zeros sink 1) sink ≡ 1 = get_or-set_same zeros sink 1 0 l in
       let size = length-set zeros sink 1 in
-      let at : (j : ℕ) → j < 1 → slice_index (set queue 0 sink) j ≡ sink = λ j k. ap (slice_index (set queue 0 sink)) (let z : j ≡ 0 = omega arith in z) ∙ first in
+      let at : (j : ℕ) → j < 1 → slice_index (set queue 0 sink) j ≡ sink = λ j k. ap (slice_index (set queue 0 sink)) (let z : j ≡ 0 = omega arith in z) ∙
+      first in
       record {
         tree = record { root = root; steps = λ v k ne p. absurd (zero_at v k ne p) };
         opens = λ v k ne p. absurd (zero_at v k ne p);
-        count = reached-set zeros sink 1 l (none sink l) (omega arith) ∙ ap (λ n. n + 1) (sum_below-zero (λ v. mark (slice_index zeros v)) (length zeros) (λ i k. mark-zero (slice_index zeros i) (none i k)));
+        count = reached-set zeros sink 1 l (none sink l) (omega arith) ∙ ap (λ n. n + 1) (sum_below-zero (λ v. mark (slice_index zeros v)) (length zeros)
+            (λ i k. mark-zero (slice_index zeros i) (none i k)));
         within = λ j k. subst (λ v. v < length (set zeros sink 1)) (sym (at j k)) (omega arith);
         reached = λ j k. subst (λ v. 0 < slice_index (set zeros sink 1) v) (sym (at j k)) (omega arith);
         low = λ j k. subst (λ v. slice_index (set zeros sink 1) v ≤ j + 1) (sym (at j k)) (omega arith);
@@ -309,7 +329,8 @@ module _ (heads nexts firsts rests : List ℕ) (linked : IsLinked heads nexts fi
       by v k p absent (inr q) = zero_at v k q p
 
   -- once the queue is empty, the nodes with a level are cut off from the others
-  pub search_closed : (levels ways queue : List ℕ) (sink start end : ℕ) → length levels ≡ length firsts → end ≤ start → IsSearched heads rests levels ways queue sink start end
+  pub search_closed : (levels ways queue : List ℕ) (sink start end : ℕ) → length levels ≡ length firsts → end ≤ start → IsSearched heads rests levels ways
+      queue sink start end
       → IsClosed heads rests levels
   search_closed levels ways queue sink start end long order s h l p e =
       let back_in = mate-within (length heads) h linked.pairs l in

@@ -1,5 +1,6 @@
 -- Flow networks: arcs with capacities, a flow for each arc, and cuts.
-use Rattle.std.specs.Prelude.{◌≡◌, ◌≢◌, ℕ, ◌+◌, ◌≤◌, ◌<◌, ◌^◌, List, length, All, Bool, true, false, not, ◌&&◌, slice_index, slice_index_or, nat_eq, if◌then◌else◌}
+use Rattle.std.specs.Prelude.{◌≡◌, ◌≢◌, ℕ, ◌+◌, ◌≤◌, ◌<◌, ◌^◌, List, length, All, Bool, true, false, not}
+use Rattle.std.specs.Prelude.{◌&&◌, slice_index, slice_index_or, nat_eq, if◌then◌else◌}
 use Rattle.hg_defs.specs.Sums.{sum_below}
 use Rattle.flow_net.specs.declared.network.Arc.{Arc}
 

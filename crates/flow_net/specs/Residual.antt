@@ -126,8 +126,11 @@ pub record IsRaised (heads : List ℕ) (source sink amount : ℕ) (old new : Lis
 -- an amount was taken from one node to another, and the rests of halves up to a level are as they were
 pub record IsPushed (heads levels : List ℕ) (source node amount : ℕ) (old new : List ℕ) : Type 0 where
   pub pairs : KeepsPairs old new
-  pub moved : (v : ℕ) → out_of heads new v + into heads old v + (if nat_eq node v then amount else 0) ≡ out_of heads old v + into heads new v + (if nat_eq source v then amount else 0)
-  pub same : (h : ℕ) → h < length heads → slice_index levels (tail heads h) ≤ slice_index levels node → slice_index levels (head heads h) ≤ slice_index levels node → slice_index new h ≡ slice_index old h
+  pub moved : (v : ℕ) → out_of heads new v + into heads old v + (if nat_eq node v then amount else 0) ≡ out_of heads old v + into heads new v +
+      (if nat_eq source v then amount else 0)
+  pub same : (h : ℕ) → h < length heads → slice_index levels (tail heads h) ≤ slice_index levels node → slice_index levels (head heads h) ≤ slice_index
+      levels
+      node → slice_index new h ≡ slice_index old h
 
 -- the places of a search along the levels: the rest of the list of each node's halves, and a half by which each node was entered
 pub record IsMarked (heads currents entries : List ℕ) : Type 0 where

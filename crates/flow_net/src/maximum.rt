@@ -1,6 +1,7 @@
 //! The maximum flow, by blocking flows along shortest ways (Dinic's algorithm).
 
-ghost use Rattle.std.specs.Prelude.{◌≡◌, ◌≢◌, ℕ, ◌+◌, ◌-◌, ◌*◌, ◌^◌, ◌<◌, ◌≤◌, length, replicate, slice_index, IfOk, OnOk, OnErr};
+ghost use Rattle.std.specs.Prelude.{◌≡◌, ◌≢◌, ℕ, ◌+◌, ◌-◌, ◌*◌, ◌^◌, ◌<◌, ◌≤◌, length};
+ghost use Rattle.std.specs.Prelude.{replicate, slice_index, IfOk, OnOk, OnErr};
 ghost use Rattle.flow_net.specs.Flow.{IsNetwork, IsFlow, IsFilledCut};
 ghost use Rattle.flow_net.specs.Residual.{IsTree, IsClosed, IsBounded, IsRaised, AreJoined};
 ghost use Rattle.flow_net.specs.Ready.{IsReady};

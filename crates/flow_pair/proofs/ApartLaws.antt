@@ -1,5 +1,6 @@
 -- Pairs without a block in common: what is assigned within one leaves all of the other one.
-use Rattle.std.proofs.Common.{◌≡◌, ◌≢◌, ◌⊎◌, inl, inr, ℕ, suc, ◌+◌, ◌-◌, ◌<◌, Bool, ◌&&◌, not, nat_eq, nat_le, if◌then◌else◌, List, [], ◌∷◌, ◌++◌, length, filter, All, Contains, refl, sym, ap, ◌∙◌, subst, arith}
+use Rattle.std.proofs.Common.{◌≡◌, ◌≢◌, ◌⊎◌, inl, inr, ℕ, suc, ◌+◌, ◌-◌, ◌<◌, Bool, ◌&&◌, not, nat_eq, nat_le, if◌then◌else◌, List}
+use Rattle.std.proofs.Common.{[], ◌∷◌, ◌++◌, length, filter, All, Contains, refl, sym, ap, ◌∙◌, subst, arith}
 use Rattle.std.specs.List.{list_any}
 use Rattle.std.proofs.lemmas.List.Elements.{All-contains, All-weaker}
 use Rattle.std.proofs.lemmas.List.{get_or_default}
@@ -41,13 +42,15 @@ module _ (h : Hyper) (p q : List ℕ) (c d : ℕ) (first : HasSame p q c) (secon
 
   leaves-same : (e : Net) → leaves q c d e ≡ leaves p c d e
   leaves-same e =
-      any_same (λ v. not (nat_eq (block_of q v) c) && not (nat_eq (block_of q v) d)) (λ v. not (nat_eq (block_of p v) c) && not (nat_eq (block_of p v) d)) e.pins
+      any_same (λ v. not (nat_eq (block_of q v) c) && not (nat_eq (block_of q v) d)) (λ v. not (nat_eq (block_of p v) c) && not (nat_eq (block_of p v) d))
+      e.pins
       (λ v. ap (λ t. not t && not (nat_eq (block_of q v) d)) (first v) ∙ ap (λ t. not (nat_eq (block_of p v) c) && not t) (second v))
 
   pair_cost-same : pair_cost h q c d ≡ pair_cost h p c d
   pair_cost-same =
       ap (total (λ e. pair_price h.objective (leaves q c d e) e.weight)) touching-same
-      ∙ total-same_each (λ e. pair_price h.objective (leaves q c d e) e.weight) (λ e. pair_price h.objective (leaves p c d e) e.weight) (λ e. ap (λ t. pair_price h.objective t e.weight) (leaves-same e)) (touching h p c d)
+      ∙ total-same_each (λ e. pair_price h.objective (leaves q c d e) e.weight) (λ e. pair_price h.objective (leaves p c d e) e.weight)
+      (λ e. ap (λ t. pair_price h.objective t e.weight) (leaves-same e)) (touching h p c d)
 
   near-same : (v : ℕ) → is_near h q c d v ≡ is_near h p c d v
   near-same v =
@@ -56,24 +59,35 @@ module _ (h : Hyper) (p q : List ℕ) (c d : ℕ) (first : HasSame p q c) (secon
 
   next-same : (v : ℕ) → is_next h q c d v ≡ is_next h p c d v
   next-same v =
-      ap (λ t. is_free h v && t && not (is_near h q c d v) && list_any (λ (e : Net). nat_le (length e.pins) 1000 && holds e v && list_any (is_near h q c d) e.pins) h.nets) (first v)
-      ∙ ap (λ t. is_free h v && nat_eq (block_of p v) c && not t && list_any (λ (e : Net). nat_le (length e.pins) 1000 && holds e v && list_any (is_near h q c d) e.pins) h.nets) (near-same v)
+      ap (λ t. is_free h v && t && not (is_near h q c d v) && list_any (λ (e : Net). nat_le (length e.pins) 1000 && holds e v && list_any (is_near h q c d)
+      e.pins) h.nets) (first v)
+      ∙ ap (λ t. is_free h v && nat_eq (block_of p v) c && not t && list_any (λ (e : Net). nat_le (length e.pins) 1000 && holds e v &&
+      list_any (is_near h q c d) e.pins) h.nets) (near-same v)
       ∙ ap (λ t. is_free h v && nat_eq (block_of p v) c && not (is_near h p c d v) && t)
-      (any_same (λ (e : Net). nat_le (length e.pins) 1000 && holds e v && list_any (is_near h q c d) e.pins) (λ (e : Net). nat_le (length e.pins) 1000 && holds e v && list_any (is_near h p c d) e.pins) h.nets
+      (any_same (λ (e : Net). nat_le (length e.pins) 1000 && holds e v && list_any (is_near h q c d) e.pins) (λ (e : Net). nat_le (length e.pins) 1000 &&
+      holds e v && list_any (is_near h p c d) e.pins) h.nets
       (λ e. ap (λ t. nat_le (length e.pins) 1000 && holds e v && t) (any_same (is_near h q c d) (is_near h p c d) e.pins near-same)))
 
   side-same : (l : ℕ) → length q ≡ length p → side h l q c d ≡ side h l p c d
   side-same l e =
       ap (λ n. taken h (l - n) (filter (is_near h q c d) (vertices h) ++ filter (is_next h q c d) (vertices h))) (weight_in-same h.weights p q d e second)
-      ∙ ap (λ xs. taken h (l - load h p d) (xs ++ filter (is_next h q c d) (vertices h))) (filter_same (is_near h q c d) (is_near h p c d) (vertices h) near-same)
-      ∙ ap (λ xs. taken h (l - load h p d) (filter (is_near h p c d) (vertices h) ++ xs)) (filter_same (is_next h q c d) (is_next h p c d) (vertices h) next-same)
+      ∙ ap (λ xs. taken h (l - load h p d) (xs ++ filter (is_next h q c d) (vertices h))) (filter_same (is_near h q c d) (is_near h p c d) (vertices h)
+      near-same)
+      ∙ ap (λ xs. taken h (l - load h p d) (filter (is_near h p c d) (vertices h) ++ xs)) (filter_same (is_next h q c d) (is_next h p c d) (vertices h)
+      next-same)
 
 pub pairs_keep_apart : PairsKeepApart
 pairs_keep_apart h l p a b c d region q ca cb da db inside s =
     let r = rearranged p q region a b inside s in
     let first : HasSame p q c = λ v. r.others v c ca cb in
-    let second : HasSame p q d = λ v. r.others v d da db in
-    (touching-same h p q c d first second, side-same h p q c d first second l s.vertices, leaves-same h p q c d first second, weight_in-same h.weights p q c s.vertices first, weight_in-same h.weights p q d s.vertices second)
+    let second : HasSame p q d = λ v. r.others v d da db in (
+      touching-same h p q c d first second,
+      side-same h p q c d first second l s.vertices,
+      leaves-same h p q c d first second,
+      weight_in-same h.weights p q c
+          s.vertices first,
+      weight_in-same h.weights p q d s.vertices second,
+    )
 
 pub pairs_save_apart : PairsSaveApart
 pairs_save_apart h k p a b c d region other q p' q' sound w fa fb fc fd ca cb da db cd inside s inner sp sq same =
@@ -102,9 +116,11 @@ pairs_save_apart h k p a b c d region other q p' q' sound w fa fb fc fd ca cb da
     wq : IsPartition h k q
     wq = record {
       vertices = s.vertices ∙ w.vertices;
-      blocks = λ i x m. subst (λ z. z < k) (get_or_default q i 0 x m) (assigned_below k a b p region q fa fb s i (w.blocks i 0 (let e = s.vertices in omega arith)));
+      blocks = λ i x m. subst (λ z. z < k) (get_or_default q i 0 x m)
+          (assigned_below k a b p region q fa fb s i (w.blocks i 0 (let e = s.vertices in omega arith)));
     }
 
     agrees : (x : ℕ) → x ≢ a → x ≢ b → (v : ℕ) → Contains other v ⊎ All (λ u. u ≢ v) other → nat_eq (block_of q' v) x ≡ nat_eq (block_of p' v) x
     agrees x xa xb v (inl i) = ap (λ z. nat_eq z x) (All-contains (λ u. block_of q' u ≡ block_of p' u) other v same i)
-    agrees x xa xb v (inr n) = ap (λ z. nat_eq z x) (sq.outside v n) ∙ (rearranged p q region a b inside s).others v x xa xb ∙ sym (ap (λ z. nat_eq z x) (sp.outside v n))
+    agrees x xa xb v (inr n) = ap (λ z. nat_eq z x) (sq.outside v n) ∙ (rearranged p q region a b inside s).others v x xa xb ∙
+        sym (ap (λ z. nat_eq z x) (sp.outside v n))

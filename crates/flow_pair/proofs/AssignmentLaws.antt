@@ -1,5 +1,6 @@
 -- The cuts of a pair's network and the assignments of its region.
-use Rattle.std.proofs.Common.{◌≡◌, ◌≢◌, ◌⊎◌, inl, inr, ℕ, zero, suc, ◌+◌, ◌*◌, ◌<◌, ◌≤◌, Bool, true, false, ◌&&◌, ◌||◌, not, nat_eq, if◌then◌else◌, List, [], ◌∷◌, ◌++◌, length, map, All, get_or, refl, sym, ap, ◌∙◌, arith, slice_index, append_assoc}
+use Rattle.std.proofs.Common.{◌≡◌, ◌≢◌, ◌⊎◌, inl, inr, ℕ, zero, suc, ◌+◌, ◌*◌, ◌<◌, ◌≤◌, Bool, true, false, ◌&&◌, ◌||◌, not, nat_eq, if◌then◌else◌}
+use Rattle.std.proofs.Common.{List, [], ◌∷◌, ◌++◌, length, map, All, get_or, refl, sym, ap, ◌∙◌, arith, slice_index, append_assoc}
 use Rattle.std.specs.List.{list_any, position_or_len}
 use Rattle.std.specs.Set.{is_member}
 use Rattle.std.proofs.lemmas.Bool.{cases_lt, eqb-true, eqb-false, ne_eqb, lt-ltb, le-ltb}
@@ -16,7 +17,8 @@ use Rattle.hg_defs.specs.Partition.{block_of, IsPartition}
 use Rattle.hg_defs.specs.Cost.{cost}
 use Rattle.hg_defs.proofs.SumLaws.{total-append, total-filter, total-same_each, total-le, total-by_index, total-scale}
 use Rattle.round_log.specs.Rounds.{has_pin, leaves, pair_price, pair_cost, IsAssignment}
-use Rattle.flow_pair.specs.PairNetwork.{source_node, sink_node, node_of, joins, unbounded, net_price, pin_arcs, net_arcs, nets_arcs, joined_nets, pair_network, AreOfPair}
+use Rattle.flow_pair.specs.PairNetwork.{source_node, sink_node, node_of, joins, unbounded, net_price, pin_arcs}
+use Rattle.flow_pair.specs.PairNetwork.{net_arcs, nets_arcs, joined_nets, pair_network, AreOfPair}
 use Rattle.flow_pair.specs.Laws.{AssignmentsAreCuts}
 use Rattle.flow_pair.proofs.PairLaws.{IsRearranged, rearranged, in_pair, same_leaves, pair_total, assignments_cost}
 use Rattle.flow_pair.proofs.RegionLaws.{joins_inside, joins_outside}
@@ -33,7 +35,8 @@ any_each : (test : ℕ → Bool) (pins : List ℕ) → All (λ v. test v ≡ tru
 any_each test [] = All-nil (λ v. test v ≡ true → false ≡ true)
 any_each test (v ∷ pins) =
     All-cons (λ u. test u ≡ true → (test v || list_any test pins) ≡ true) v pins (λ e. ap (λ t. t || list_any test pins) e)
-    (All-weaker (λ u. test u ≡ true → list_any test pins ≡ true) (λ u. test u ≡ true → (test v || list_any test pins) ≡ true) (λ u f e. later (test v) (list_any test pins) (f e)) pins (any_each test pins))
+    (All-weaker (λ u. test u ≡ true → list_any test pins ≡ true) (λ u. test u ≡ true → (test v || list_any test pins) ≡ true)
+    (λ u f e. later (test v) (list_any test pins) (f e)) pins (any_each test pins))
   where
     later : (s t : Bool) → t ≡ true → (s || t) ≡ true
     later true t e = refl
@@ -60,7 +63,8 @@ module _ (h : Hyper) (p : List ℕ) (a b : ℕ) (region : List ℕ) (q : List �
   pins-none at A B [] e f first second = refl
   pins-none at A B (v ∷ pins) e f first second =
       by (in_pair p a b v) refl (pin_arcs h p a b region at pins)
-      (pins-none at A B pins e f (All-tail (λ u. nat_eq (block_of q u) a ≡ true → A ≡ true) v pins first) (All-tail (λ u. nat_eq (block_of q u) b ≡ true → B ≡ true) v pins second))
+      (pins-none at A B pins e f (All-tail (λ u. nat_eq (block_of q u) a ≡ true → A ≡ true) v pins first)
+      (All-tail (λ u. nat_eq (block_of q u) b ≡ true → B ≡ true) v pins second))
     where
       node : ℕ
       node = node_of p a region v
@@ -77,14 +81,16 @@ module _ (h : Hyper) (p : List ℕ) (a b : ℕ) (region : List ℕ) (q : List �
       out false false k = absurd (different (sym (k refl)))
 
       by : (t : Bool) → in_pair p a b v ≡ t → (later : List Arc) → total (crossing side) later ≡ 0
-          → total (crossing side) (if t then (record { from = node_of p a region v; to = at; cap = unbounded h } ∷ record { from = at + 1; to = node_of p a region v; cap = unbounded h } ∷ later) else later) ≡ 0
+          → total (crossing side) (if t then (record { from = node_of p a region v; to = at; cap = unbounded h } ∷
+          record { from = at + 1; to = node_of p a region v; cap = unbounded h } ∷ later) else later) ≡ 0
       by true t later z =
           let X = nat_eq (block_of q v) a in
           let x : (if is_in side (node_of p a region v) && not (is_in side at) then unbounded h else 0) ≡ 0 =
           ap (λ s. if s && not (is_in side at) then unbounded h else 0) (nodes v) ∙ ap (λ s. if X && not s then unbounded h else 0) e
           ∙ into X A (All-head (λ u. nat_eq (block_of q u) a ≡ true → A ≡ true) v pins first) in
           let y : (if is_in side (at + 1) && not (is_in side (node_of p a region v)) then unbounded h else 0) ≡ 0 =
-          ap (λ s. if s && not (is_in side (node_of p a region v)) then unbounded h else 0) f ∙ ap (λ s. if not B && not s then unbounded h else 0) (nodes v)
+          ap (λ s. if s && not (is_in side (node_of p a region v)) then unbounded h else 0) f ∙ ap (λ s. if not B && not s then unbounded h else 0)
+          (nodes v)
           ∙ out X B (λ g. All-head (λ u. nat_eq (block_of q u) b ≡ true → B ≡ true) v pins second (in_second v t g)) in
           omega arith
       by false t later z = z
@@ -112,14 +118,17 @@ module _ (h : Hyper) (p : List ℕ) (a b : ℕ) (region : List ℕ) (q : List �
 
   -- ---- any side
 
-  pins-into : (at : ℕ) (pins : List ℕ) → list_any (λ v. nat_eq (block_of q v) a) pins ≡ true → is_in side at ≡ false → unbounded h ≤ total (crossing side) (pin_arcs h p a b region at pins)
+  pins-into : (at : ℕ) (pins : List ℕ) → list_any (λ v. nat_eq (block_of q v) a) pins ≡ true → is_in side at ≡ false → unbounded h ≤ total (crossing side)
+      (pin_arcs h p a b region at pins)
   pins-into at [] e f = absurd (different (sym e))
-  pins-into at (v ∷ pins) e f = by (in_pair p a b v) (nat_eq (block_of q v) a) refl refl e (λ g. pins-into at pins g f) (pin_arcs h p a b region at pins) (λ l. l)
+  pins-into at (v ∷ pins) e f = by (in_pair p a b v) (nat_eq (block_of q v) a) refl refl e (λ g. pins-into at pins g f) (pin_arcs h p a b region at pins)
+      (λ l. l)
     where
       by : (t X : Bool) → in_pair p a b v ≡ t → nat_eq (block_of q v) a ≡ X → (X || list_any (λ u. nat_eq (block_of q u) a) pins) ≡ true
           → (list_any (λ u. nat_eq (block_of q u) a) pins ≡ true → unbounded h ≤ total (crossing side) (pin_arcs h p a b region at pins))
           → (later : List Arc) → (unbounded h ≤ total (crossing side) (pin_arcs h p a b region at pins) → unbounded h ≤ total (crossing side) later)
-          → unbounded h ≤ total (crossing side) (if t then (record { from = node_of p a region v; to = at; cap = unbounded h } ∷ record { from = at + 1; to = node_of p a region v; cap = unbounded h } ∷ later) else later)
+          → unbounded h ≤ total (crossing side) (if t then (record { from = node_of p a region v; to = at; cap = unbounded h } ∷
+          record { from = at + 1; to = node_of p a region v; cap = unbounded h } ∷ later) else later)
       by true true t x g rest later lift =
           let c : (if is_in side (node_of p a region v) && not (is_in side at) then unbounded h else 0) ≡ unbounded h =
           ap (λ s. if s && not (is_in side at) then unbounded h else 0) (nodes v ∙ x) ∙ ap (λ s. if not s then unbounded h else 0) f in
@@ -128,9 +137,12 @@ module _ (h : Hyper) (p : List ℕ) (a b : ℕ) (region : List ℕ) (q : List �
       by false true t x g rest later lift = absurd (different (ap (λ s. s || nat_eq (block_of q v) b) (sym x) ∙ r.pair v ∙ t))
       by false false t x g rest later lift = lift (rest g)
 
-  pins-out : (at : ℕ) (pins : List ℕ) → list_any (λ v. nat_eq (block_of q v) b) pins ≡ true → is_in side (at + 1) ≡ true → unbounded h ≤ total (crossing side) (pin_arcs h p a b region at pins)
+  pins-out : (at : ℕ) (pins : List ℕ) → list_any (λ v. nat_eq (block_of q v) b) pins ≡ true → is_in side (at + 1) ≡ true →
+      unbounded h ≤ total (crossing side)
+      (pin_arcs h p a b region at pins)
   pins-out at [] e f = absurd (different (sym e))
-  pins-out at (v ∷ pins) e f = by (in_pair p a b v) (nat_eq (block_of q v) b) refl refl e (λ g. pins-out at pins g f) (pin_arcs h p a b region at pins) (λ l. l)
+  pins-out at (v ∷ pins) e f = by (in_pair p a b v) (nat_eq (block_of q v) b) refl refl e (λ g. pins-out at pins g f) (pin_arcs h p a b region at pins)
+      (λ l. l)
     where
       not_first : nat_eq (block_of q v) b ≡ true → nat_eq (block_of q v) a ≡ false
       not_first x = ne_eqb (block_of q v) a (λ z. apart (sym z ∙ eqb-true (block_of q v) b x))
@@ -142,27 +154,32 @@ module _ (h : Hyper) (p : List ℕ) (a b : ℕ) (region : List ℕ) (q : List �
       by : (t X : Bool) → in_pair p a b v ≡ t → nat_eq (block_of q v) b ≡ X → (X || list_any (λ u. nat_eq (block_of q u) b) pins) ≡ true
           → (list_any (λ u. nat_eq (block_of q u) b) pins ≡ true → unbounded h ≤ total (crossing side) (pin_arcs h p a b region at pins))
           → (later : List Arc) → (unbounded h ≤ total (crossing side) (pin_arcs h p a b region at pins) → unbounded h ≤ total (crossing side) later)
-          → unbounded h ≤ total (crossing side) (if t then (record { from = node_of p a region v; to = at; cap = unbounded h } ∷ record { from = at + 1; to = node_of p a region v; cap = unbounded h } ∷ later) else later)
+          → unbounded h ≤ total (crossing side) (if t then (record { from = node_of p a region v; to = at; cap = unbounded h } ∷
+          record { from = at + 1; to = node_of p a region v; cap = unbounded h } ∷ later) else later)
       by true true t x g rest later lift =
           let c : (if is_in side (at + 1) && not (is_in side (node_of p a region v)) then unbounded h else 0) ≡ unbounded h =
-          ap (λ s. if s && not (is_in side (node_of p a region v)) then unbounded h else 0) f ∙ ap (λ s. if not s then unbounded h else 0) (nodes v ∙ not_first x) in
+          ap (λ s. if s && not (is_in side (node_of p a region v)) then unbounded h else 0) f ∙ ap (λ s. if not s then unbounded h else 0)
+          (nodes v ∙ not_first x) in
           omega arith
       by true false t x g rest later lift = let d = lift (rest g) in omega arith
       by false true t x g rest later lift = absurd (different (sym (right (nat_eq (block_of q v) a) (nat_eq (block_of q v) b) x) ∙ r.pair v ∙ t))
       by false false t x g rest later lift = lift (rest g)
 
-  net-within : (at : ℕ) (e : Net) → total (crossing side) (net_arcs h p a b region at e) < unbounded h → touched_price e ≤ total (crossing side) (net_arcs h p a b region at e)
+  net-within : (at : ℕ) (e : Net) → total (crossing side) (net_arcs h p a b region at e) < unbounded h → touched_price e ≤ total (crossing side)
+      (net_arcs h p a b region at e)
   net-within at e small = by (has_pin q e a) (has_pin q e b) refl refl (is_in side at) (is_in side (at + 1)) refl refl
     where
       by : (A B : Bool) → has_pin q e a ≡ A → has_pin q e b ≡ B → (I O : Bool) → is_in side at ≡ I → is_in side (at + 1) ≡ O
-          → (if A && B then net_price h p a b e else 0) ≤ (if I && not O then net_price h p a b e else 0) + total (crossing side) (pin_arcs h p a b region at e.pins)
+          → (if A && B then net_price h p a b e else 0) ≤ (if I && not O then net_price h p a b e else 0) + total (crossing side)
+          (pin_arcs h p a b region at e.pins)
       by true true x y true false i o = omega arith
       by true true x y true true i o = absurd (let c = pins-out at e.pins y o in omega arith)
       by true true x y false O i o = absurd (let c = pins-into at e.pins x i in omega arith)
       by true false x y I O i o = omega arith
       by false B x y I O i o = omega arith
 
-  pub nets-within : (at : ℕ) (nets : List Net) → total (crossing side) (nets_arcs h p a b region at nets) < unbounded h → total touched_price nets ≤ total (crossing side) (nets_arcs h p a b region at nets)
+  pub nets-within : (at : ℕ) (nets : List Net) → total (crossing side) (nets_arcs h p a b region at nets) < unbounded h → total touched_price nets ≤ total
+      (crossing side) (nets_arcs h p a b region at nets)
   nets-within at [] small = omega arith
   nets-within at (e ∷ nets) small =
       let split = total-append (crossing side) (net_arcs h p a b region at e) (nets_arcs h p a b region (at + 2) nets) in
@@ -204,7 +221,8 @@ position-past (x ∷ xs) v l = by (nat_eq v x) refl l (position-past xs v)
     by false e m r = All-cons (λ u. u ≢ v) x xs (λ z. eqb-false v x e (sym z)) (r (omega arith))
 
 -- a side that has the vertices of the region by their blocks has every node by its block
-pub nodes-fit : (p q region : List ℕ) (a b : ℕ) (side : List Bool) → IsAssignment p a b region q → is_in side source_node ≡ true → is_in side sink_node ≡ false
+pub nodes-fit : (p q region : List ℕ) (a b : ℕ) (side : List Bool) → IsAssignment p a b region q → is_in side source_node ≡ true →
+    is_in side sink_node ≡ false
     → ((i : ℕ) → i < length region → is_in side (2 + i) ≡ nat_eq (block_of q (slice_index region i)) a)
     → (v : ℕ) → is_in side (node_of p a region v) ≡ nat_eq (block_of q v) a
 nodes-fit p q region a b side s source sink places v = by (cases_lt (position_or_len (nat_eq v) region) (length region))
@@ -213,16 +231,22 @@ nodes-fit p q region a b side s source sink places v = by (cases_lt (position_or
     outer true e = source
     outer false e = sink
 
-    by : (position_or_len (nat_eq v) region < length region) ⊎ (length region ≤ position_or_len (nat_eq v) region) → is_in side (node_of p a region v) ≡ nat_eq (block_of q v) a
+    by : (position_or_len (nat_eq v) region < length region) ⊎ (length region ≤ position_or_len (nat_eq v) region) → is_in side (node_of p a region v) ≡
+        nat_eq
+        (block_of q v) a
     by (inl l) =
-        ap (λ t. is_in side (if t then 2 + position_or_len (nat_eq v) region else (if nat_eq (block_of p v) a then source_node else sink_node))) (lt-ltb (position_or_len (nat_eq v) region) (length region) l)
+        ap (λ t. is_in side (if t then 2 + position_or_len (nat_eq v) region else (if nat_eq (block_of p v) a then source_node else sink_node)))
+        (lt-ltb (position_or_len (nat_eq v) region) (length region) l)
         ∙ places (position_or_len (nat_eq v) region) l ∙ ap (λ u. nat_eq (block_of q u) a) (position-at region v l)
     by (inr l) =
-        ap (λ t. is_in side (if t then 2 + position_or_len (nat_eq v) region else (if nat_eq (block_of p v) a then source_node else sink_node))) (le-ltb (position_or_len (nat_eq v) region) (length region) l)
+        ap (λ t. is_in side (if t then 2 + position_or_len (nat_eq v) region else (if nat_eq (block_of p v) a then source_node else sink_node)))
+        (le-ltb (position_or_len (nat_eq v) region) (length region) l)
         ∙ outer (nat_eq (block_of p v) a) refl ∙ ap (λ x. nat_eq x a) (sym (s.outside v (position-past region v l)))
 
-flags-fit : (p q region : List ℕ) (a b : ℕ) (h : Hyper) (apart : a ≢ b) (r : IsRearranged p q a b) (side : List Bool) (nodes : (v : ℕ) → is_in side (node_of p a region v) ≡ nat_eq (block_of q v) a)
-    → (before : List Bool) (nets : List Net) (at : ℕ) → at ≡ length before → side ≡ before ++ net_flags q a b nets → FitsNets h p a b region q side apart r nodes at nets
+flags-fit : (p q region : List ℕ) (a b : ℕ) (h : Hyper) (apart : a ≢ b) (r : IsRearranged p q a b) (side : List Bool)
+    (nodes : (v : ℕ) → is_in side (node_of p a region v) ≡ nat_eq (block_of q v) a)
+    → (before : List Bool) (nets : List Net) (at : ℕ) → at ≡ length before → side ≡ before ++ net_flags q a b nets → FitsNets h p a b region q side apart r
+    nodes at nets
 flags-fit p q region a b h apart r side nodes before [] at e is = tt
 flags-fit p q region a b h apart r side nodes before (n ∷ nets) at e is =
     let A = has_pin q n a in
@@ -241,10 +265,13 @@ touched-all : (h : Hyper) (p q region : List ℕ) (a b : ℕ) (apart : a ≢ b) 
     → total (λ e. if has_pin q e a && has_pin q e b then net_price h p a b e else 0) (joined_nets h p a b region) ≡ pair_cost h q a b
 touched-all h p q region a b apart r s =
     total-filter (λ e. if has_pin q e a && has_pin q e b then net_price h p a b e else 0) (joins p a b region) h.nets
-    ∙ total-same_each (λ e. if joins p a b region e then (if has_pin q e a && has_pin q e b then net_price h p a b e else 0) else 0) (λ e. if has_pin q e a && has_pin q e b then pair_price h.objective (leaves q a b e) e.weight else 0) each h.nets
+    ∙ total-same_each (λ e. if joins p a b region e then (if has_pin q e a && has_pin q e b then net_price h p a b e else 0) else 0)
+    (λ e. if has_pin q e a &&
+    has_pin q e b then pair_price h.objective (leaves q a b e) e.weight else 0) each h.nets
     ∙ sym (pair_total h q a b)
   where
-    same_block : (c : ℕ) (pins : List ℕ) → list_any (is_member nat_eq region) pins ≡ false → list_any (λ v. nat_eq (block_of p v) c) pins ≡ list_any (λ v. nat_eq (block_of q v) c) pins
+    same_block : (c : ℕ) (pins : List ℕ) → list_any (is_member nat_eq region) pins ≡ false → list_any (λ v. nat_eq (block_of p v) c) pins ≡ list_any
+        (λ v. nat_eq (block_of q v) c) pins
     same_block c [] e = refl
     same_block c (v ∷ pins) e = by (is_member nat_eq region v) refl e (same_block c pins)
       where
@@ -252,15 +279,20 @@ touched-all h p q region a b apart r s =
         absent [] f = All-nil (λ u. u ≢ v)
         absent (x ∷ xs) f = cases (nat_eq v x) refl f (absent xs)
           where
-            cases : (t : Bool) → nat_eq v x ≡ t → (t || is_member nat_eq xs v) ≡ false → (is_member nat_eq xs v ≡ false → All (λ u. u ≢ v) xs) → All (λ u. u ≢ v) (x ∷ xs)
+            cases : (t : Bool) → nat_eq v x ≡ t → (t || is_member nat_eq xs v) ≡ false → (is_member nat_eq xs v ≡ false → All (λ u. u ≢ v) xs) →
+                All (λ u. u ≢ v) (x ∷ xs)
             cases true g f rest = absurd (different f)
             cases false g f rest = All-cons (λ u. u ≢ v) x xs (λ z. eqb-false v x g (sym z)) (rest f)
 
         by : (m : Bool) → is_member nat_eq region v ≡ m → (m || list_any (is_member nat_eq region) pins) ≡ false
-            → (list_any (is_member nat_eq region) pins ≡ false → list_any (λ u. nat_eq (block_of p u) c) pins ≡ list_any (λ u. nat_eq (block_of q u) c) pins)
-            → (nat_eq (block_of p v) c || list_any (λ u. nat_eq (block_of p u) c) pins) ≡ (nat_eq (block_of q v) c || list_any (λ u. nat_eq (block_of q u) c) pins)
+            → (list_any (is_member nat_eq region) pins ≡ false → list_any (λ u. nat_eq (block_of p u) c) pins ≡ list_any (λ u. nat_eq (block_of q u) c)
+            pins)
+            → (nat_eq (block_of p v) c || list_any (λ u. nat_eq (block_of p u) c) pins) ≡ (nat_eq (block_of q v) c ||
+            list_any (λ u. nat_eq (block_of q u) c)
+            pins)
         by true f g rest = absurd (different g)
-        by false f g rest = ap (λ x. nat_eq x c || list_any (λ u. nat_eq (block_of p u) c) pins) (sym (s.outside v (absent region f))) ∙ ap (λ t. nat_eq (block_of q v) c || t) (rest g)
+        by false f g rest = ap (λ x. nat_eq x c || list_any (λ u. nat_eq (block_of p u) c) pins) (sym (s.outside v (absent region f))) ∙
+            ap (λ t. nat_eq (block_of q v) c || t) (rest g)
 
     each : (e : Net) → (if joins p a b region e then (if has_pin q e a && has_pin q e b then net_price h p a b e else 0) else 0)
         ≡ (if has_pin q e a && has_pin q e b then pair_price h.objective (leaves q a b e) e.weight else 0)
@@ -274,12 +306,14 @@ touched-all h p q region a b apart r s =
         nothing false z = refl
 
         by : (t : Bool) → (has_pin q e a && has_pin q e b) ≡ t → (m : Bool) → list_any (is_member nat_eq region) e.pins ≡ m
-            → (if joins p a b region e then (if t then net_price h p a b e else 0) else 0) ≡ (if t then pair_price h.objective (leaves q a b e) e.weight else 0)
+            → (if joins p a b region e then (if t then net_price h p a b e else 0) else 0) ≡ (if t then pair_price h.objective (leaves q a b e)
+            e.weight else 0)
         by false f m g = nothing (joins p a b region e) 0
         by true f true g = ap (λ t. if t then net_price h p a b e else 0) (joins_inside p a b region e g) ∙ price
         by true f false g =
             ap (λ t. if t then net_price h p a b e else 0)
-            (joins_outside p a b region e g ∙ ap (λ t. t && list_any (λ v. nat_eq (block_of p v) b) e.pins) (same_block a e.pins g) ∙ ap (λ t. has_pin q e a && t) (same_block b e.pins g) ∙ f)
+            (joins_outside p a b region e g ∙ ap (λ t. t && list_any (λ v. nat_eq (block_of p v) b) e.pins) (same_block a e.pins g) ∙
+            ap (λ t. has_pin q e a && t) (same_block b e.pins g) ∙ f)
             ∙ price
 
 get_or-map_at : (test : ℕ → Bool) (xs : List ℕ) (i : ℕ) → i < length xs → get_or (map test xs) i false ≡ test (slice_index xs i)
@@ -297,7 +331,8 @@ module _ (h : Hyper) (p : List ℕ) (a b : ℕ) (region q : List ℕ) (apart : a
   own_place : (i : ℕ) → i < length region → is_in own_side (2 + i) ≡ nat_eq (block_of q (slice_index region i)) a
   own_place i l =
       ap (is_in own_side) (let z : 2 + i ≡ suc (suc i) = omega arith in z)
-      ∙ get_or_append_left (region_flags q a region) (net_flags q a b (joined_nets h p a b region)) false i (let m = length-map region (λ v. nat_eq (block_of q v) a) in omega arith)
+      ∙ get_or_append_left (region_flags q a region) (net_flags q a b (joined_nets h p a b region)) false i
+      (let m = length-map region (λ v. nat_eq (block_of q v) a) in omega arith)
       ∙ get_or-map_at (λ v. nat_eq (block_of q v) a) region i l
 
   own_nodes : (v : ℕ) → is_in own_side (node_of p a region v) ≡ nat_eq (block_of q v) a
@@ -305,7 +340,8 @@ module _ (h : Hyper) (p : List ℕ) (a b : ℕ) (region q : List ℕ) (apart : a
 
   own_fits : FitsNets h p a b region q own_side apart own_arrangement own_nodes (2 + length region) (joined_nets h p a b region)
   own_fits =
-      flags-fit p q region a b h apart own_arrangement own_side own_nodes (true ∷ false ∷ region_flags q a region) (joined_nets h p a b region) (2 + length region)
+      flags-fit p q region a b h apart own_arrangement own_side own_nodes (true ∷ false ∷ region_flags q a region) (joined_nets h p a b region)
+      (2 + length region)
       (let m = length-map region (λ v. nat_eq (block_of q v) a) in omega arith) refl
 
   own_cut : cut_capacity (nets_arcs h p a b region (2 + length region) (joined_nets h p a b region)) own_side ≡ pair_cost h q a b
@@ -329,8 +365,10 @@ price-le ExternalDegree false w = omega arith
 
 pair_cost-le : (h : Hyper) (q : List ℕ) (a b : ℕ) → pair_cost h q a b < unbounded h
 pair_cost-le h q a b =
-    let each = total-le (λ (e : Net). if has_pin q e a && has_pin q e b then pair_price h.objective (leaves q a b e) e.weight else 0) (λ (e : Net). 2 * e.weight) h.nets
-    (λ i d l. by (has_pin q (get_or h.nets i d) a && has_pin q (get_or h.nets i d) b) (pair_price h.objective (leaves q a b (get_or h.nets i d)) (get_or h.nets i d).weight) (get_or h.nets i d).weight (price-le h.objective (leaves q a b (get_or h.nets i d)) (get_or h.nets i d).weight)) in
+    let each = total-le (λ (e : Net). if has_pin q e a && has_pin q e b then pair_price h.objective (leaves q a b e) e.weight else 0)
+    (λ (e : Net). 2 * e.weight) h.nets
+    (λ i d l. by (has_pin q (get_or h.nets i d) a && has_pin q (get_or h.nets i d) b) (pair_price h.objective (leaves q a b (get_or h.nets i d))
+    (get_or h.nets i d).weight) (get_or h.nets i d).weight (price-le h.objective (leaves q a b (get_or h.nets i d)) (get_or h.nets i d).weight)) in
     let all = pair_total h q a b in
     let twice = total-scale 2 (λ (e : Net). e.weight) h.nets in
     omega arith
@@ -363,7 +401,8 @@ module _ (h : Hyper) (k : ℕ) (p : List ℕ) (a b : ℕ) (region q : List ℕ) 
       let r = rearranged p q region a b inside s in
       let fit = nodes-fit p q region a b side s cut.holds_source cut.lacks_sink places in
       let total_is : total (crossing side) (nets_arcs h p a b region (2 + length region) (joined_nets h p a b region)) ≡ value =
-      sym (cut-total (nets_arcs h p a b region (2 + length region) (joined_nets h p a b region)) side) ∙ ap (λ xs. cut_capacity xs side) (sym arcs) ∙ cut.capacity in
+      sym (cut-total (nets_arcs h p a b region (2 + length region) (joined_nets h p a b region)) side) ∙ ap (λ xs. cut_capacity xs side) (sym arcs) ∙
+      cut.capacity in
       let small = value-small in
       let within = nets-within h p a b region q side apart r fit (2 + length region) (joined_nets h p a b region) (omega arith) in
       let all = touched-all h p q region a b apart r s in

@@ -1,5 +1,7 @@
 -- The end of a pair: the side of a minimum cut is a cheapest assignment of the region.
-use Rattle.std.proofs.Common.{◌≡◌, ◌≢◌, ◌⊎◌, inl, inr, ℕ, zero, suc, ◌+◌, ◌^◌, ◌<◌, ◌≤◌, Bool, true, false, nat_eq, if◌then◌else◌, List, [], ◌∷◌, length, All, Contains, refl, sym, ap, ◌∙◌, subst, arith, slice_index, get_or-set_same, get_or-set_other, length-set}
+use Rattle.std.proofs.Common.{◌≡◌, ◌≢◌, ◌⊎◌, inl, inr, ℕ, zero, suc, ◌+◌, ◌^◌, ◌<◌, ◌≤◌, Bool, true, false}
+use Rattle.std.proofs.Common.{nat_eq, if◌then◌else◌, List, [], ◌∷◌, length, All}
+use Rattle.std.proofs.Common.{Contains, refl, sym, ap, ◌∙◌, subst, arith, slice_index, get_or-set_same, get_or-set_other, length-set}
 use Rattle.std.specs.List.Sorted.{IsStrictlyIncreasing}
 use Rattle.std.proofs.lemmas.Bool.{eq-eqb, ne_eqb}
 use Rattle.std.proofs.lemmas.List.{get_or_default}
@@ -22,10 +24,12 @@ use Rattle.flow_pair.proofs.AssignmentLaws.{value-is, value-bound, cheapest}
 -- ---- the vertices of a region
 
 pub region_pair : (h : Hyper) (l : ℕ) (p : List ℕ) (a b : ℕ) → AreOfPair p a b (region h l p a b)
-region_pair h l p a b = All-weaker (λ v. IsFree h v × ((block_of p v ≡ a) ⊎ (block_of p v ≡ b))) (λ v. (block_of p v ≡ a) ⊎ (block_of p v ≡ b)) (λ v f. f.1) (region h l p a b) (region-free h l p a b)
+region_pair h l p a b = All-weaker (λ v. IsFree h v × ((block_of p v ≡ a) ⊎ (block_of p v ≡ b))) (λ v. (block_of p v ≡ a) ⊎ (block_of p v ≡ b)) (λ v f. f.1)
+    (region h l p a b) (region-free h l p a b)
 
 pub region_vertices : (h : Hyper) (l : ℕ) (p : List ℕ) (a b : ℕ) → IsHypergraph h → All (λ v. v < vertex_count h) (region h l p a b)
-region_vertices h l p a b sound = All-weaker (Contains (region h l p a b)) (λ v. v < vertex_count h) (λ v c. by v ((region_has_sides h l p a b v).0 c)) (region h l p a b) (All-contains_itself (region h l p a b))
+region_vertices h l p a b sound = All-weaker (Contains (region h l p a b)) (λ v. v < vertex_count h) (λ v c. by v ((region_has_sides h l p a b v).0 c))
+    (region h l p a b) (All-contains_itself (region h l p a b))
   where
     pin : (e : Net) (v : ℕ) → Contains h.nets e → Contains e.pins v → v < vertex_count h
     pin e v c d = All-contains (λ u. u < vertex_count h) e.pins v (All-contains (IsNet (vertex_count h)) h.nets e sound.nets c).pins d
@@ -49,14 +53,16 @@ reassigned-other : (p vs blocks : List ℕ) (u : ℕ) → All (λ v. v ≢ u) vs
 reassigned-other p [] blocks u n = refl
 reassigned-other p (v ∷ vs) [] u n = refl
 reassigned-other p (v ∷ vs) (b ∷ blocks) u n =
-    get_or-set_other (reassigned p vs blocks) v u b 0 (λ e. All-head (λ x. x ≢ u) v vs n (sym e)) ∙ reassigned-other p vs blocks u (All-tail (λ x. x ≢ u) v vs n)
+    get_or-set_other (reassigned p vs blocks) v u b 0 (λ e. All-head (λ x. x ≢ u) v vs n (sym e)) ∙ reassigned-other p vs blocks u
+    (All-tail (λ x. x ≢ u) v vs n)
 
 reassigned-at : (p vs blocks : List ℕ) (i : ℕ) → IsStrictlyIncreasing vs → All (λ v. v < length p) vs → length blocks ≡ length vs → i < length vs
     → block_of (reassigned p vs blocks) (slice_index vs i) ≡ slice_index blocks i
 reassigned-at p [] blocks i r inside long l = absurd (omega arith)
 reassigned-at p (v ∷ vs) [] i r inside long l = absurd (omega arith)
 reassigned-at p (v ∷ vs) (b ∷ blocks) zero r inside long l =
-    get_or-set_same (reassigned p vs blocks) v b 0 (let x = length-reassigned p vs blocks in let y = All-head (λ u. u < length p) v vs inside in omega arith)
+    get_or-set_same (reassigned p vs blocks) v b 0 (let x = length-reassigned p vs blocks in let y = All-head (λ u. u < length p) v vs inside in
+    omega arith)
 reassigned-at p (v ∷ vs) (b ∷ blocks) (suc i) r inside long l =
     let x = rising-first v vs i r (omega arith) in
     get_or-set_other (reassigned p vs blocks) v (slice_index vs i) b 0 (λ e. absurd (omega arith))
@@ -74,47 +80,60 @@ one_of false a b x e = inr e
 
 module _ (h : Hyper) (k l : ℕ) (p : List ℕ) (a b : ℕ) (blocks : List ℕ) (network : FlowNetwork) (value : ℕ) (flags : List Bool)
     (sound : IsHypergraph h) (bounds : IsWithinLimits h) (parted : IsPartition h k p) (fits : Fits h k l p) (order : a < b) (second : b < k)
-    (nodes : network.nodes ≡ (pair_network h p a b (region h l p a b)).nodes) (arcs : network.arcs ≡ (pair_network h p a b (region h l p a b)).arcs) (joined : IsNetwork network)
+    (nodes : network.nodes ≡ (pair_network h p a b (region h l p a b)).nodes) (arcs : network.arcs ≡ (pair_network h p a b (region h l p a b)).arcs)
+    (joined : IsNetwork network)
     (flow : IsFlow network source_node sink_node) (cut : IsFilledCut network source_node sink_node value flags)
-    (count : length blocks ≡ length (region h l p a b)) (each : (i : ℕ) → i < length blocks → slice_index blocks i ≡ (if is_in flags (2 + i) then a else b)) where
-  apart : a ≢ b
-  apart e = omega arith
+    (count : length blocks ≡ length (region h l p a b)) (each : (i : ℕ) → i < length blocks → slice_index blocks i ≡ (if is_in flags (2 + i) then a else b))
+  where
+    apart : a ≢ b
+    apart e = omega arith
 
-  inside_p : All (λ v. v < length p) (region h l p a b)
-  inside_p = All-weaker (λ v. v < vertex_count h) (λ v. v < length p) (λ v m. let e = parted.vertices in omega arith) (region h l p a b) (region_vertices h l p a b sound)
+    inside_p : All (λ v. v < length p) (region h l p a b)
+    inside_p = All-weaker (λ v. v < vertex_count h) (λ v. v < length p) (λ v m. let e = parted.vertices in omega arith) (region h l p a b)
+        (region_vertices h l p a b sound)
 
-  block_at : (i : ℕ) → i < length (region h l p a b) → block_of (reassigned p (region h l p a b) blocks) (slice_index (region h l p a b) i) ≡ (if is_in flags (2 + i) then a else b)
-  block_at i m = reassigned-at p (region h l p a b) blocks i (region_rises h l p a b) inside_p count m ∙ each i (omega arith)
+    block_at : (i : ℕ) → i < length (region h l p a b) → block_of (reassigned p (region h l p a b) blocks) (slice_index (region h l p a b) i) ≡
+        (if is_in flags (2 + i) then a else b)
+    block_at i m = reassigned-at p (region h l p a b) blocks i (region_rises h l p a b) inside_p count m ∙ each i (omega arith)
 
-  assigned_anew : IsAssignment p a b (region h l p a b) (reassigned p (region h l p a b) blocks)
-  assigned_anew = record {
-    vertices = length-reassigned p (region h l p a b) blocks;
-    inside = λ i d m. subst (λ v. (block_of (reassigned p (region h l p a b) blocks) v ≡ a) ⊎ (block_of (reassigned p (region h l p a b) blocks) v ≡ b)) (get_or_default (region h l p a b) i 0 d m)
-        (one_of (is_in flags (2 + i)) a b (block_of (reassigned p (region h l p a b) blocks) (slice_index (region h l p a b) i)) (block_at i m));
-    outside = λ v n. reassigned-other p (region h l p a b) blocks v n;
-  }
+    assigned_anew : IsAssignment p a b (region h l p a b) (reassigned p (region h l p a b) blocks)
+    assigned_anew = record {
+      vertices = length-reassigned p (region h l p a b) blocks;
+      inside = λ i d m. subst (λ v. (block_of (reassigned p (region h l p a b) blocks) v ≡ a) ⊎ (block_of (reassigned p (region h l p a b) blocks) v ≡ b))
+          (get_or_default (region h l p a b) i 0 d m)
+          (one_of (is_in flags (2 + i)) a b (block_of (reassigned p (region h l p a b) blocks) (slice_index (region h l p a b) i)) (block_at i m));
+      outside = λ v n. reassigned-other p (region h l p a b) blocks v n;
+    }
 
-  places : (i : ℕ) → i < length (region h l p a b) → is_in flags (2 + i) ≡ nat_eq (block_of (reassigned p (region h l p a b) blocks) (slice_index (region h l p a b) i)) a
-  places i m = sym (ap (λ x. nat_eq x a) (block_at i m) ∙ pair_of (is_in flags (2 + i)) a b apart)
+    places : (i : ℕ) → i < length (region h l p a b) → is_in flags (2 + i) ≡ nat_eq (block_of (reassigned p (region h l p a b) blocks)
+        (slice_index (region h l p a b) i)) a
+    places i m = sym (ap (λ x. nat_eq x a) (block_at i m) ∙ pair_of (is_in flags (2 + i)) a b apart)
 
-  pub end_value-small : value < 2 ^ 64
-  end_value-small =
-      let small = value-bound h k p a b (region h l p a b) (reassigned p (region h l p a b) blocks) network value flags sound parted (omega arith) second apart (region_pair h l p a b) nodes arcs joined flow cut assigned_anew places in
-      let weight = bounds.net_weight in
-      omega arith
+    pub end_value-small : value < 2 ^ 64
+    end_value-small =
+        let small = value-bound h k p a b (region h l p a b) (reassigned p (region h l p a b) blocks) network value flags sound parted (omega arith) second
+        apart
+        (region_pair h l p a b) nodes arcs joined flow cut assigned_anew places in
+        let weight = bounds.net_weight in
+        omega arith
 
-  pub pair_end : (end : PairEnd) → end.region ≡ region h l p a b → end.blocks ≡ blocks → end.value ≡ value → IsPairEnd h k l p a b end
-  pair_end end e f g =
-      let q = reassigned p (region h l p a b) blocks in
-      let same : reassigned p end.region end.blocks ≡ q = ap (λ vs. reassigned p vs end.blocks) e ∙ ap (reassigned p (region h l p a b)) f in
-      record {
-        vertices_of = e;
-        blocks_of = ap length f ∙ count ∙ sym (ap length e);
-        assigned = subst (λ vs. IsAssignment p a b vs (reassigned p end.region end.blocks)) (sym e) (subst (IsAssignment p a b (region h l p a b)) (sym same) assigned_anew);
-        fits = subst (Fits h k l) (sym same) (assignment-fits h k l p a b q (omega arith) second parted fits assigned_anew);
-        cheapest = λ other t.
-            subst (λ x. cost h x ≤ cost h other) (sym same)
-            (cheapest h k p a b (region h l p a b) q network value flags sound parted (omega arith) second apart (region_pair h l p a b) nodes arcs joined flow cut assigned_anew places other
-            (subst (λ vs. IsAssignment p a b vs other) e t));
-        value = g ∙ value-is h k p a b (region h l p a b) q network value flags sound parted (omega arith) second apart (region_pair h l p a b) nodes arcs joined flow cut assigned_anew places ∙ ap (λ x. pair_cost h x a b) (sym same);
-      }
+    pub pair_end : (end : PairEnd) → end.region ≡ region h l p a b → end.blocks ≡ blocks → end.value ≡ value → IsPairEnd h k l p a b end
+    pair_end end e f g =
+        let q = reassigned p (region h l p a b) blocks in
+        let same : reassigned p end.region end.blocks ≡ q = ap (λ vs. reassigned p vs end.blocks) e ∙ ap (reassigned p (region h l p a b)) f in
+        record {
+          vertices_of = e;
+          blocks_of = ap length f ∙ count ∙ sym (ap length e);
+          assigned = subst (λ vs. IsAssignment p a b vs (reassigned p end.region end.blocks)) (sym e)
+              (subst (IsAssignment p a b (region h l p a b)) (sym same)
+              assigned_anew);
+          fits = subst (Fits h k l) (sym same) (assignment-fits h k l p a b q (omega arith) second parted fits assigned_anew);
+          cheapest = λ other t.
+              subst (λ x. cost h x ≤ cost h other) (sym same)
+              (cheapest h k p a b (region h l p a b) q network value flags sound parted (omega arith) second apart (region_pair h l p a b) nodes arcs
+              joined flow
+              cut assigned_anew places other
+              (subst (λ vs. IsAssignment p a b vs other) e t));
+          value = g ∙ value-is h k p a b (region h l p a b) q network value flags sound parted (omega arith) second apart (region_pair h l p a b) nodes arcs
+              joined flow cut assigned_anew places ∙ ap (λ x. pair_cost h x a b) (sym same);
+        }

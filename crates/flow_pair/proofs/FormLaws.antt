@@ -1,5 +1,6 @@
 -- Forming a region: flags of vertices, and vertices taken one after the other.
-use Rattle.std.proofs.Common.{◌≡◌, ◌≢◌, ℕ, zero, suc, ◌+◌, ◌-◌, ◌<◌, ◌≤◌, Bool, true, false, ◌&&◌, ◌||◌, nat_eq, nat_lt, if◌then◌else◌, List, [], ◌∷◌, ◌++◌, length, filter, drop, get_or, refl, sym, ap, ◌∙◌, arith}
+use Rattle.std.proofs.Common.{◌≡◌, ◌≢◌, ℕ, zero, suc, ◌+◌, ◌-◌, ◌<◌, ◌≤◌, Bool, true, false, ◌&&◌, ◌||◌, nat_eq, nat_lt, if◌then◌else◌}
+use Rattle.std.proofs.Common.{List, [], ◌∷◌, ◌++◌, length, filter, drop, get_or, refl, sym, ap, ◌∙◌, arith}
 use Rattle.std.specs.List.{list_any}
 use Rattle.std.proofs.lemmas.List.{drop_more, append-nil}
 use Rattle.std.proofs.lemmas.List.FromFn.{length-range_with_len, get_or-range_with_len}
@@ -32,7 +33,8 @@ pub none-filter : {A : Type 0} (test : A → Bool) (xs : List A) → list_any te
 none-filter test [] e = refl
 none-filter test (x ∷ xs) e = by (test x) e (none-filter test xs)
   where
-    by : (t : Bool) → (t || list_any test xs) ≡ false → (list_any test xs ≡ false → filter test xs ≡ []) → (if t then (x ∷ filter test xs) else filter test xs) ≡ []
+    by : (t : Bool) → (t || list_any test xs) ≡ false → (list_any test xs ≡ false → filter test xs ≡ []) →
+        (if t then (x ∷ filter test xs) else filter test xs) ≡ []
     by true e r = absurd (let z : true ≡ false = e in cc)
     by false e r = r e
 
@@ -40,7 +42,8 @@ pub filter-none : {A : Type 0} (test : A → Bool) (xs : List A) → filter test
 filter-none test [] e = refl
 filter-none test (x ∷ xs) e = by (test x) e (filter-none test xs)
   where
-    by : (t : Bool) → (if t then (x ∷ filter test xs) else filter test xs) ≡ [] → (filter test xs ≡ [] → list_any test xs ≡ false) → (t || list_any test xs) ≡ false
+    by : (t : Bool) → (if t then (x ∷ filter test xs) else filter test xs) ≡ [] → (filter test xs ≡ [] → list_any test xs ≡ false) →
+        (t || list_any test xs) ≡ false
     by true e r = absurd (let z = ap length e in omega arith)
     by false e r = r e
 
@@ -48,7 +51,8 @@ pub near-told : (h : Hyper) (p : List ℕ) (a b v : ℕ) (flag : Bool) → IsFre
     → flag ≡ (is_free h v && nat_eq (block_of p v) a && list_any (λ e. holds e v) (touching h p a b))
 near-told h p a b v flag f e t =
     t ∙ sym (any-filter (λ (n : Net). holds n v) (λ n. has_pin p n a && has_pin p n b) h.nets)
-    ∙ ap (λ s. s && list_any (λ (n : Net). holds n v) (touching h p a b)) (sym (ap (λ s. s && nat_eq (block_of p v) a) (eq-eqb (fix_of h v) FREE f) ∙ eq-eqb (block_of p v) a e))
+    ∙ ap (λ s. s && list_any (λ (n : Net). holds n v) (touching h p a b)) (sym (ap (λ s. s && nat_eq (block_of p v) a) (eq-eqb (fix_of h v) FREE f) ∙
+    eq-eqb (block_of p v) a e))
 
 pub swapped : (p : List ℕ) (a b v : ℕ) (nets : List Net) → list_any (joins_at p a b v) nets ≡ list_any (joins_at p b a v) nets
 swapped p a b v nets = any_same (joins_at p a b v) (joins_at p b a v) nets (λ e. ap (λ t. t && holds e v) (both (has_pin p e a) (has_pin p e b)))
@@ -73,7 +77,8 @@ some_pin p pins b n e z = has_pin-count p pins b ∙ lt-ltb 0 (pins_in p pins b)
 
 module _ (h : Hyper) (test : ℕ → Bool) where
   step : (v : ℕ) (vs : List ℕ) → v < vertex_count h
-      → (if test v then (v ∷ (filter test (drop (v + 1) (vertices h)) ++ vs)) else (filter test (drop (v + 1) (vertices h)) ++ vs)) ≡ filter test (drop v (vertices h)) ++ vs
+      → (if test v then (v ∷ (filter test (drop (v + 1) (vertices h)) ++ vs)) else (filter test (drop (v + 1) (vertices h)) ++ vs)) ≡ filter test
+      (drop v (vertices h)) ++ vs
   step v vs l =
       let inside : v < length (vertices h) = (let n = length-range_with_len 0 (vertex_count h) in omega arith) in
       let here : get_or (vertices h) v 0 ≡ v = get_or-range_with_len 0 (vertex_count h) v 0 l ∙ (let z : 0 + v ≡ v = omega arith in z) in
@@ -84,19 +89,22 @@ module _ (h : Hyper) (test : ℕ → Bool) where
       pull true x xs = refl
       pull false x xs = refl
 
-  pub take_step : (left left' room v : ℕ) (passes : Bool) (list list' start : List ℕ) → v < vertex_count h → passes ≡ test v → TakesOne h left passes v list list' left'
+  pub take_step : (left left' room v : ℕ) (passes : Bool) (list list' start : List ℕ) → v < vertex_count h → passes ≡ test v → TakesOne h left passes v list
+      list' left'
       → ((vs : List ℕ) → list ++ taken h left (filter test (drop v (vertices h)) ++ vs) ≡ start ++ taken h room (filter test (vertices h) ++ vs))
       → (vs : List ℕ) → list' ++ taken h left' (filter test (drop (v + 1) (vertices h)) ++ vs) ≡ start ++ taken h room (filter test (vertices h) ++ vs)
   take_step left left' room v passes list list' start l e one all vs =
       one (filter test (drop (v + 1) (vertices h)) ++ vs)
-      ∙ ap (λ t. list ++ taken h left (if t then (v ∷ (filter test (drop (v + 1) (vertices h)) ++ vs)) else (filter test (drop (v + 1) (vertices h)) ++ vs))) e
+      ∙ ap (λ t. list ++ taken h left (if t then (v ∷ (filter test (drop (v + 1) (vertices h)) ++ vs)) else (filter test (drop (v + 1) (vertices h)) ++
+      vs))) e
       ∙ ap (λ xs. list ++ taken h left xs) (step v vs l) ∙ all vs
 
   pub take_end : (left room v : ℕ) (list start : List ℕ) → vertex_count h ≤ v
       → ((vs : List ℕ) → list ++ taken h left (filter test (drop v (vertices h)) ++ vs) ≡ start ++ taken h room (filter test (vertices h) ++ vs))
       → (vs : List ℕ) → list ++ taken h left vs ≡ start ++ taken h room (filter test (vertices h) ++ vs)
   take_end left room v list start l all vs =
-      ap (λ xs. list ++ taken h left (filter test xs ++ vs)) (sym (past (vertices h) v (let n = length-range_with_len 0 (vertex_count h) in omega arith))) ∙ all vs
+      ap (λ xs. list ++ taken h left (filter test xs ++ vs)) (sym (past (vertices h) v (let n = length-range_with_len 0 (vertex_count h) in omega arith))) ∙
+      all vs
     where
       past : (xs : List ℕ) (n : ℕ) → length xs ≤ n → drop n xs ≡ []
       past [] zero m = refl
@@ -109,12 +117,14 @@ pub side_taken : (h : Hyper) (l : ℕ) (p blocks : List ℕ) (a b room left rest
     → TakesAll h room (is_near h blocks a b) start mid left → TakesAll h left (is_next h blocks a b) mid end rest → end ≡ start ++ side h l p a b
 side_taken h l p blocks a b room left rest start mid end e r near next =
     let first : end ++ [] ≡ mid ++ taken h left (filter (is_next h blocks a b) (vertices h) ++ []) = next [] in
-    sym (append-nil end) ∙ first ∙ ap (λ xs. mid ++ taken h left xs) (append-nil (filter (is_next h blocks a b) (vertices h))) ∙ near (filter (is_next h blocks a b) (vertices h))
+    sym (append-nil end) ∙ first ∙ ap (λ xs. mid ++ taken h left xs) (append-nil (filter (is_next h blocks a b) (vertices h))) ∙
+    near (filter (is_next h blocks a b) (vertices h))
     ∙ ap (λ n. start ++ taken h n (filter (is_near h blocks a b) (vertices h) ++ filter (is_next h blocks a b) (vertices h))) r
     ∙ ap (λ q. start ++ taken h (l - load h p b) (filter (is_near h q a b) (vertices h) ++ filter (is_next h q a b) (vertices h))) e
 
 -- the region, of both sides
-pub region_formed : (h : Hyper) (l : ℕ) (p : List ℕ) (a b : ℕ) (start one both ordered set : List ℕ) → start ≡ [] → one ≡ start ++ side h l p a b → both ≡ one ++ side h l p b a
+pub region_formed : (h : Hyper) (l : ℕ) (p : List ℕ) (a b : ℕ) (start one both ordered set : List ℕ) → start ≡ [] → one ≡ start ++ side h l p a b →
+    both ≡ one ++ side h l p b a
     → IsPermutation both ordered → IsSorted nat_cmp ordered → IsFiltered (DiffersFromLast nat_eq) [] ordered set → set ≡ region h l p a b
 region_formed h l p a b start one both ordered set s e f m o d =
     set_from_sort_dedup both ordered set m o d ∙ ap (set_of nat_cmp) (f ∙ ap (λ xs. xs ++ side h l p b a) (e ∙ ap (λ xs. xs ++ side h l p a b) s))

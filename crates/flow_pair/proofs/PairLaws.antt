@@ -1,5 +1,6 @@
 -- What an assignment of vertices to two blocks changes: nothing but what the nets pay for touching both.
-use Rattle.std.proofs.Common.{◌≡◌, ◌≢◌, ◌⊎◌, inl, inr, ℕ, zero, suc, ◌+◌, ◌*◌, ◌<◌, Bool, true, false, ◌&&◌, ◌||◌, not, nat_eq, nat_lt, if◌then◌else◌, List, [], ◌∷◌, All, Contains, refl, sym, ap, ◌∙◌, subst, arith}
+use Rattle.std.proofs.Common.{◌≡◌, ◌≢◌, ◌⊎◌, inl, inr, ℕ, zero, suc, ◌+◌, ◌*◌, ◌<◌, Bool, true, false, ◌&&◌, ◌||◌, not, nat_eq, nat_lt}
+use Rattle.std.proofs.Common.{if◌then◌else◌, List, [], ◌∷◌, All, Contains, refl, sym, ap, ◌∙◌, subst, arith}
 use Rattle.std.specs.List.{list_any}
 use Rattle.std.proofs.lemmas.Bool.{cases_eq, eqb-false, eq-eqb, ne_eqb, lt-ltb}
 use Rattle.std.proofs.lemmas.Int.{ints}
@@ -134,14 +135,16 @@ different e = cc
 
 -- two ways to touch the blocks of a pair
 net_pays : (o : Objective) (L : Bool) (D w : ℕ) (A B A' B' : Bool) → (L ≡ false → D ≡ 0) → (L ≡ true → 0 < D) → (A || B) ≡ (A' || B')
-    → w * price o (D + (one_if A + one_if B)) + (if A' && B' then pair_price o L w else 0) ≡ w * price o (D + (one_if A' + one_if B')) + (if A && B then pair_price o L w else 0)
+    → w * price o (D + (one_if A + one_if B)) + (if A' && B' then pair_price o L w else 0) ≡ w * price o (D + (one_if A' + one_if B')) +
+    (if A && B then pair_price o L w else 0)
 net_pays o L D w A B A' B' none some e = by A B A' B' e
   where
     step : w * price o (D + 2) ≡ w * price o (D + 1) + pair_price o L w
     step = price_step o L D w none some
 
     by : (A B A' B' : Bool) → (A || B) ≡ (A' || B')
-        → w * price o (D + (one_if A + one_if B)) + (if A' && B' then pair_price o L w else 0) ≡ w * price o (D + (one_if A' + one_if B')) + (if A && B then pair_price o L w else 0)
+        → w * price o (D + (one_if A + one_if B)) + (if A' && B' then pair_price o L w else 0) ≡ w * price o (D + (one_if A' + one_if B')) +
+        (if A && B then pair_price o L w else 0)
     by true true true true e = refl
     by true true true false e = let s = step in omega arith
     by true true false true e = let s = step in omega arith
@@ -178,15 +181,18 @@ split_two f k a b la lb apart =
 -- the tests of a net, before and after
 pub same_leaves : (p q : List ℕ) (a b : ℕ) (e : Net) → IsRearranged p q a b → leaves q a b e ≡ leaves p a b e
 same_leaves p q a b e r =
-    any_same (λ v. not (nat_eq (block_of q v) a) && not (nat_eq (block_of q v) b)) (λ v. not (nat_eq (block_of p v) a) && not (nat_eq (block_of p v) b)) e.pins
-    (λ v. neither (nat_eq (block_of q v) a) (nat_eq (block_of q v) b) ∙ ap not (r.pair v) ∙ sym (neither (nat_eq (block_of p v) a) (nat_eq (block_of p v) b)))
+    any_same (λ v. not (nat_eq (block_of q v) a) && not (nat_eq (block_of q v) b)) (λ v. not (nat_eq (block_of p v) a) && not (nat_eq (block_of p v) b))
+    e.pins
+    (λ v. neither (nat_eq (block_of q v) a) (nat_eq (block_of q v) b) ∙ ap not (r.pair v) ∙
+    sym (neither (nat_eq (block_of p v) a) (nat_eq (block_of p v) b)))
   where
     neither : (s t : Bool) → (not s && not t) ≡ not (s || t)
     neither true t = refl
     neither false t = refl
 
 -- what all nets pay, net by net
-pub pair_total : (h : Hyper) (q : List ℕ) (a b : ℕ) → pair_cost h q a b ≡ total (λ e. if has_pin q e a && has_pin q e b then pair_price h.objective (leaves q a b e) e.weight else 0) h.nets
+pub pair_total : (h : Hyper) (q : List ℕ) (a b : ℕ) → pair_cost h q a b ≡ total (λ e. if has_pin q e a && has_pin q e b then pair_price h.objective
+    (leaves q a b e) e.weight else 0) h.nets
 pair_total h q a b = total-filter (λ e. pair_price h.objective (leaves q a b e) e.weight) (λ e. has_pin q e a && has_pin q e b) h.nets
 
 module _ (k a b : ℕ) (first : a < k) (second : b < k) (apart : a ≢ b) where
@@ -197,7 +203,8 @@ module _ (k a b : ℕ) (first : a < k) (second : b < k) (apart : a ≢ b) where
   touches q pins c = ap one_if (sym (has_pin-count q pins c))
 
   connectivity-split : (q pins : List ℕ) → All (λ v. block_of q v < k) pins
-      → connectivity q pins ≡ outer_blocks q pins + (one_if (list_any (λ v. nat_eq (block_of q v) a) pins) + one_if (list_any (λ v. nat_eq (block_of q v) b) pins))
+      → connectivity q pins ≡ outer_blocks q pins + (one_if (list_any (λ v. nat_eq (block_of q v) a) pins) + one_if
+      (list_any (λ v. nat_eq (block_of q v) b) pins))
   connectivity-split q pins below =
       let sum = connectivity-sum k q pins below in
       let two = split_two (λ c. present (pins_in q pins c)) k a b first second apart in
@@ -207,34 +214,45 @@ module _ (k a b : ℕ) (first : a < k) (second : b < k) (apart : a ≢ b) where
 
   -- the other blocks are the same
   pins_in-same : (p q pins : List ℕ) (c : ℕ) → IsRearranged p q a b → c ≢ a → c ≢ b → pins_in q pins c ≡ pins_in p pins c
-  pins_in-same p q pins c r x y = total-same (λ v. if nat_eq (block_of q v) c then 1 else 0) (λ v. if nat_eq (block_of p v) c then 1 else 0) pins (λ i d l. ap one_if (r.others _ c x y))
+  pins_in-same p q pins c r x y = total-same (λ v. if nat_eq (block_of q v) c then 1 else 0) (λ v. if nat_eq (block_of p v) c then 1 else 0) pins
+      (λ i d l. ap one_if (r.others _ c x y))
 
   outer-same : (p q pins : List ℕ) → IsRearranged p q a b → outer_blocks q pins ≡ outer_blocks p pins
-  outer-same p q pins r = sum_below-same (others_of (λ c. present (pins_in q pins c)) a b) (others_of (λ c. present (pins_in p pins c)) a b) k (λ c l. by c (cases_eq c b) (cases_eq c a))
+  outer-same p q pins r = sum_below-same (others_of (λ c. present (pins_in q pins c)) a b) (others_of (λ c. present (pins_in p pins c)) a b) k
+      (λ c l. by c (cases_eq c b) (cases_eq c a))
     where
-      by : (c : ℕ) → (c ≡ b) ⊎ (c ≢ b) → (c ≡ a) ⊎ (c ≢ a) → others_of (λ d. present (pins_in q pins d)) a b c ≡ others_of (λ d. present (pins_in p pins d)) a b c
-      by c (inl e) s = ap (λ t. if t then 0 else (if nat_eq c a then 0 else present (pins_in q pins c))) (eq-eqb c b e) ∙ sym (ap (λ t. if t then 0 else (if nat_eq c a then 0 else present (pins_in p pins c))) (eq-eqb c b e))
-      by c (inr n) (inl e) = ap (λ t. if nat_eq c b then 0 else (if t then 0 else present (pins_in q pins c))) (eq-eqb c a e) ∙ sym (ap (λ t. if nat_eq c b then 0 else (if t then 0 else present (pins_in p pins c))) (eq-eqb c a e))
+      by : (c : ℕ) → (c ≡ b) ⊎ (c ≢ b) → (c ≡ a) ⊎ (c ≢ a) → others_of (λ d. present (pins_in q pins d)) a b c ≡ others_of
+          (λ d. present (pins_in p pins d)) a
+          b c
+      by c (inl e) s = ap (λ t. if t then 0 else (if nat_eq c a then 0 else present (pins_in q pins c))) (eq-eqb c b e) ∙
+          sym (ap (λ t. if t then 0 else (if nat_eq c a then 0 else present (pins_in p pins c))) (eq-eqb c b e))
+      by c (inr n) (inl e) = ap (λ t. if nat_eq c b then 0 else (if t then 0 else present (pins_in q pins c))) (eq-eqb c a e) ∙
+          sym (ap (λ t. if nat_eq c b then 0 else (if t then 0 else present (pins_in p pins c))) (eq-eqb c a e))
       by c (inr n) (inr m) = ap (λ x. if nat_eq c b then 0 else (if nat_eq c a then 0 else present x)) (pins_in-same p q pins c r m n)
 
   -- a net leaves the pair where it touches another block
   leaves-none : (p : List ℕ) (e : Net) → leaves p a b e ≡ false → outer_blocks p e.pins ≡ 0
   leaves-none p e none = sum_below-zero (others_of (λ c. present (pins_in p e.pins c)) a b) k (λ c l. by c (cases_eq c b) (cases_eq c a))
     where
-      absent : (c : ℕ) → c ≢ a → c ≢ b → (pins : List ℕ) → list_any (λ v. not (nat_eq (block_of p v) a) && not (nat_eq (block_of p v) b)) pins ≡ false → list_any (λ v. nat_eq (block_of p v) c) pins ≡ false
+      absent : (c : ℕ) → c ≢ a → c ≢ b → (pins : List ℕ) → list_any (λ v. not (nat_eq (block_of p v) a) && not (nat_eq (block_of p v) b)) pins ≡ false →
+          list_any (λ v. nat_eq (block_of p v) c) pins ≡ false
       absent c x y [] e = refl
       absent c x y (v ∷ pins) e =
-          let parts = or_false (not (nat_eq (block_of p v) a) && not (nat_eq (block_of p v) b)) (list_any (λ u. not (nat_eq (block_of p u) a) && not (nat_eq (block_of p u) b)) pins) e in
+          let parts = or_false (not (nat_eq (block_of p v) a) && not (nat_eq (block_of p v) b))
+          (list_any (λ u. not (nat_eq (block_of p u) a) && not (nat_eq (block_of p u) b)) pins) e in
           ap (λ t. t || list_any (λ u. nat_eq (block_of p u) c) pins) (here v parts.0 (cases_eq (block_of p v) c)) ∙ absent c x y pins parts.1
         where
-          here : (v : ℕ) → (not (nat_eq (block_of p v) a) && not (nat_eq (block_of p v) b)) ≡ false → (block_of p v ≡ c) ⊎ (block_of p v ≢ c) → nat_eq (block_of p v) c ≡ false
+          here : (v : ℕ) → (not (nat_eq (block_of p v) a) && not (nat_eq (block_of p v) b)) ≡ false → (block_of p v ≡ c) ⊎ (block_of p v ≢ c) →
+              nat_eq (block_of p v) c ≡ false
           here v f (inr n) = ne_eqb (block_of p v) c n
           here v f (inl s) =
-              absurd (different (sym (ap (λ t. not t && not (nat_eq (block_of p v) b)) (ne_eqb (block_of p v) a (λ z. x (sym s ∙ z))) ∙ ap not (ne_eqb (block_of p v) b (λ z. y (sym s ∙ z)))) ∙ f))
+              absurd (different (sym (ap (λ t. not t && not (nat_eq (block_of p v) b)) (ne_eqb (block_of p v) a (λ z. x (sym s ∙ z))) ∙
+              ap not (ne_eqb (block_of p v) b (λ z. y (sym s ∙ z)))) ∙ f))
 
       by : (c : ℕ) → (c ≡ b) ⊎ (c ≢ b) → (c ≡ a) ⊎ (c ≢ a) → others_of (λ d. present (pins_in p e.pins d)) a b c ≡ 0
       by c (inl s) t = ap (λ t. if t then 0 else (if nat_eq c a then 0 else present (pins_in p e.pins c))) (eq-eqb c b s)
-      by c (inr n) (inl s) = ap (λ t. if t then 0 else (if nat_eq c a then 0 else present (pins_in p e.pins c))) (ne_eqb c b n) ∙ ap (λ t. if t then 0 else present (pins_in p e.pins c)) (eq-eqb c a s)
+      by c (inr n) (inl s) = ap (λ t. if t then 0 else (if nat_eq c a then 0 else present (pins_in p e.pins c))) (ne_eqb c b n) ∙
+          ap (λ t. if t then 0 else present (pins_in p e.pins c)) (eq-eqb c a s)
       by c (inr n) (inr m) =
           ap (λ t. if t then 0 else (if nat_eq c a then 0 else present (pins_in p e.pins c))) (ne_eqb c b n)
           ∙ ap (λ t. if t then 0 else present (pins_in p e.pins c)) (ne_eqb c a m) ∙ touches p e.pins c ∙ ap one_if (absent c m n e.pins none)
@@ -257,19 +275,23 @@ module _ (k a b : ℕ) (first : a < k) (second : b < k) (apart : a ≢ b) where
       and_both true t e = (refl, e)
       and_both false t e = absurd (different (sym e))
 
-      found : (pins : List ℕ) → All (λ v. block_of p v < k) pins → list_any (λ v. not (nat_eq (block_of p v) a) && not (nat_eq (block_of p v) b)) pins ≡ true
+      found : (pins : List ℕ) → All (λ v. block_of p v < k) pins → list_any (λ v. not (nat_eq (block_of p v) a) && not (nat_eq (block_of p v) b)) pins ≡
+          true
           → (c : ℕ) × (c < k) × (c ≢ a) × (c ≢ b) × (list_any (λ v. nat_eq (block_of p v) c) pins ≡ true)
       found [] all e = absurd (different (sym e))
       found (v ∷ pins) all e =
-          by (or_true (not (nat_eq (block_of p v) a) && not (nat_eq (block_of p v) b)) (list_any (λ u. not (nat_eq (block_of p u) a) && not (nat_eq (block_of p u) b)) pins) e)
+          by (or_true (not (nat_eq (block_of p v) a) && not (nat_eq (block_of p v) b))
+          (list_any (λ u. not (nat_eq (block_of p u) a) && not (nat_eq (block_of p u) b)) pins) e)
           (λ t. found pins (All-tail (λ u. block_of p u < k) v pins all) t)
         where
           or_right : (s t : Bool) → t ≡ true → (s || t) ≡ true
           or_right true t e = refl
           or_right false t e = e
 
-          by : ((not (nat_eq (block_of p v) a) && not (nat_eq (block_of p v) b)) ≡ true) ⊎ (list_any (λ u. not (nat_eq (block_of p u) a) && not (nat_eq (block_of p u) b)) pins ≡ true)
-              → (list_any (λ u. not (nat_eq (block_of p u) a) && not (nat_eq (block_of p u) b)) pins ≡ true → (c : ℕ) × (c < k) × (c ≢ a) × (c ≢ b) × (list_any (λ u. nat_eq (block_of p u) c) pins ≡ true))
+          by : ((not (nat_eq (block_of p v) a) && not (nat_eq (block_of p v) b)) ≡ true) ⊎
+              (list_any (λ u. not (nat_eq (block_of p u) a) && not (nat_eq (block_of p u) b)) pins ≡ true)
+              → (list_any (λ u. not (nat_eq (block_of p u) a) && not (nat_eq (block_of p u) b)) pins ≡ true → (c : ℕ) × (c < k) × (c ≢ a) × (c ≢ b) ×
+              (list_any (λ u. nat_eq (block_of p u) c) pins ≡ true))
               → (c : ℕ) × (c < k) × (c ≢ a) × (c ≢ b) × (list_any (λ u. nat_eq (block_of p u) c) (v ∷ pins) ≡ true)
           by (inl t) later =
               let both = and_both (not (nat_eq (block_of p v) a)) (not (nat_eq (block_of p v) b)) t in (
@@ -284,9 +306,11 @@ module _ (k a b : ℕ) (first : a < k) (second : b < k) (apart : a ≢ b) where
               (w.0, w.1, w.2, w.3, or_right (nat_eq (block_of p v) w.0) (list_any (λ u. nat_eq (block_of p u) w.0) pins) w.4)
 
   -- the tests of a net, before and after
-  in_pair-any : (q pins : List ℕ) → list_any (in_pair q a b) pins ≡ (list_any (λ v. nat_eq (block_of q v) a) pins || list_any (λ v. nat_eq (block_of q v) b) pins)
+  in_pair-any : (q pins : List ℕ) → list_any (in_pair q a b) pins ≡ (list_any (λ v. nat_eq (block_of q v) a) pins || list_any (λ v. nat_eq (block_of q v) b)
+      pins)
   in_pair-any q [] = refl
-  in_pair-any q (v ∷ pins) = ap (λ t. in_pair q a b v || t) (in_pair-any q pins) ∙ swapped (nat_eq (block_of q v) a) (nat_eq (block_of q v) b) (list_any (λ u. nat_eq (block_of q u) a) pins) (list_any (λ u. nat_eq (block_of q u) b) pins)
+  in_pair-any q (v ∷ pins) = ap (λ t. in_pair q a b v || t) (in_pair-any q pins) ∙ swapped (nat_eq (block_of q v) a) (nat_eq (block_of q v) b)
+      (list_any (λ u. nat_eq (block_of q u) a) pins) (list_any (λ u. nat_eq (block_of q u) b) pins)
     where
       swapped : (s t x y : Bool) → ((s || t) || (x || y)) ≡ ((s || x) || (t || y))
       swapped true t x y = refl
@@ -295,7 +319,8 @@ module _ (k a b : ℕ) (first : a < k) (second : b < k) (apart : a ≢ b) where
       swapped false false x y = refl
 
   -- what a net costs and pays, in two arrangements
-  net_differs : (o : Objective) (p q other : List ℕ) (e : Net) → IsRearranged p q a b → IsRearranged p other a b → All (λ v. block_of p v < k) e.pins → All (λ v. block_of q v < k) e.pins → All (λ v. block_of other v < k) e.pins
+  net_differs : (o : Objective) (p q other : List ℕ) (e : Net) → IsRearranged p q a b → IsRearranged p other a b → All (λ v. block_of p v < k) e.pins →
+      All (λ v. block_of q v < k) e.pins → All (λ v. block_of other v < k) e.pins
       → net_cost o q e + (if has_pin other e a && has_pin other e b then pair_price o (leaves other a b e) e.weight else 0)
       ≡ net_cost o other e + (if has_pin q e a && has_pin q e b then pair_price o (leaves q a b e) e.weight else 0)
   net_differs o p q other e r s below below_q below_other =
@@ -305,31 +330,39 @@ module _ (k a b : ℕ) (first : a < k) (second : b < k) (apart : a ≢ b) where
       net_pays o L D e.weight (has_pin q e a) (has_pin q e b) (has_pin other e a) (has_pin other e b) (leaves-none p e) (leaves-some p e below)
       (sym (in_pair-any q e.pins) ∙ any_same (in_pair q a b) (in_pair other a b) e.pins (λ v. r.pair v ∙ sym (s.pair v)) ∙ in_pair-any other e.pins) in
       let cost_q : net_cost o q e ≡ e.weight * price o (D + (one_if (has_pin q e a) + one_if (has_pin q e b))) =
-      ap (λ n. e.weight * price o n) (connectivity-split q e.pins below_q ∙ ap (λ n. n + (one_if (has_pin q e a) + one_if (has_pin q e b))) (outer-same p q e.pins r)) in
+      ap (λ n. e.weight * price o n) (connectivity-split q e.pins below_q ∙ ap (λ n. n + (one_if (has_pin q e a) + one_if (has_pin q e b)))
+      (outer-same p q e.pins r)) in
       let cost_other : net_cost o other e ≡ e.weight * price o (D + (one_if (has_pin other e a) + one_if (has_pin other e b))) =
-      ap (λ n. e.weight * price o n) (connectivity-split other e.pins below_other ∙ ap (λ n. n + (one_if (has_pin other e a) + one_if (has_pin other e b))) (outer-same p other e.pins s)) in
-      let pays_other : (if has_pin other e a && has_pin other e b then pair_price o (leaves other a b e) e.weight else 0) ≡ (if has_pin other e a && has_pin other e b then pair_price o L e.weight else 0) =
+      ap (λ n. e.weight * price o n) (connectivity-split other e.pins below_other ∙ ap (λ n. n + (one_if (has_pin other e a) + one_if (has_pin other e b)))
+      (outer-same p other e.pins s)) in
+      let pays_other : (if has_pin other e a && has_pin other e b then pair_price o (leaves other a b e) e.weight else 0) ≡ (if has_pin other e a &&
+      has_pin other e b then pair_price o L e.weight else 0) =
       ap (λ t. if has_pin other e a && has_pin other e b then pair_price o t e.weight else 0) (same_leaves p other a b e s) in
-      let pays_q : (if has_pin q e a && has_pin q e b then pair_price o (leaves q a b e) e.weight else 0) ≡ (if has_pin q e a && has_pin q e b then pair_price o L e.weight else 0) =
+      let pays_q : (if has_pin q e a && has_pin q e b then pair_price o (leaves q a b e) e.weight else 0) ≡ (if has_pin q e a &&
+      has_pin q e b then pair_price
+      o L e.weight else 0) =
       ap (λ t. if has_pin q e a && has_pin q e b then pair_price o t e.weight else 0) (same_leaves p q a b e r) in
       omega arith
 
   pub costs_differ : (h : Hyper) (p q other : List ℕ) → IsRearranged p q a b → IsRearranged p other a b → IsHypergraph h
-      → ((v : ℕ) → v < vertex_count h → block_of p v < k) → ((v : ℕ) → v < vertex_count h → block_of q v < k) → ((v : ℕ) → v < vertex_count h → block_of other v < k)
+      → ((v : ℕ) → v < vertex_count h → block_of p v < k) → ((v : ℕ) → v < vertex_count h → block_of q v < k) →
+      ((v : ℕ) → v < vertex_count h → block_of other v < k)
       → cost h q + pair_cost h other a b ≡ cost h other + pair_cost h q a b
   costs_differ h p q other r s sound below below_q below_other =
       let o = h.objective in
       let pay : List ℕ → Net → ℕ = λ x e. if has_pin x e a && has_pin x e b then pair_price o (leaves x a b e) e.weight else 0 in
       let each : total (λ e. net_cost o q e + pay other e) h.nets ≡ total (λ e. net_cost o other e + pay q e) h.nets =
       total-same (λ e. net_cost o q e + pay other e) (λ e. net_cost o other e + pay q e) h.nets
-      (λ i d l. let net = sound.nets i d l in net_differs o p q other _ r s (on p below _ net.pins) (on q below_q _ net.pins) (on other below_other _ net.pins)) in
+      (λ i d l. let net = sound.nets i d l in net_differs o p q other _ r s (on p below _ net.pins) (on q below_q _ net.pins)
+      (on other below_other _ net.pins)) in
       let left = total-add (net_cost o q) (pay other) h.nets in
       let right = total-add (net_cost o other) (pay q) h.nets in
       let x = pair_total h q a b in
       let y = pair_total h other a b in
       omega arith
     where
-      on : (x : List ℕ) → ((v : ℕ) → v < vertex_count h → block_of x v < k) → (pins : List ℕ) → All (λ v. v < vertex_count h) pins → All (λ v. block_of x v < k) pins
+      on : (x : List ℕ) → ((v : ℕ) → v < vertex_count h → block_of x v < k) → (pins : List ℕ) → All (λ v. v < vertex_count h) pins →
+          All (λ v. block_of x v < k) pins
       on x all pins = All-weaker (λ v. v < vertex_count h) (λ v. block_of x v < k) all pins
 
 -- an assignment has blocks below k

@@ -1,5 +1,6 @@
 -- Places in a region, and the arcs of pins and nets one after the other.
-use Rattle.std.proofs.Common.{◌≡◌, ◌≢◌, ◌⊎◌, inl, inr, ℕ, zero, suc, ◌+◌, ◌*◌, ◌<◌, ◌≤◌, Bool, true, false, ◌&&◌, ◌||◌, not, nat_eq, nat_lt, if◌then◌else◌, List, [], ◌∷◌, ◌++◌, length, filter, drop, get_or, All, refl, sym, ap, ◌∙◌, subst, arith, slice_index, append_assoc}
+use Rattle.std.proofs.Common.{◌≡◌, ◌≢◌, ◌⊎◌, inl, inr, ℕ, zero, suc, ◌+◌, ◌*◌, ◌<◌, ◌≤◌, Bool, true, false, ◌&&◌, ◌||◌, not, nat_eq, nat_lt, if◌then◌else◌}
+use Rattle.std.proofs.Common.{List, [], ◌∷◌, ◌++◌, length, filter, drop, get_or, All, refl, sym, ap, ◌∙◌, subst, arith, slice_index, append_assoc}
 use Rattle.std.specs.List.{list_any, position_or_len}
 use Rattle.std.specs.List.Sorted.{IsStrictlyIncreasing}
 use Rattle.std.specs.Set.{is_member}
@@ -38,12 +39,14 @@ position-here [] v i r l e = absurd (omega arith)
 position-here (x ∷ xs) v zero r l e = ap (λ t. if not t then 1 + position_or_len (nat_eq v) xs else 0) (eq-eqb v x (sym e))
 position-here (x ∷ xs) v (suc i) r l e =
     let a = rising-first x xs i r (omega arith) in
-    ap (λ t. if not t then 1 + position_or_len (nat_eq v) xs else 0) (ne_eqb v x (λ z. absurd (omega arith))) ∙ (let b = position-here xs v i (rising-tail x xs r) (omega arith) e in let c : 1 + position_or_len (nat_eq v) xs ≡ suc i = omega arith in c)
+    ap (λ t. if not t then 1 + position_or_len (nat_eq v) xs else 0) (ne_eqb v x (λ z. absurd (omega arith))) ∙
+    (let b = position-here xs v i (rising-tail x xs r) (omega arith) e in let c : 1 + position_or_len (nat_eq v) xs ≡ suc i = omega arith in c)
 
 pub position-none : (xs : List ℕ) (v : ℕ) → ((i : ℕ) → i < length xs → slice_index xs i ≢ v) → position_or_len (nat_eq v) xs ≡ length xs
 position-none [] v h = refl
 position-none (x ∷ xs) v h =
-    ap (λ t. if not t then 1 + position_or_len (nat_eq v) xs else 0) (ne_eqb v x (λ z. h 0 (omega arith) (sym z))) ∙ (let b = position-none xs v (λ i l e. h (suc i) (omega arith) e) in let c : 1 + position_or_len (nat_eq v) xs ≡ suc (length xs) = omega arith in c)
+    ap (λ t. if not t then 1 + position_or_len (nat_eq v) xs else 0) (ne_eqb v x (λ z. h 0 (omega arith) (sym z))) ∙
+    (let b = position-none xs v (λ i l e. h (suc i) (omega arith) e) in let c : 1 + position_or_len (nat_eq v) xs ≡ suc (length xs) = omega arith in c)
 
 pub position-le : (xs : List ℕ) (v : ℕ) → position_or_len (nat_eq v) xs ≤ length xs
 position-le [] v = omega arith
@@ -89,9 +92,11 @@ rising-few (x ∷ xs) n r all =
 -- ---- arcs, one after the other
 
 module _ (h : Hyper) (p : List ℕ) (a b : ℕ) (region : List ℕ) where
-  pub pin_arcs-cons : (at v : ℕ) (pins : List ℕ) → pin_arcs h p a b region at (v ∷ pins) ≡ pin_arcs h p a b region at (v ∷ []) ++ pin_arcs h p a b region at pins
+  pub pin_arcs-cons : (at v : ℕ) (pins : List ℕ) → pin_arcs h p a b region at (v ∷ pins) ≡ pin_arcs h p a b region at (v ∷ []) ++ pin_arcs h p a b region at
+      pins
   pin_arcs-cons at v pins =
-      by (nat_eq (block_of p v) a || nat_eq (block_of p v) b) (record { from = node_of p a region v; to = at; cap = unbounded h }) (record { from = at + 1; to = node_of p a region v; cap = unbounded h })
+      by (nat_eq (block_of p v) a || nat_eq (block_of p v) b) (record { from = node_of p a region v; to = at; cap = unbounded h })
+      (record { from = at + 1; to = node_of p a region v; cap = unbounded h })
       (pin_arcs h p a b region at pins)
     where
       by : (t : Bool) (x y : Arc) (later : List Arc) → (if t then (x ∷ y ∷ later) else later) ≡ (if t then (x ∷ y ∷ []) else []) ++ later
@@ -99,7 +104,8 @@ module _ (h : Hyper) (p : List ℕ) (a b : ℕ) (region : List ℕ) where
       by false x y later = refl
 
   pub pin_arcs-few : (at v : ℕ) → length (pin_arcs h p a b region at (v ∷ [])) ≤ 2
-  pin_arcs-few at v = by (nat_eq (block_of p v) a || nat_eq (block_of p v) b) (record { from = node_of p a region v; to = at; cap = unbounded h }) (record { from = at + 1; to = node_of p a region v; cap = unbounded h })
+  pin_arcs-few at v = by (nat_eq (block_of p v) a || nat_eq (block_of p v) b) (record { from = node_of p a region v; to = at; cap = unbounded h })
+      (record { from = at + 1; to = node_of p a region v; cap = unbounded h })
     where
       by : (t : Bool) (x y : Arc) → length (if t then (x ∷ y ∷ []) else []) ≤ 2
       by true x y = omega arith
@@ -107,15 +113,18 @@ module _ (h : Hyper) (p : List ℕ) (a b : ℕ) (region : List ℕ) where
 
   -- one net more, where it joins
   pub nets_arcs-step : (t : Bool) (at : ℕ) (e : Net) (nets : List Net)
-      → nets_arcs h p a b region at (if t then (e ∷ nets) else nets) ≡ nets_arcs h p a b region at (if t then (e ∷ []) else []) ++ nets_arcs h p a b region (at + 2 * length (if t then (e ∷ []) else [])) nets
+      → nets_arcs h p a b region at (if t then (e ∷ nets) else nets) ≡ nets_arcs h p a b region at (if t then (e ∷ []) else []) ++ nets_arcs h p a b region
+      (at + 2 * length (if t then (e ∷ []) else [])) nets
   nets_arcs-step true at e nets = ap (λ xs. xs ++ nets_arcs h p a b region (at + 2) nets) (sym (append-nil (net_arcs h p a b region at e)))
   nets_arcs-step false at e nets = ap (λ n. nets_arcs h p a b region n nets) (let z : at ≡ at + 2 * 0 = omega arith in z)
 
-  pub nets_length-step : (t : Bool) (e : Net) (nets : List Net) → length (if t then (e ∷ nets) else nets) ≡ length (if t then (e ∷ []) else []) + length nets
+  pub nets_length-step : (t : Bool) (e : Net) (nets : List Net) → length (if t then (e ∷ nets) else nets) ≡ length (if t then (e ∷ []) else []) + length
+      nets
   nets_length-step true e nets = omega arith
   nets_length-step false e nets = omega arith
 
-  pub pins-rest : (before after target : List Arc) (pins : List ℕ) (at i : ℕ) → i < length pins → after ≡ before ++ pin_arcs h p a b region at (slice_index pins i ∷ [])
+  pub pins-rest : (before after target : List Arc) (pins : List ℕ) (at i : ℕ) → i < length pins → after ≡ before ++ pin_arcs h p a b region at
+      (slice_index pins i ∷ [])
       → before ++ pin_arcs h p a b region at (drop i pins) ≡ target → after ++ pin_arcs h p a b region at (drop (i + 1) pins) ≡ target
   pins-rest before after target pins at i l e t =
       ap (λ xs. xs ++ pin_arcs h p a b region at (drop (i + 1) pins)) e
@@ -124,12 +133,14 @@ module _ (h : Hyper) (p : List ℕ) (a b : ℕ) (region : List ℕ) where
       ∙ ap (λ xs. before ++ pin_arcs h p a b region at xs) (sym (drop_more pins i 0 l)) ∙ t
 
   pub pins-few : (before after : List Arc) (at v : ℕ) → after ≡ before ++ pin_arcs h p a b region at (v ∷ []) → length after ≤ length before + 2
-  pins-few before after at v e = let x = ap length e in let y = length-append before (pin_arcs h p a b region at (v ∷ [])) in let z = pin_arcs-few at v in omega arith
+  pins-few before after at v e = let x = ap length e in let y = length-append before (pin_arcs h p a b region at (v ∷ [])) in let z = pin_arcs-few at v in
+      omega arith
 
   abbrev joined : List Net → List Net
   joined = filter (joins p a b region)
 
-  pub nets-rest : (before after : FlowNetwork) (target : List Arc) (nets : List Net) (e : ℕ) (net : Net) → e < length nets → net ≡ get_or nets e (record { weight = 0; pins = [] })
+  pub nets-rest : (before after : FlowNetwork) (target : List Arc) (nets : List Net) (e : ℕ) (net : Net) → e < length nets →
+      net ≡ get_or nets e (record { weight = 0; pins = [] })
       → after.nodes ≡ before.nodes + 2 * length (joined (net ∷ [])) → after.arcs ≡ before.arcs ++ nets_arcs h p a b region before.nodes (joined (net ∷ []))
       → before.arcs ++ nets_arcs h p a b region before.nodes (joined (drop e nets)) ≡ target
       → after.arcs ++ nets_arcs h p a b region after.nodes (joined (drop (e + 1) nets)) ≡ target
@@ -137,7 +148,8 @@ module _ (h : Hyper) (p : List ℕ) (a b : ℕ) (region : List ℕ) where
       let rest = joined (drop (e + 1) nets) in
       let one = joined (net ∷ []) in
       let all : drop e nets ≡ net ∷ drop (e + 1) nets = drop_more nets e (record { weight = 0; pins = [] }) l ∙ ap (λ x. x ∷ drop (e + 1) nets) (sym is) in
-      let step : nets_arcs h p a b region before.nodes (joined (net ∷ drop (e + 1) nets)) ≡ nets_arcs h p a b region before.nodes one ++ nets_arcs h p a b region (before.nodes + 2 * length one) rest =
+      let step : nets_arcs h p a b region before.nodes (joined (net ∷ drop (e + 1) nets)) ≡ nets_arcs h p a b region before.nodes one ++ nets_arcs h p a b
+      region (before.nodes + 2 * length one) rest =
       nets_arcs-step (joins p a b region net) before.nodes net rest in
       ap (λ xs. xs ++ nets_arcs h p a b region after.nodes rest) arcs
       ∙ append_assoc before.arcs (nets_arcs h p a b region before.nodes one) (nets_arcs h p a b region after.nodes rest)
@@ -166,8 +178,10 @@ any_outside p region [] c none = refl
 any_outside p region (v ∷ pins) c none = by (nat_eq (block_of p v) c) (is_member nat_eq region v) none (λ e. any_outside p region pins c e)
   where
     by : (s m : Bool) → (m || list_any (is_member nat_eq region) pins) ≡ false
-        → (list_any (is_member nat_eq region) pins ≡ false → list_any (λ u. nat_eq (block_of p u) c && not (is_member nat_eq region u)) pins ≡ list_any (λ u. nat_eq (block_of p u) c) pins)
-        → ((s && not m) || list_any (λ u. nat_eq (block_of p u) c && not (is_member nat_eq region u)) pins) ≡ (s || list_any (λ u. nat_eq (block_of p u) c) pins)
+        → (list_any (is_member nat_eq region) pins ≡ false → list_any (λ u. nat_eq (block_of p u) c && not (is_member nat_eq region u)) pins ≡ list_any
+        (λ u. nat_eq (block_of p u) c) pins)
+        → ((s && not m) || list_any (λ u. nat_eq (block_of p u) c && not (is_member nat_eq region u)) pins) ≡ (s || list_any (λ u. nat_eq (block_of p u) c)
+        pins)
     by s true e r = absurd (let z : true ≡ false = e in cc)
     by true false e r = refl
     by false false e r = r e
@@ -176,7 +190,8 @@ pub joins_outside : (p : List ℕ) (a b : ℕ) (region : List ℕ) (e : Net) →
     → joins p a b region e ≡ (list_any (λ v. nat_eq (block_of p v) a) e.pins && list_any (λ v. nat_eq (block_of p v) b) e.pins)
 joins_outside p a b region e none =
     ap (λ t. t || (has_pin_outside p region e a && has_pin_outside p region e b)) none
-    ∙ ap (λ t. t && has_pin_outside p region e b) (any_outside p region e.pins a none) ∙ ap (λ t. list_any (λ v. nat_eq (block_of p v) a) e.pins && t) (any_outside p region e.pins b none)
+    ∙ ap (λ t. t && has_pin_outside p region e b) (any_outside p region e.pins a none) ∙ ap (λ t. list_any (λ v. nat_eq (block_of p v) a) e.pins && t)
+    (any_outside p region e.pins b none)
 
 pub joins_inside : (p : List ℕ) (a b : ℕ) (region : List ℕ) (e : Net) → list_any (is_member nat_eq region) e.pins ≡ true → joins p a b region e ≡ true
 joins_inside p a b region e some = ap (λ t. t || (has_pin_outside p region e a && has_pin_outside p region e b)) some

@@ -20,7 +20,9 @@ abbrev pub AssignmentsAreCuts : Type 0
 AssignmentsAreCuts =
     (h : Hyper) (p : List ℕ) (a b : ℕ) (region q : List ℕ)
     → a ≢ b → AreOfPair p a b region → IsAssignment p a b region q
-    → (side : List Bool) × (is_in side source_node ≡ true) × (is_in side sink_node ≡ false) × (cut_capacity (pair_network h p a b region).arcs side ≡ pair_cost h q a b)
+    → (side : List Bool) × (is_in side source_node ≡ true) × (is_in side sink_node ≡ false) × (cut_capacity (pair_network h p a b region).arcs side ≡
+    pair_cost
+    h q a b)
 
 -- where the vertices of a pair are assigned anew, another pair without a block in common keeps its nets, its sides, what its nets pay and its loads
 abbrev pub PairsKeepApart : Type 0

@@ -1,5 +1,6 @@
 -- The flow network of a region of two blocks: its cuts are the assignments of the region, and cost what the nets pay for touching both blocks.
-use Rattle.std.specs.Prelude.{◌≡◌, ◌⊎◌, ℕ, ◌+◌, ◌*◌, List, [], ◌∷◌, ◌++◌, length, filter, replicate, All, Bool, not, ◌&&◌, ◌||◌, nat_eq, nat_lt, if◌then◌else◌}
+use Rattle.std.specs.Prelude.{◌≡◌, ◌⊎◌, ℕ, ◌+◌, ◌*◌, List, [], ◌∷◌, ◌++◌, length, filter, replicate, All}
+use Rattle.std.specs.Prelude.{Bool, not, ◌&&◌, ◌||◌, nat_eq, nat_lt, if◌then◌else◌}
 use Rattle.std.specs.List.{list_any, position_or_len}
 use Rattle.std.specs.Set.{is_member}
 use Rattle.flow_net.specs.declared.network.Arc.{Arc}

@@ -1,6 +1,7 @@
 //! The laws of pairs of blocks. Each is the contract of a function that does nothing.
 
-ghost use Rattle.flow_pair.specs.Laws.{AssignmentsDifferByPairCost, AssignmentsAreCuts, PairsKeepApart, PairsSaveApart};
+ghost use Rattle.flow_pair.specs.Laws.{AssignmentsDifferByPairCost, AssignmentsAreCuts};
+ghost use Rattle.flow_pair.specs.Laws.{PairsKeepApart, PairsSaveApart};
 
 /// Two assignments of a region to a pair of blocks, with the rest left, differ in cost by the
 /// difference of what the nets pay that touch both blocks.

@@ -1,9 +1,11 @@
 //! The flow network of a region.
 
-ghost use Rattle.std.specs.Prelude.{◌≡◌, ◌≢◌, ◌+◌, ◌*◌, ◌^◌, ◌<◌, ◌≤◌, List, [], ◌∷◌, length, filter, All, IfOk, OnOk};
+ghost use Rattle.std.specs.Prelude.{◌≡◌, ◌≢◌, ◌+◌, ◌*◌, ◌^◌, ◌<◌, ◌≤◌, List, [], ◌∷◌};
+ghost use Rattle.std.specs.Prelude.{length, filter, All, IfOk, OnOk};
 ghost use Rattle.std.specs.List.Sorted.{IsStrictlyIncreasing};
 ghost use Rattle.hg_defs.specs.Hypergraph.{vertex_count, net_count, net_of};
-ghost use Rattle.flow_pair.specs.PairNetwork.{pin_arcs, nets_arcs, joins, pair_network, AreOfPair, Extends, ExtendsByNets, IsIdle};
+ghost use Rattle.flow_pair.specs.PairNetwork.{pin_arcs, nets_arcs, joins, pair_network, AreOfPair};
+ghost use Rattle.flow_pair.specs.PairNetwork.{Extends, ExtendsByNets, IsIdle};
 
 use crate::pair::{Pair, more_than_all};
 use flow_net::{Network, NoMemory};

@@ -1,6 +1,7 @@
 //! The region of a pair of blocks.
 
-ghost use Rattle.std.specs.Prelude.{◌≡◌, ◌≢◌, ℕ, ◌+◌, ◌-◌, ◌<◌, ◌≤◌, List, [], ◌++◌, ◌||◌, ◌↔◌, ◌&&◌, length, nat_eq, All, IsTrue, false, IfOk, OnOk, IfSome, IsNone};
+ghost use Rattle.std.specs.Prelude.{◌≡◌, ◌≢◌, ℕ, ◌+◌, ◌-◌, ◌<◌, ◌≤◌, List, [], ◌++◌, ◌||◌, ◌↔◌, ◌&&◌, length};
+ghost use Rattle.std.specs.Prelude.{nat_eq, All, IsTrue, false, IfOk, OnOk, IfSome, IsNone};
 ghost use Rattle.std.specs.List.{list_any};
 ghost use Rattle.hg_defs.specs.Hypergraph.{vertex_count, net_count, net_of};
 ghost use Rattle.hg_defs.specs.Partition.{load, Fits};

@@ -1,6 +1,7 @@
 //! The cheapest assignment of the region of a pair of blocks.
 
-ghost use Rattle.std.specs.Prelude.{◌≡◌, ◌≢◌, ℕ, ◌+◌, ◌<◌, ◌≤◌, [], ◌↔◌, length, slice_index, if◌then◌else◌, IfOk, IfSome, IsNone};
+ghost use Rattle.std.specs.Prelude.{◌≡◌, ◌≢◌, ℕ, ◌+◌, ◌<◌, ◌≤◌, [], ◌↔◌, length, slice_index};
+ghost use Rattle.std.specs.Prelude.{if◌then◌else◌, IfOk, IfSome, IsNone};
 ghost use Rattle.hg_defs.specs.Partition.{Fits};
 ghost use Rattle.flow_net.specs.Flow.{is_in};
 ghost use Rattle.round_log.specs.Rounds.{touching, region as region_of};

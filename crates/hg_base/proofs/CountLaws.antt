@@ -1,5 +1,6 @@
 -- Laws of distinct entries while a list grows, and bounds on the cost.
-use Rattle.std.proofs.Common.{◌≡◌, ℕ, zero, suc, ◌+◌, ◌*◌, ◌^◌, ◌<◌, ◌≤◌, ◌⊎◌, inl, inr, Bool, true, false, not, cond, ◌||◌, if◌then◌else◌, nat_eq, List, [], ◌∷◌, ◌++◌, length, take, get_or, Contains, refl, ap, ◌∙◌, subst, arith}
+use Rattle.std.proofs.Common.{◌≡◌, ℕ, zero, suc, ◌+◌, ◌*◌, ◌^◌, ◌<◌, ◌≤◌, ◌⊎◌, inl, inr, Bool, true, false, not, cond, ◌||◌, if◌then◌else◌}
+use Rattle.std.proofs.Common.{nat_eq, List, [], ◌∷◌, ◌++◌, length, take, get_or, Contains, refl, ap, ◌∙◌, subst, arith}
 use Rattle.std.specs.Set.{is_member, unique_keys, distinct_count}
 use Rattle.std.proofs.lemmas.List.Elements.{Contains-append_cases, Contains-append_left, Contains-push}
 use Rattle.std.proofs.Math.Nat.{mul-le-mul_left}
@@ -64,14 +65,16 @@ net_cost-le o p e =
     mul-le-mul_left e.weight c
 
 -- the nets so far and one more cost little enough for 64 bits
-pub cost_so_far-lt : (h : Hyper) (p : List ℕ) (e : ℕ) → IsWithinLimits h → e < net_count h → total (net_cost h.objective p) (take e h.nets) + net_cost h.objective p (net_of h e) < 2 ^ 57
+pub cost_so_far-lt : (h : Hyper) (p : List ℕ) (e : ℕ) → IsWithinLimits h → e < net_count h → total (net_cost h.objective p) (take e h.nets) + net_cost
+    h.objective p (net_of h e) < 2 ^ 57
 cost_so_far-lt h p e bounds inside =
     let a = total_more-le (net_cost h.objective p) h.nets e (record { weight = 0; pins = [] }) inside in
     let b = total-le (net_cost h.objective p) (λ x. x.weight * length x.pins) h.nets (λ k d l. net_cost-le h.objective p (get_or h.nets k d)) in
     let c = bounds.pin_weight in
     omega arith
 
-pub cost_more : (h : Hyper) (p : List ℕ) (e : ℕ) → e < net_count h → total (net_cost h.objective p) (take (e + 1) h.nets) ≡ total (net_cost h.objective p) (take e h.nets) + net_cost h.objective p (net_of h e)
+pub cost_more : (h : Hyper) (p : List ℕ) (e : ℕ) → e < net_count h → total (net_cost h.objective p) (take (e + 1) h.nets) ≡ total (net_cost h.objective p)
+    (take e h.nets) + net_cost h.objective p (net_of h e)
 cost_more h p e inside = total-take_more (net_cost h.objective p) h.nets e (record { weight = 0; pins = [] }) inside
 
 pub cost-lt : (h : Hyper) (p : List ℕ) → IsWithinLimits h → cost h p < 2 ^ 57

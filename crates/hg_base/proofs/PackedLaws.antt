@@ -1,9 +1,11 @@
 -- Laws of counts packed into words: a change of one field leaves the others, where the field neither runs over nor falls below 0.
-use Rattle.std.proofs.Common.{◌≡◌, ◌≢◌, ℕ, nat_eq, if◌then◌else◌, add-zero, ◌+◌, ◌-◌, ◌*◌, ◌/◌, ◌%◌, ◌^◌, ◌<◌, ◌≤◌, inl, inr, replicate, slice_index, refl, sym, ap, ap₂, ◌∙◌, subst, ⊎_elim, arith}
+use Rattle.std.proofs.Common.{◌≡◌, ◌≢◌, ℕ, nat_eq, if◌then◌else◌, add-zero, ◌+◌, ◌-◌, ◌*◌, ◌/◌, ◌%◌, ◌^◌, ◌<◌, ◌≤◌, inl, inr}
+use Rattle.std.proofs.Common.{replicate, slice_index, refl, sym, ap, ap₂, ◌∙◌, subst, ⊎_elim, arith}
 use Rattle.std.proofs.lemmas.Bool.{cases_eq, cases_lt, eq-eqb, ne_eqb}
 use Rattle.std.proofs.lemmas.List.{get_or-replicate, get_or_past, length-replicate}
 use Rattle.std.proofs.lemmas.Nat.{pow_pos, pow-add, div-mul-add, mod-mul-add, mod_below, div_below, div-add-mod'}
-use Rattle.std.proofs.Math.Nat.{add-mul-div_left, add-mul-div_right, add-mul-mod_self_left, div-div-eq-div-mul, div-lt_iff_lt-mul, div-mul-le_self, mul-le-mul_right, mod-le, zero-div, zero-mod}
+use Rattle.std.proofs.Math.Nat.{add-mul-div_left, add-mul-div_right, add-mul-mod_self_left, div-div-eq-div-mul}
+use Rattle.std.proofs.Math.Nat.{div-lt_iff_lt-mul, div-mul-le_self, mul-le-mul_right, mod-le, zero-div, zero-mod}
 use Rattle.hg_base.specs.Packed.{field, unit, fields_of, count_at, IsWidth}
 
 -- ---- a number in a base, of which one digit changes
@@ -173,5 +175,6 @@ count_at-zeros start bits m b =
     zeros =
         ⊎_elim
         (λ (l : start + b / fields_of bits < m). get_or-replicate m (start + b / fields_of bits) 0 0 l)
-        (λ (l : m ≤ start + b / fields_of bits). get_or_past (replicate m 0) (start + b / fields_of bits) 0 (let n = length-replicate {A = ℕ} m 0 in omega arith))
+        (λ (l : m ≤ start + b / fields_of bits). get_or_past (replicate m 0) (start + b / fields_of bits) 0 (let n = length-replicate {A = ℕ} m 0 in
+        omega arith))
         (cases_lt (start + b / fields_of bits) m)

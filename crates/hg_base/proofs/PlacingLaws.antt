@@ -1,5 +1,6 @@
 -- Laws of placing vertices one after the other.
-use Rattle.std.proofs.Common.{◌≡◌, ℕ, ◌+◌, ◌<◌, ◌≤◌, Bool, true, false, not, cond, if◌then◌else◌, nat_le, List, [], ◌∷◌, ◌++◌, length, drop, filter, All, slice_index, slice_set, Option, Some, None, refl, sym, ap, ◌∙◌, arith}
+use Rattle.std.proofs.Common.{◌≡◌, ℕ, ◌+◌, ◌<◌, ◌≤◌, Bool, true, false, not, cond, if◌then◌else◌, nat_le, List, [], ◌∷◌, ◌++◌, length, drop}
+use Rattle.std.proofs.Common.{filter, All, slice_index, slice_set, Option, Some, None, refl, sym, ap, ◌∙◌, arith}
 use Rattle.std.proofs.lemmas.List.{drop_more, drop_all, length-set, length-replicate}
 use Rattle.std.proofs.lemmas.Bool.{eqb-true}
 use Rattle.std.proofs.lemmas.List.Sorted.{All-permutation}
@@ -53,7 +54,8 @@ module _ (h : Hyper) (l : ℕ) (s : Placing) (v : ℕ) (rest : List ℕ) where
         ap (λ t. if t then first_overfilling h l (placed_one h s v) rest else Some v)
         (ap (λ c. nat_le (slice_index s.loads c + weight_of h v) l) is ∙ e)
 
-    pub overfills_later : nat_le (slice_index s.loads b + weight_of h v) l ≡ true → first_overfilling h l s (v ∷ rest) ≡ first_overfilling h l (put h s v b) rest
+    pub overfills_later : nat_le (slice_index s.loads b + weight_of h v) l ≡ true → first_overfilling h l s (v ∷ rest) ≡ first_overfilling h l (put h s v b)
+        rest
     overfills_later e =
         ap (λ t. if t then first_overfilling h l (placed_one h s v) rest else Some v)
         (ap (λ c. nat_le (slice_index s.loads c + weight_of h v) l) is ∙ e)
@@ -80,13 +82,16 @@ module _ (h : Hyper) where
 
   module _ (l : ℕ) where
     -- the second list is placed only where the first overfills nowhere
-    pub overfilling-append_none : (s : Placing) (xs ys : List ℕ) → first_overfilling h l s xs ≡ None → first_overfilling h l s (xs ++ ys) ≡ first_overfilling h l (placed h s xs) ys
+    pub overfilling-append_none : (s : Placing) (xs ys : List ℕ) → first_overfilling h l s xs ≡ None → first_overfilling h l s (xs ++ ys) ≡
+        first_overfilling h
+        l (placed h s xs) ys
     overfilling-append_none s [] ys e = refl
     overfilling-append_none s (x ∷ xs) ys e =
         by (nat_le (slice_index s.loads (taken_block h s.loads x) + weight_of h x) l) e (overfilling-append_none (placed_one h s x) xs ys)
       where
         by : (t : Bool) → (if t then first_overfilling h l (placed_one h s x) xs else Some x) ≡ None
-            → (first_overfilling h l (placed_one h s x) xs ≡ None → first_overfilling h l (placed_one h s x) (xs ++ ys) ≡ first_overfilling h l (placed h (placed_one h s x) xs) ys)
+            → (first_overfilling h l (placed_one h s x) xs ≡ None → first_overfilling h l (placed_one h s x) (xs ++ ys) ≡ first_overfilling h l
+            (placed h (placed_one h s x) xs) ys)
             → (if t then first_overfilling h l (placed_one h s x) (xs ++ ys) else Some x) ≡ first_overfilling h l (placed h (placed_one h s x) xs) ys
         by true f r = r f
         by false f r = absurd (cc)
@@ -115,16 +120,19 @@ module _ (h : Hyper) (order : List ℕ) (listed : ListsFree h order) where
   pub listed_free : All (IsFree h) order
   listed_free =
       All-permutation (IsFree h) (filter (is_free h) (vertices h)) order listed
-      (All-weaker (λ v. is_free h v ≡ true) (IsFree h) (λ v e. eqb-true (fix_of h v) FREE e) (filter (is_free h) (vertices h)) (filter_passes (is_free h) (vertices h)))
+      (All-weaker (λ v. is_free h v ≡ true) (IsFree h) (λ v e. eqb-true (fix_of h v) FREE e) (filter (is_free h) (vertices h))
+      (filter_passes (is_free h) (vertices h)))
 
 -- the fixed vertices were placed from the beginning on, and then the free ones
 module _ (h : Hyper) (k l : ℕ) (order : List ℕ) (s t : Placing) (start : s ≡ unplaced h k) where
-  pub fixed_overfills : (v : ℕ) → first_overfilling h l s (filter (λ v. not (is_free h v)) (vertices h)) ≡ Some v → first_overfilling h l (unplaced h k) (placing_order h order) ≡ Some v
+  pub fixed_overfills : (v : ℕ) → first_overfilling h l s (filter (λ v. not (is_free h v)) (vertices h)) ≡ Some v → first_overfilling h l (unplaced h k)
+      (placing_order h order) ≡ Some v
   fixed_overfills v e =
       overfilling-append_some h l (unplaced h k) (filter (λ v. not (is_free h v)) (vertices h)) order v
       (ap (λ (r : Placing). first_overfilling h l r (filter (λ v. not (is_free h v)) (vertices h))) (sym start) ∙ e)
 
-  module _ (none : first_overfilling h l s (filter (λ v. not (is_free h v)) (vertices h)) ≡ None) (state : placed h s (filter (λ v. not (is_free h v)) (vertices h)) ≡ t) where
+  module _ (none : first_overfilling h l s (filter (λ v. not (is_free h v)) (vertices h)) ≡ None)
+      (state : placed h s (filter (λ v. not (is_free h v)) (vertices h)) ≡ t) where
     pub fixed_blocks : length t.blocks ≡ vertex_count h
     fixed_blocks =
         ap (λ (r : Placing). length r.blocks) (sym state)

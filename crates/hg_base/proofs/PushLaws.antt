@@ -1,7 +1,9 @@
 -- Laws of one more net at the end of the flat arrays.
-use Rattle.std.proofs.Common.{◌≡◌, ℕ, ◌+◌, ◌-◌, ◌*◌, ◌^◌, ◌<◌, ◌≤◌, List, [], ◌∷◌, ◌++◌, length, map, take, drop, get_or, slice_index, slice_range, All, nat_cmp, refl, sym, ap, ap₂, ◌∙◌, arith, ⊎_elim}
+use Rattle.std.proofs.Common.{◌≡◌, ℕ, ◌+◌, ◌-◌, ◌*◌, ◌^◌, ◌<◌, ◌≤◌, List, [], ◌∷◌, ◌++◌, length, map, take, drop, get_or}
+use Rattle.std.proofs.Common.{slice_index, slice_range, All, nat_cmp, refl, sym, ap, ap₂, ◌∙◌, arith, ⊎_elim}
 use Rattle.std.specs.List.{range_with_len}
-use Rattle.std.proofs.lemmas.List.{get_or_append_left, get_or_push, length_push, length-append, drop-append-le, take-append-le, length-drop, drop_at, take_all}
+use Rattle.std.proofs.lemmas.List.{get_or_append_left, get_or_push, length_push, length-append}
+use Rattle.std.proofs.lemmas.List.{drop-append-le, take-append-le, length-drop, drop_at, take_all}
 use Rattle.std.proofs.lemmas.List.FromFn.{map-range_with_len_more, fill_by_all}
 use Rattle.std.proofs.lemmas.List.Elements.{All-push, All-contains, Contains-get_or}
 use Rattle.std.proofs.lemmas.Bool.{cases_lt}
@@ -37,7 +39,8 @@ module _ (ss ns ps qs : List ℕ) (w t : ℕ) (laid : IsLaidOut ss ns ps) (end :
       let a = get_or_append_left ss (t ∷ []) 0 e (omega arith) in
       let b = get_or_append_left ss (t ∷ []) 0 (e + 1) (omega arith) in
       same_net _ _ _ _ (get_or_append_left ns (w ∷ []) 0 e h)
-      (ap₂ (slice_range (ps ++ qs)) a b ∙ slice_range-append ps qs (slice_index ss e) (slice_index ss (e + 1)) (laid.rising e h) (laid.within (e + 1) (omega arith)))
+      (ap₂ (slice_range (ps ++ qs)) a b ∙ slice_range-append ps qs (slice_index ss e) (slice_index ss (e + 1)) (laid.rising e h)
+      (laid.within (e + 1) (omega arith)))
 
   new_net : net_at (ss ++ t ∷ []) (ns ++ w ∷ []) (ps ++ qs) (length ns) ≡ record { weight = w; pins = qs }
   new_net =
@@ -92,12 +95,14 @@ module _ (ss ns ps qs : List ℕ) (w t : ℕ) (laid : IsLaidOut ss ns ps) (end :
     ends = let a = length_push ss t in let b = length_push ns w in let l = laid.ends in omega arith;
     rising = rising_push;
     within = within_push;
-    last = let b = length_push ns w in let l = laid.ends in let m = length-append ps qs in ap (slice_index (ss ++ t ∷ [])) b ∙ get_or_push ss t 0 (length ns + 1) l ∙ end ∙ sym m;
+    last = let b = length_push ns w in let l = laid.ends in let m = length-append ps qs in ap (slice_index (ss ++ t ∷ [])) b ∙
+        get_or_push ss t 0 (length ns + 1) l ∙ end ∙ sym m;
   }
 
 All-set_of : (P : ℕ → Type 0) (qs : List ℕ) → All P qs → All P (set_of nat_cmp qs)
 All-set_of P qs all k d l =
-    All-contains P qs (get_or (set_of nat_cmp qs) k d) all (Contains-from_set_of nat_cmp_total nat_cmp_exact qs (get_or (set_of nat_cmp qs) k d) (Contains-get_or (set_of nat_cmp qs) k d l))
+    All-contains P qs (get_or (set_of nat_cmp qs) k d) all (Contains-from_set_of nat_cmp_total nat_cmp_exact qs (get_or (set_of nat_cmp qs) k d)
+    (Contains-get_or (set_of nat_cmp qs) k d l))
 
 -- a net with the set of the given pins
 abbrev pub spelt_net : ℕ → List ℕ → Net
@@ -118,7 +123,8 @@ module _ (h : Hyper) (w : ℕ) (qs : List ℕ) (count weight : ℕ) (kept : IsKe
         sound = record {
           fixes = kept.sound.fixes;
           fixed = kept.sound.fixed;
-          nets = All-push (IsNet (vertex_count h)) h.nets (spelt_net w qs) kept.sound.nets (record { rising = increasing-set_of qs; pins = All-set_of (λ v. v < vertex_count h) qs vertices });
+          nets = All-push (IsNet (vertex_count h)) h.nets (spelt_net w qs) kept.sound.nets
+              (record { rising = increasing-set_of qs; pins = All-set_of (λ v. v < vertex_count h) qs vertices });
         };
         bounds = record {
           vertices = kept.bounds.vertices;

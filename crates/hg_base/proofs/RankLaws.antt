@@ -1,5 +1,6 @@
 -- Laws of the free vertices by falling weight.
-use Rattle.std.proofs.Common.{◌≡◌, ℕ, ◌+◌, ◌<◌, ◌≤◌, true, false, cond, List, [], ◌∷◌, ◌++◌, take, map, filter, All, subst, IsPermutation, IsSorted, Ordering, Equal, refl, sym, ap, ◌∙◌, arith}
+use Rattle.std.proofs.Common.{◌≡◌, ℕ, ◌+◌, ◌<◌, ◌≤◌, true, false, cond, List, [], ◌∷◌, ◌++◌, take, map, filter, All, subst}
+use Rattle.std.proofs.Common.{IsPermutation, IsSorted, Ordering, Equal, refl, sym, ap, ◌∙◌, arith}
 use Rattle.std.specs.declared.cmp.Reverse.{Reverse}
 use Rattle.std.proofs.lemmas.List.{append-nil, map_push, map-id, get_or-map, length-map, take_all}
 use Rattle.std.proofs.lemmas.List.Elements.{filter_more}
@@ -58,20 +59,23 @@ map-map f g [] = refl
 map-map f g (x ∷ xs) = ap (λ ys. f (g x) ∷ ys) (map-map f g xs)
 
 -- sorted ranks give the heaviest first
-pub sorted_ranks : (h : Hyper) (rs : List (Reverse ℕ × ℕ)) → IsPermutation (map (rank_of h) (filter (is_free h) (vertices h))) rs → IsSorted rank_cmp rs → map (λ r. r.1) rs ≡ heaviest_first h
+pub sorted_ranks : (h : Hyper) (rs : List (Reverse ℕ × ℕ)) → IsPermutation (map (rank_of h) (filter (is_free h) (vertices h))) rs → IsSorted rank_cmp rs →
+    map (λ r. r.1) rs ≡ heaviest_first h
 sorted_ranks h rs p s =
     let free = filter (is_free h) (vertices h) in
     let ranks = map (rank_of h) free in
     ap (map (λ (r : Reverse ℕ × ℕ). r.1)) (sort_is rank_cmp_total rank_cmp_exact ranks rs p s)
     ∙ sym (map-map (λ (a : ℕ × ℕ). a.1) pair_of (sorted rank_cmp ranks))
-    ∙ ap (map (λ (a : ℕ × ℕ). a.1)) (map-sorted rank_cmp heavier_first pair_of (λ x y. refl) ranks ∙ ap (sorted heavier_first) (map-map pair_of (rank_of h) free))
+    ∙ ap (map (λ (a : ℕ × ℕ). a.1)) (map-sorted rank_cmp heavier_first pair_of (λ x y. refl) ranks ∙ ap (sorted heavier_first)
+    (map-map pair_of (rank_of h) free))
 
 -- the vertices of ranks are those that were ranked
 pub vertices_of_ranks : (h : Hyper) (order : List ℕ) → map (λ (r : Reverse ℕ × ℕ). r.1) (map (rank_of h) order) ≡ order
 vertices_of_ranks h order = map-map (λ (r : Reverse ℕ × ℕ). r.1) (rank_of h) order ∙ map-id order
 
 -- what is true of the vertices of ranks
-pub All-vertices : (P : ℕ → Type 0) (ranks : List (Reverse ℕ × ℕ)) → All P (map (λ (r : Reverse ℕ × ℕ). r.1) ranks) → All (λ (r : Reverse ℕ × ℕ). P r.1) ranks
+pub All-vertices : (P : ℕ → Type 0) (ranks : List (Reverse ℕ × ℕ)) → All P (map (λ (r : Reverse ℕ × ℕ). r.1) ranks) → All (λ (r : Reverse ℕ × ℕ). P r.1)
+    ranks
 All-vertices P ranks all k d l =
     let same = length-map ranks (λ (r : Reverse ℕ × ℕ). r.1) in
     subst P (get_or-map (λ (r : Reverse ℕ × ℕ). r.1) ranks k d d.1 l) (all k d.1 (omega arith))

@@ -15,7 +15,8 @@ module _ (all old more : List ℕ) (n : ℕ) (is : all ≡ old ++ more) (at : n 
       ap (take (length all - n)) (ap (drop n) is ∙ drop_at old more n (sym at)) ∙ take_all (length all - n) more (omega arith)
 
   -- the list after its tail has become another, of which the first k stay
-  pub kept_tail : (tail post rest : List ℕ) (k len : ℕ) → k ≤ length tail → n + k ≤ len → take (n + k) (take len (take n all ++ (tail ++ post) ++ rest)) ≡ old ++ take k tail
+  pub kept_tail : (tail post rest : List ℕ) (k len : ℕ) → k ≤ length tail → n + k ≤ len → take (n + k) (take len (take n all ++ (tail ++ post) ++ rest)) ≡
+      old ++ take k tail
   kept_tail tail post rest k len short fits =
       take-take (n + k) len (take n all ++ (tail ++ post) ++ rest) fits
       ∙ ap (λ xs. take (n + k) (xs ++ (tail ++ post) ++ rest)) front_is

@@ -26,6 +26,7 @@ field word bits place = word / 2 ^ (place * bits) % 2 ^ bits
 abbrev pub unit : ℕ → ℕ → ℕ
 unit bits place = 2 ^ (place * bits)
 
--- the count of block b, where the counts of its net start at a word and take so many bits: the field at place b % fields_of bits of word b / fields_of bits from there on
+-- the count of block b, where the counts of its net start at a word and take so many bits: the field at place b % fields_of bits of word b / fields_of bits
+-- from there on
 abbrev pub count_at : List ℕ → ℕ → ℕ → ℕ → ℕ
 count_at words start bits b = field (slice_index words (start + b / fields_of bits)) bits (b % fields_of bits)

@@ -1,12 +1,15 @@
 //! The hypergraph as flat arrays.
 
-ghost use Rattle.std.specs.Prelude.{◌≡◌, ℕ, ◌+◌, ◌*◌, ◌^◌, ◌<◌, ◌≤◌, [], ◌∷◌, ◌++◌, length, replicate, All, IsTrue, ◌↔◌, IfOk, OnOk, OnErr, slice_set};
+ghost use Rattle.std.specs.Prelude.{◌≡◌, ℕ, ◌+◌, ◌*◌, ◌^◌, ◌<◌, ◌≤◌, [], ◌∷◌, ◌++◌, length, replicate};
+ghost use Rattle.std.specs.Prelude.{All, IsTrue, ◌↔◌, IfOk, OnOk, OnErr, slice_set};
 ghost use Rattle.std.specs.List.Sorted.{IsStrictlyIncreasing};
 ghost use Rattle.std.specs.Ordering.{nat_cmp};
 ghost use Rattle.hg_defs.specs.Sorting.{set_of};
 ghost use Rattle.hg_defs.specs.Sums.{total};
 ghost use Rattle.hg_base.specs.Flat.{GrowsBy};
-ghost use Rattle.hg_defs.specs.Hypergraph.{vertex_count, net_count, pin_count, weight_of, total_weight, total_net_weight, net_of, fix_of, IsHypergraph, IsWithinLimits, IsFixedWithin, Suits};
+ghost use Rattle.hg_defs.specs.Hypergraph.{vertex_count, net_count, pin_count, weight_of, total_weight};
+ghost use Rattle.hg_defs.specs.Hypergraph.{total_net_weight, net_of, fix_of, IsHypergraph};
+ghost use Rattle.hg_defs.specs.Hypergraph.{IsWithinLimits, IsFixedWithin, Suits};
 
 use crate::sets::append_set;
 use hg_defs::{FREE, NoMemory, Objective};

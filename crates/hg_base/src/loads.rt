@@ -1,6 +1,7 @@
 //! The loads of blocks, of which the least is found fast.
 
-ghost use Rattle.std.specs.Prelude.{◌≡◌, ℕ, ◌+◌, ◌*◌, ◌<◌, ◌≤◌, List, length, replicate, IfOk, slice_index, slice_set, min};
+ghost use Rattle.std.specs.Prelude.{◌≡◌, ℕ, ◌+◌, ◌*◌, ◌<◌, ◌≤◌, List, length, replicate};
+ghost use Rattle.std.specs.Prelude.{IfOk, slice_index, slice_set, min};
 ghost use Rattle.hg_base.specs.Placing.{IsLeastWithin};
 ghost use Rattle.hg_defs.specs.LeastLoaded.{least};
 

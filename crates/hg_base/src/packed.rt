@@ -47,7 +47,8 @@ pub fn raise_field(word: u64, bits: u32, place: u32) -> u64
     requires place { place < fields_of bits }
     requires room { packed.field word bits place + 1 < 2 ^ bits }
     ensures word { result ≡ word + packed.unit bits place }
-    ensures fields { (q : ℕ) → packed.field result bits q ≡ packed.field word bits q + (if nat_eq q place then 1 else 0) }
+    ensures fields { (q : ℕ) → packed.field result bits q ≡ packed.field word bits q +
+        (if nat_eq q place then 1 else 0) }
 {
     word + unit(bits, place)
 }
@@ -59,7 +60,8 @@ pub fn lower_field(word: u64, bits: u32, place: u32) -> u64
     requires place { place < fields_of bits }
     requires some { 0 < packed.field word bits place }
     ensures word { result ≡ word - packed.unit bits place }
-    ensures fields { (q : ℕ) → packed.field result bits q + (if nat_eq q place then 1 else 0) ≡ packed.field word bits q }
+    ensures fields { (q : ℕ) → packed.field result bits q + (if nat_eq q place then 1 else 0) ≡ packed.field word bits
+        q }
 {
     word - unit(bits, place)
 }

@@ -1,8 +1,10 @@
 //! Placement into the least loaded block, and greedy placement.
 
-ghost use Rattle.std.specs.Prelude.{◌≡◌, ℕ, ◌+◌, ◌<◌, ◌≤◌, List, length, map, filter, not, All, IfOk, OnOk, IfErr, nat_le, if◌then◌else◌, slice_index, slice_set};
+ghost use Rattle.std.specs.Prelude.{◌≡◌, ℕ, ◌+◌, ◌<◌, ◌≤◌, List, length, map, filter, not, All, IfOk, OnOk};
+ghost use Rattle.std.specs.Prelude.{IfErr, nat_le, if◌then◌else◌, slice_index, slice_set};
 ghost use Rattle.hg_base.specs.Placing.{EndsPlacing, rank_of};
-ghost use Rattle.hg_defs.specs.Hypergraph.{vertex_count, vertices, weight_of, is_free, IsFree, IsFixedWithin, IsHypergraph};
+ghost use Rattle.hg_defs.specs.Hypergraph.{vertex_count, vertices, weight_of, is_free, IsFree};
+ghost use Rattle.hg_defs.specs.Hypergraph.{IsFixedWithin, IsHypergraph};
 ghost use Rattle.hg_defs.specs.LeastLoaded.{least, unplaced, placing_order, first_overfilling, overfills};
 ghost use Rattle.hg_defs.specs.LeastLoaded as placements;
 ghost use Rattle.hg_defs.specs.Partition.{IsPartition, Obeys, Fits};
@@ -113,7 +115,8 @@ impl Placing {
     fn place_fixed(&mut self, h: &FlatHyper, limit: u64) -> Option<u32>
         requires blocks { length self.old.blocks ≡ vertex_count h.now }
         requires fixed { IsFixedWithin h.now (length self.old.loads) }
-        ensures { EndsPlacing h.now limit self.old (filter (λ v. not (is_free h.now v)) (vertices h.now)) result self.new }
+        ensures { EndsPlacing h.now limit self.old (filter (λ v. not (is_free h.now v)) (vertices h.now)) result
+            self.new }
     {
         for v in 0..h.vertices() {
             let fix = h.fix(v);
@@ -163,8 +166,10 @@ pub fn least_loaded(
     requires fixed { IsFixedWithin h.now k }
     requires listed { ListsFree h.now order.now }
     ensures ok { IfOk result (λ blocks. blocks ≡ placements.least_loaded h.now k order.now) }
-    ensures within { OnOk result (first_overfilling h.now limit (unplaced h.now k) (placing_order h.now order.now) ≡ None) }
-    ensures cause { IfErr result (HasCause (first_overfilling h.now limit (unplaced h.now k) (placing_order h.now order.now))) }
+    ensures within { OnOk result (first_overfilling h.now limit (unplaced h.now k) (placing_order h.now order.now) ≡
+        None) }
+    ensures cause { IfErr result (HasCause (first_overfilling h.now limit (unplaced h.now k)
+        (placing_order h.now order.now))) }
     ensures partition { IfOk result (IsPartition h.now k) }
     ensures fixes { IfOk result (Obeys h.now) }
     ensures fits { IfOk result (Fits h.now k limit) }
@@ -204,8 +209,10 @@ fn place_ranks(
     requires listed { ListsFree h.now (map (λ rank. rank.1) ranks.now) }
     requires weights { All (λ rank. rank.0.0 ≡ weight_of h.now rank.1) ranks.now }
     ensures ok { IfOk result (λ blocks. blocks ≡ placements.least_loaded h.now k (map (λ rank. rank.1) ranks.now)) }
-    ensures within { OnOk result (first_overfilling h.now limit (unplaced h.now k) (placing_order h.now (map (λ rank. rank.1) ranks.now)) ≡ None) }
-    ensures cause { IfErr result (HasCause (first_overfilling h.now limit (unplaced h.now k) (placing_order h.now (map (λ rank. rank.1) ranks.now)))) }
+    ensures within { OnOk result (first_overfilling h.now limit (unplaced h.now k)
+        (placing_order h.now (map (λ rank. rank.1) ranks.now)) ≡ None) }
+    ensures cause { IfErr result (HasCause (first_overfilling h.now limit (unplaced h.now k)
+        (placing_order h.now (map (λ rank. rank.1) ranks.now)))) }
     ensures partition { IfOk result (IsPartition h.now k) }
     ensures fixes { IfOk result (Obeys h.now) }
     ensures fits { IfOk result (Fits h.now k limit) }

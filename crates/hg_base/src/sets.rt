@@ -1,6 +1,7 @@
 //! Sets of numbers, as strictly rising lists.
 
-ghost use Rattle.std.specs.Prelude.{◌≡◌, ◌≤◌, ◌<◌, ◌+◌, ◌^◌, ◌++◌, length, take, IsTrue, ◌↔◌, OnOk, OnErr, nat_eq, vec_len};
+ghost use Rattle.std.specs.Prelude.{◌≡◌, ◌≤◌, ◌<◌, ◌+◌, ◌^◌, ◌++◌, length, take, IsTrue, ◌↔◌};
+ghost use Rattle.std.specs.Prelude.{OnOk, OnErr, nat_eq, vec_len};
 ghost use Rattle.std.specs.List.{dedup};
 ghost use Rattle.std.specs.List.Sorted.{IsStrictlyIncreasing};
 ghost use Rattle.std.specs.Ordering.{nat_cmp};

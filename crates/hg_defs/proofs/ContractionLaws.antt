@@ -1,5 +1,7 @@
 -- Laws of contraction.
-use Rattle.std.proofs.Common.{◌≡◌, ◌≢◌, ℕ, zero, suc, ◌+◌, ◌*◌, ◌<◌, ◌≤◌, ◌⊎◌, inl, inr, Bool, true, false, not, ◌&&◌, cond, if◌then◌else◌, nat_eq, nat_le, List, [], ◌∷◌, map, filter, length, get_or, slice_index, All, Contains, refl, sym, ap, ap₂, ◌∙◌, subst, arith, true≢false, Ordering, Less, Equal, Greater, is_eq, nat_cmp, mul-le-mul_left, le_trans, lt_of_le_of_lt, ◌^◌}
+use Rattle.std.proofs.Common.{◌≡◌, ◌≢◌, ℕ, zero, suc, ◌+◌, ◌*◌, ◌<◌, ◌≤◌, ◌⊎◌, inl, inr, Bool, true, false, not, ◌&&◌, cond, if◌then◌else◌, nat_eq, nat_le}
+use Rattle.std.proofs.Common.{List, [], ◌∷◌, map, filter, length, get_or, slice_index, All, Contains, refl, sym, ap, ap₂, ◌∙◌, subst, arith, true≢false}
+use Rattle.std.proofs.Common.{Ordering, Less, Equal, Greater, is_eq, nat_cmp, mul-le-mul_left, le_trans, lt_of_le_of_lt, ◌^◌}
 use Rattle.std.proofs.lemmas.Bool.{and_parts, and_from, eqb-true, ne_eqb, eq-eqb, leb-true, le-leb, cases_lt}
 use Rattle.std.proofs.lemmas.Cmp.{tied_itself, nat_cmp_total, nat_eq_equiv}
 use Rattle.std.proofs.lemmas.List.{length-map, get_or-map, get_or_default}
@@ -23,9 +25,13 @@ use Rattle.hg_defs.specs.Hypergraph.{Net, IsNet, Hyper, vertex_count, net_count,
 use Rattle.hg_defs.specs.Partition.{block_of, weight_in}
 use Rattle.hg_defs.specs.Cost.{connectivity, price, net_cost}
 use Rattle.hg_defs.specs.Contraction.{image, images, merged_weight, fix_in, contract, after}
-use Rattle.hg_defs.specs.ContractionLaws.{IsContractible, ContractionIsHypergraph, ContractionKeepsWeight, ContractionKeepsLimits, ContractionKeepsCost, ContractionKeepsLoads, FittingIsProjected, FittingIsLifted, PartitionIsProjected, PartitionIsLifted, FixesAreProjected, FixesAreLifted, FixesStayWithin}
-use Rattle.hg_defs.proofs.SumLaws.{weight_if, weight_if-same, weight_if-other, total-map, total-same, total-swap, total-scale_right, total-range, total-le, sum_below-zero, sum_below-same, sum_below-add, sum_below-only, weight_in-by_index, weight_in-blocks}
-use Rattle.hg_defs.proofs.SortLaws.{Contains_head, Contains_later, Contains-cons_cases, Contains-nil, strict-set_of, Contains-set_of, Contains-from_set_of, length-set_of-le, increasing-set_of, nat_cmp_exact, lists_exact, lists_cmp_total}
+use Rattle.hg_defs.specs.ContractionLaws.{IsContractible, ContractionIsHypergraph, ContractionKeepsWeight, ContractionKeepsLimits}
+use Rattle.hg_defs.specs.ContractionLaws.{ContractionKeepsCost, ContractionKeepsLoads, FittingIsProjected, FittingIsLifted}
+use Rattle.hg_defs.specs.ContractionLaws.{PartitionIsProjected, PartitionIsLifted, FixesAreProjected, FixesAreLifted, FixesStayWithin}
+use Rattle.hg_defs.proofs.SumLaws.{weight_if, weight_if-same, weight_if-other, total-map, total-same, total-swap, total-scale_right, total-range, total-le}
+use Rattle.hg_defs.proofs.SumLaws.{sum_below-zero, sum_below-same, sum_below-add, sum_below-only, weight_in-by_index, weight_in-blocks}
+use Rattle.hg_defs.proofs.SortLaws.{Contains_head, Contains_later, Contains-cons_cases, Contains-nil, strict-set_of, Contains-set_of}
+use Rattle.hg_defs.proofs.SortLaws.{Contains-from_set_of, length-set_of-le, increasing-set_of, nat_cmp_exact, lists_exact, lists_cmp_total}
 use Rattle.hg_defs.proofs.DistinctLaws.{Contains-map, Contains-from_map, distinct_count-map_same, connectivity-le}
 use Rattle.hg_defs.proofs.PlacementLaws.{Contains_filter}
 
@@ -37,7 +43,8 @@ length-after p clusters = length-map clusters (block_of p)
 pub block_of-after : (p clusters : List ℕ) (v : ℕ) → v < length clusters → block_of (after p clusters) v ≡ block_of p (slice_index clusters v)
 block_of-after p clusters v l = get_or-map (block_of p) clusters v 0 0 l
 
-cluster_below : (h : Hyper) (clusters : List ℕ) (count : ℕ) → IsContractible h clusters count → (v : ℕ) → v < vertex_count h → slice_index clusters v < count
+cluster_below : (h : Hyper) (clusters : List ℕ) (count : ℕ) → IsContractible h clusters count → (v : ℕ) → v < vertex_count h →
+    slice_index clusters v < count
 cluster_below h clusters count c v l = c.full.below v 0 (let e = c.full.vertices in omega arith)
 
 pub partition_projected : PartitionIsProjected
@@ -59,7 +66,8 @@ partition_lifted h clusters count k p c long whole = record {
     low i l =
         let u = c.full.used i l in
         let e = get_or_default clusters u.0 0 i u.1 ∙ u.2 in
-        subst (λ b. b < k) (block_of-after p clusters u.0 u.1 ∙ ap (block_of p) e) (whole.blocks u.0 0 (let n = length-after p clusters in let m = u.1 in omega arith))
+        subst (λ b. b < k) (block_of-after p clusters u.0 u.1 ∙ ap (block_of p) e) (whole.blocks u.0 0 (let n = length-after p clusters in let m = u.1 in
+        omega arith))
 
 -- ---- loads
 
@@ -78,21 +86,26 @@ weight_if-zero x b = by (nat_eq x b)
     by false = refl
 
 -- the weight of the fine vertices in a block, cluster by cluster
-weight_in-clusters : (ws clusters p : List ℕ) (b count : ℕ) → All (λ i. i < count) clusters → weight_in ws (map (block_of p) clusters) b ≡ sum_below (λ i. weight_if (block_of p i) b (weight_in ws clusters i)) count
+weight_in-clusters : (ws clusters p : List ℕ) (b count : ℕ) → All (λ i. i < count) clusters → weight_in ws (map (block_of p) clusters) b ≡ sum_below
+    (λ i. weight_if (block_of p i) b (weight_in ws clusters i)) count
 weight_in-clusters [] clusters p b count h = sym (sum_below-zero (λ i. weight_if (block_of p i) b 0) count (λ i l. weight_if-zero (block_of p i) b))
 weight_in-clusters (w ∷ ws) [] p b count h = sym (sum_below-zero (λ i. weight_if (block_of p i) b 0) count (λ i l. weight_if-zero (block_of p i) b))
 weight_in-clusters (w ∷ ws) (c ∷ clusters) p b count h =
     let e = weight_in-clusters ws clusters p b count (All-tail (λ i. i < count) c clusters h) in
-    let s = sum_below-same (λ i. weight_if (block_of p i) b (weight_if c i w + weight_in ws clusters i)) (λ i. weight_if (block_of p i) b (weight_if c i w) + weight_if (block_of p i) b (weight_in ws clusters i)) count (λ i l. weight_if-add (block_of p i) b (weight_if c i w) (weight_in ws clusters i)) in
+    let s = sum_below-same (λ i. weight_if (block_of p i) b (weight_if c i w + weight_in ws clusters i))
+    (λ i. weight_if (block_of p i) b (weight_if c i w) +
+    weight_if (block_of p i) b (weight_in ws clusters i)) count (λ i l. weight_if-add (block_of p i) b (weight_if c i w) (weight_in ws clusters i)) in
     let a = sum_below-add (λ i. weight_if (block_of p i) b (weight_if c i w)) (λ i. weight_if (block_of p i) b (weight_in ws clusters i)) count in
-    let o = sum_below-only (λ i. weight_if (block_of p i) b (weight_if c i w)) count c (All-head (λ i. i < count) c clusters h) (λ j l q. ap (weight_if (block_of p j) b) (weight_if-other c j w (λ r. q (sym r))) ∙ weight_if-zero (block_of p j) b) in
+    let o = sum_below-only (λ i. weight_if (block_of p i) b (weight_if c i w)) count c (All-head (λ i. i < count) c clusters h)
+    (λ j l q. ap (weight_if (block_of p j) b) (weight_if-other c j w (λ r. q (sym r))) ∙ weight_if-zero (block_of p j) b) in
     let t = ap (weight_if (block_of p c) b) (weight_if-same c c w refl) in
     omega arith
 
 pub loads_kept : ContractionKeepsLoads
 loads_kept h clusters count p b c long =
     weight_in-clusters h.weights clusters p b count c.full.below
-    ∙ subst (λ n. sum_below (λ i. weight_if (block_of p i) b (weight_in h.weights clusters i)) n ≡ sum_below (λ i. weight_if (block_of p i) b (slice_index coarse i)) (length coarse)) size same
+    ∙ subst (λ n. sum_below (λ i. weight_if (block_of p i) b (weight_in h.weights clusters i)) n ≡ sum_below
+    (λ i. weight_if (block_of p i) b (slice_index coarse i)) (length coarse)) size same
     ∙ sym (weight_in-by_index coarse p b (let n = size in omega arith))
   where
     coarse : List ℕ
@@ -101,9 +114,12 @@ loads_kept h clusters count p b c long =
     size : length coarse ≡ count
     size = length-map-range_with_len (weight_in h.weights clusters) 0 count
 
-    same : sum_below (λ i. weight_if (block_of p i) b (weight_in h.weights clusters i)) (length coarse) ≡ sum_below (λ i. weight_if (block_of p i) b (slice_index coarse i)) (length coarse)
-    same = sum_below-same (λ i. weight_if (block_of p i) b (weight_in h.weights clusters i)) (λ i. weight_if (block_of p i) b (slice_index coarse i)) (length coarse)
-        (λ i l. ap (weight_if (block_of p i) b) (sym (get_or-map-range_with_len (weight_in h.weights clusters) 0 count i i 0 (let n = size in omega arith) (omega arith))))
+    same : sum_below (λ i. weight_if (block_of p i) b (weight_in h.weights clusters i)) (length coarse) ≡ sum_below
+        (λ i. weight_if (block_of p i) b (slice_index coarse i)) (length coarse)
+    same = sum_below-same (λ i. weight_if (block_of p i) b (weight_in h.weights clusters i)) (λ i. weight_if (block_of p i) b (slice_index coarse i))
+        (length coarse)
+        (λ i l. ap (weight_if (block_of p i) b) (sym (get_or-map-range_with_len (weight_in h.weights clusters) 0 count i i 0 (let n = size in omega arith)
+        (omega arith))))
 
 pub fitting_projected : FittingIsProjected
 fitting_projected h clusters count k l p c long f b low = let e = loads_kept h clusters count p b c long in let a = f b low in omega arith
@@ -121,10 +137,12 @@ weight_kept h clusters count c =
 
 -- the members of an image are the clusters of the pins
 pub Contains-image : (clusters : List ℕ) (e : Net) (v : ℕ) → Contains e.pins v → Contains (image clusters e) (slice_index clusters v)
-Contains-image clusters e v c = Contains-set_of nat_cmp_total nat_cmp_exact (map (slice_index clusters) e.pins) (slice_index clusters v) (Contains-map (slice_index clusters) e.pins v c)
+Contains-image clusters e v c = Contains-set_of nat_cmp_total nat_cmp_exact (map (slice_index clusters) e.pins) (slice_index clusters v)
+    (Contains-map (slice_index clusters) e.pins v c)
 
 pub Contains-from_image : (clusters : List ℕ) (e : Net) (i : ℕ) → Contains (image clusters e) i → (v : ℕ) × Contains e.pins v × (slice_index clusters v ≡ i)
-Contains-from_image clusters e i c = Contains-from_map (slice_index clusters) e.pins i (Contains-from_set_of nat_cmp_total nat_cmp_exact (map (slice_index clusters) e.pins) i c)
+Contains-from_image clusters e i c = Contains-from_map (slice_index clusters) e.pins i (Contains-from_set_of nat_cmp_total nat_cmp_exact
+    (map (slice_index clusters) e.pins) i c)
 
 pub length-image-le : (clusters : List ℕ) (e : Net) → length (image clusters e) ≤ length e.pins
 length-image-le clusters e =
@@ -139,7 +157,8 @@ Contains-from_filter {A} test (y ∷ ys) x c = by (test y) refl c (Contains-from
     rest : Contains ys x × (test x ≡ true) → Contains (y ∷ ys) x × (test x ≡ true)
     rest t = (Contains_later y ys x t.0, t.1)
 
-    by : (b : Bool) → test y ≡ b → Contains (cond b (y ∷ filter test ys) (filter test ys)) x → (Contains (filter test ys) x → Contains ys x × (test x ≡ true)) → Contains (y ∷ ys) x × (test x ≡ true)
+    by : (b : Bool) → test y ≡ b → Contains (cond b (y ∷ filter test ys) (filter test ys)) x →
+        (Contains (filter test ys) x → Contains ys x × (test x ≡ true)) → Contains (y ∷ ys) x × (test x ≡ true)
     by true e d r = two (Contains-cons_cases y (filter test ys) x d)
       where
         two : (y ≡ x) ⊎ Contains (filter test ys) x → Contains (y ∷ ys) x × (test x ≡ true)
@@ -155,11 +174,13 @@ module _ (h : Hyper) (clusters : List ℕ) where
   pub Contains-images : (e : Net) → Contains h.nets e → 2 ≤ length (image clusters e) → Contains (images h clusters) (image clusters e)
   Contains-images e c l =
       Contains-set_of lists_cmp_total lists_exact (filter is_wide (map (image clusters) h.nets)) (image clusters e)
-      (Contains_filter is_wide (map (image clusters) h.nets) (image clusters e) (Contains-map (image clusters) h.nets e c) (le-leb 2 (length (image clusters e)) l))
+      (Contains_filter is_wide (map (image clusters) h.nets) (image clusters e) (Contains-map (image clusters) h.nets e c)
+      (le-leb 2 (length (image clusters e)) l))
 
   pub Contains-from_images : (i : List ℕ) → Contains (images h clusters) i → (e : Net) × Contains h.nets e × (image clusters e ≡ i) × (2 ≤ length i)
   Contains-from_images i c =
-      let a = Contains-from_filter is_wide (map (image clusters) h.nets) i (Contains-from_set_of lists_cmp_total lists_exact (filter is_wide (map (image clusters) h.nets)) i c) in
+      let a = Contains-from_filter is_wide (map (image clusters) h.nets) i (Contains-from_set_of lists_cmp_total lists_exact
+      (filter is_wide (map (image clusters) h.nets)) i c) in
       let b = Contains-from_map (image clusters) h.nets i a.0 in
       (b.0, b.1, b.2, leb-true 2 (length i) a.1)
 
@@ -184,15 +205,18 @@ module _ (h : Hyper) (clusters : List ℕ) where
 -- ---- costs
 
 -- a sum over a set has one term for each element
-only_term : (x : List ℕ) (w : ℕ) (g : List ℕ → ℕ) (xs : List (List ℕ)) → IsStrictlySortedBy (slice_cmp nat_cmp) xs → Contains xs x → total (λ i. (if is_eq (slice_cmp nat_cmp x i) then w else 0) * g i) xs ≡ w * g x
+only_term : (x : List ℕ) (w : ℕ) (g : List ℕ → ℕ) (xs : List (List ℕ)) → IsStrictlySortedBy (slice_cmp nat_cmp) xs → Contains xs x →
+    total (λ i. (if is_eq (slice_cmp nat_cmp x i) then w else 0) * g i) xs ≡ w * g x
 only_term x w g [] s c = absurd (Contains-nil x c)
 only_term x w g (y ∷ ys) s c = by (slice_cmp nat_cmp x y) refl (Contains-cons_cases y ys x c) (only_term x w g ys (sorted_tail (slice_cmp nat_cmp) y ys s))
   where
-    none : (zs : List (List ℕ)) → x ≡ y → AllByRecursion (λ z. slice_cmp nat_cmp y z ≡ Less) zs → total (λ i. (if is_eq (slice_cmp nat_cmp x i) then w else 0) * g i) zs ≡ 0
+    none : (zs : List (List ℕ)) → x ≡ y → AllByRecursion (λ z. slice_cmp nat_cmp y z ≡ Less) zs →
+        total (λ i. (if is_eq (slice_cmp nat_cmp x i) then w else 0) * g i) zs ≡ 0
     none [] e a = refl
     none (z ∷ zs) e a = ap₂ (λ r n. (if is_eq r then w else 0) * g z + n) (ap (λ u. slice_cmp nat_cmp u z) e ∙ a.0) (none zs e a.1) ∙ omega arith
 
-    by : (r : Ordering) → slice_cmp nat_cmp x y ≡ r → (y ≡ x) ⊎ Contains ys x → (Contains ys x → total (λ i. (if is_eq (slice_cmp nat_cmp x i) then w else 0) * g i) ys ≡ w * g x)
+    by : (r : Ordering) → slice_cmp nat_cmp x y ≡ r → (y ≡ x) ⊎ Contains ys x →
+        (Contains ys x → total (λ i. (if is_eq (slice_cmp nat_cmp x i) then w else 0) * g i) ys ≡ w * g x)
         → (if is_eq r then w else 0) * g y + total (λ i. (if is_eq (slice_cmp nat_cmp x i) then w else 0) * g i) ys ≡ w * g x
     by Equal e t r =
         let same = lists_exact x y e in
@@ -208,11 +232,13 @@ only_term x w g (y ∷ ys) s c = by (slice_cmp nat_cmp x y) refl (Contains-cons_
     by Greater e (inr t) r = let a = r t in omega arith
 
 -- no element is the one
-no_term : (x : List ℕ) (w : ℕ) (g : List ℕ → ℕ) (xs : List (List ℕ)) → (Contains xs x → ⊥) → total (λ i. (if is_eq (slice_cmp nat_cmp x i) then w else 0) * g i) xs ≡ 0
+no_term : (x : List ℕ) (w : ℕ) (g : List ℕ → ℕ) (xs : List (List ℕ)) → (Contains xs x → ⊥) →
+    total (λ i. (if is_eq (slice_cmp nat_cmp x i) then w else 0) * g i) xs ≡ 0
 no_term x w g [] c = refl
 no_term x w g (y ∷ ys) c = by (slice_cmp nat_cmp x y) refl (no_term x w g ys (λ t. c (Contains_later y ys x t)))
   where
-    by : (r : Ordering) → slice_cmp nat_cmp x y ≡ r → total (λ i. (if is_eq (slice_cmp nat_cmp x i) then w else 0) * g i) ys ≡ 0 → (if is_eq r then w else 0) * g y + total (λ i. (if is_eq (slice_cmp nat_cmp x i) then w else 0) * g i) ys ≡ 0
+    by : (r : Ordering) → slice_cmp nat_cmp x y ≡ r → total (λ i. (if is_eq (slice_cmp nat_cmp x i) then w else 0) * g i) ys ≡ 0 →
+        (if is_eq r then w else 0) * g y + total (λ i. (if is_eq (slice_cmp nat_cmp x i) then w else 0) * g i) ys ≡ 0
     by Equal e r = absurd (c (subst (Contains (y ∷ ys)) (sym (lists_exact x y e)) (Contains_head y ys)))
     by Less e r = omega arith
     by Greater e r = omega arith
@@ -223,23 +249,27 @@ price_of_one o (suc zero) l = refl
 price_of_one o (suc (suc n)) l = absurd (omega arith)
 
 -- a net touches in the fine partition the blocks that its image touches
-pub connectivity-after : (n : ℕ) (p clusters : List ℕ) (e : Net) → length clusters ≡ n → All (λ v. v < n) e.pins → connectivity (after p clusters) e.pins ≡ connectivity p (image clusters e)
+pub connectivity-after : (n : ℕ) (p clusters : List ℕ) (e : Net) → length clusters ≡ n → All (λ v. v < n) e.pins → connectivity (after p clusters) e.pins ≡
+    connectivity p (image clusters e)
 connectivity-after n p clusters e long low =
     ap (λ bs. distinct_count nat_eq bs) (fine e.pins low)
     ∙ distinct_count-map_same (block_of p) (map (slice_index clusters) e.pins) (image clusters e)
-    (λ i c. Contains-set_of nat_cmp_total nat_cmp_exact (map (slice_index clusters) e.pins) i c) (λ i c. Contains-from_set_of nat_cmp_total nat_cmp_exact (map (slice_index clusters) e.pins) i c)
+    (λ i c. Contains-set_of nat_cmp_total nat_cmp_exact (map (slice_index clusters) e.pins) i c) (λ i c. Contains-from_set_of nat_cmp_total nat_cmp_exact
+    (map (slice_index clusters) e.pins) i c)
   where
     fine : (vs : List ℕ) → All (λ v. v < n) vs → map (block_of (after p clusters)) vs ≡ map (block_of p) (map (slice_index clusters) vs)
     fine [] a = refl
     fine (v ∷ vs) a =
-        ap₂ (λ (x : ℕ) (xs : List ℕ). x ∷ xs) (block_of-after p clusters v (let l = All-head (λ u. u < n) v vs a in omega arith)) (fine vs (All-tail (λ u. u < n) v vs a))
+        ap₂ (λ (x : ℕ) (xs : List ℕ). x ∷ xs) (block_of-after p clusters v (let l = All-head (λ u. u < n) v vs a in omega arith))
+        (fine vs (All-tail (λ u. u < n) v vs a))
 
 pub cost_kept : ContractionKeepsCost
 cost_kept h clusters count p c =
     total-same (net_cost h.objective (after p clusters)) (λ e. total (term e) (images h clusters)) h.nets each
     ∙ total-swap term h.nets (images h clusters)
     ∙ total-same (λ i. total (λ e. term e i) h.nets) (λ i. merged_weight h clusters i * price h.objective (connectivity p i)) (images h clusters)
-    (λ k d l. total-scale_right (price h.objective (connectivity p (get_or (images h clusters) k d))) (λ e. if is_eq (slice_cmp nat_cmp (image clusters e) (get_or (images h clusters) k d)) then e.weight else 0) h.nets)
+    (λ k d l. total-scale_right (price h.objective (connectivity p (get_or (images h clusters) k d)))
+    (λ e. if is_eq (slice_cmp nat_cmp (image clusters e) (get_or (images h clusters) k d)) then e.weight else 0) h.nets)
     ∙ sym (total-map (net_cost h.objective p) (λ i. record { weight = merged_weight h clusters i; pins = i }) (images h clusters))
   where
     term : Net → List ℕ → ℕ
@@ -249,12 +279,16 @@ cost_kept h clusters count p c =
     each k d l = one (get_or h.nets k d) (Contains-get_or h.nets k d l) (c.hypergraph.nets k d l)
       where
         one : (e : Net) → Contains h.nets e → IsNet (vertex_count h) e → net_cost h.objective (after p clusters) e ≡ total (term e) (images h clusters)
-        one e m good = ap (λ n. e.weight * price h.objective n) (connectivity-after (vertex_count h) p clusters e c.full.vertices good.pins) ∙ sym (by (cases_lt (length (image clusters e)) 2))
+        one e m good = ap (λ n. e.weight * price h.objective n) (connectivity-after (vertex_count h) p clusters e c.full.vertices good.pins) ∙
+            sym (by (cases_lt (length (image clusters e)) 2))
           where
-            by : (length (image clusters e) < 2) ⊎ (2 ≤ length (image clusters e)) → total (term e) (images h clusters) ≡ e.weight * price h.objective (connectivity p (image clusters e))
-            by (inr w) = only_term (image clusters e) e.weight (λ i. price h.objective (connectivity p i)) (images h clusters) (strict-images h clusters) (Contains-images h clusters e m w)
+            by : (length (image clusters e) < 2) ⊎ (2 ≤ length (image clusters e)) → total (term e) (images h clusters) ≡ e.weight * price h.objective
+                (connectivity p (image clusters e))
+            by (inr w) = only_term (image clusters e) e.weight (λ i. price h.objective (connectivity p i)) (images h clusters) (strict-images h clusters)
+                (Contains-images h clusters e m w)
             by (inl w) =
-                let a = no_term (image clusters e) e.weight (λ i. price h.objective (connectivity p i)) (images h clusters) (λ t. let x = Contains-from_images h clusters (image clusters e) t in let y = x.3 in absurd (omega arith)) in
+                let a = no_term (image clusters e) e.weight (λ i. price h.objective (connectivity p i)) (images h clusters)
+                (λ t. let x = Contains-from_images h clusters (image clusters e) t in let y = x.3 in absurd (omega arith)) in
                 let z = price_of_one h.objective (connectivity p (image clusters e)) (let q = connectivity-le p (image clusters e) in omega arith) in
                 a ∙ sym (ap (λ n. e.weight * n) z ∙ omega arith)
 
@@ -281,7 +315,8 @@ fix_in_found [] clusters i n = absurd (n refl)
 fix_in_found (f ∷ fixes) [] i n = absurd (n refl)
 fix_in_found (f ∷ fixes) (c ∷ clusters) i n = by (nat_eq c i && not (nat_eq f FREE)) refl n (fix_in_found fixes clusters i)
   where
-    by : (t : Bool) → (nat_eq c i && not (nat_eq f FREE)) ≡ t → (if t then f else fix_in fixes clusters i) ≢ FREE → (fix_in fixes clusters i ≢ FREE → (v : ℕ) × HasFix fixes clusters i v) → (v : ℕ) × HasFix (f ∷ fixes) (c ∷ clusters) i v
+    by : (t : Bool) → (nat_eq c i && not (nat_eq f FREE)) ≡ t → (if t then f else fix_in fixes clusters i) ≢ FREE →
+        (fix_in fixes clusters i ≢ FREE → (v : ℕ) × HasFix fixes clusters i v) → (v : ℕ) × HasFix (f ∷ fixes) (c ∷ clusters) i v
     by true e m r = (
       0,
       record {
@@ -307,9 +342,11 @@ fix_in_is : (fixes clusters : List ℕ) (v : ℕ) → v < length clusters → v 
     → ((u : ℕ) → u < v → slice_index clusters u ≡ slice_index clusters v → ⊥) → fix_in fixes clusters (slice_index clusters v) ≡ get_or fixes v FREE
 fix_in_is [] clusters v l m n a = absurd (omega arith)
 fix_in_is (f ∷ fixes) [] v l m n a = absurd (omega arith)
-fix_in_is (f ∷ fixes) (c ∷ clusters) zero l m n a = ap (λ (t : Bool). if t then f else fix_in fixes clusters c) (and_from (nat_eq c c) (not (nat_eq f FREE)) (eq-eqb c c refl) (ap not (ne_eqb f FREE n)))
+fix_in_is (f ∷ fixes) (c ∷ clusters) zero l m n a = ap (λ (t : Bool). if t then f else fix_in fixes clusters c)
+    (and_from (nat_eq c c) (not (nat_eq f FREE)) (eq-eqb c c refl) (ap not (ne_eqb f FREE n)))
 fix_in_is (f ∷ fixes) (c ∷ clusters) (suc v) l m n a =
-    ap (λ (t : Bool). if t && not (nat_eq f FREE) then f else fix_in fixes clusters (slice_index clusters v)) (ne_eqb c (slice_index clusters v) (a 0 (omega arith)))
+    ap (λ (t : Bool). if t && not (nat_eq f FREE) then f else fix_in fixes clusters (slice_index clusters v))
+    (ne_eqb c (slice_index clusters v) (a 0 (omega arith)))
     ∙ fix_in_is fixes clusters v (omega arith) (omega arith) n (λ u q e. a (suc u) (omega arith) e)
 
 fix_of-contract : (h : Hyper) (clusters : List ℕ) (count i : ℕ) → i < count → fix_of (contract h clusters count) i ≡ fix_in h.fixes clusters i
@@ -320,7 +357,8 @@ vertex_count-contract h clusters count = length-map-range_with_len (weight_in h.
 
 pub fixes_projected : FixesAreProjected
 fixes_projected h clusters count p c alone o v l f =
-    block_of-after p clusters v (let e = c.full.vertices in omega arith) ∙ o (slice_index clusters v) (let n = vertex_count-contract h clusters count in let m = low in omega arith) (λ e. f (sym same ∙ e)) ∙ same
+    block_of-after p clusters v (let e = c.full.vertices in omega arith) ∙ o (slice_index clusters v) (let n = vertex_count-contract h clusters count in
+    let m = low in omega arith) (λ e. f (sym same ∙ e)) ∙ same
   where
     low : slice_index clusters v < count
     low = cluster_below h clusters count c v l
@@ -349,7 +387,8 @@ fixes_within h clusters count k c w i l f =
 
 -- ---- the contraction is a hypergraph
 
-pub image_is_net : (h : Hyper) (clusters : List ℕ) (count : ℕ) (e : Net) → IsContractible h clusters count → IsNet (vertex_count h) e → (w : ℕ) → IsNet count (record { weight = w; pins = image clusters e })
+pub image_is_net : (h : Hyper) (clusters : List ℕ) (count : ℕ) (e : Net) → IsContractible h clusters count → IsNet (vertex_count h) e → (w : ℕ) →
+    IsNet count (record { weight = w; pins = image clusters e })
 image_is_net h clusters count e c good w = record {
   rising = increasing-set_of (map (slice_index clusters) e.pins);
   pins = λ k d l. low (get_or (image clusters e) k d) (Contains-get_or (image clusters e) k d l);
@@ -363,11 +402,15 @@ image_is_net h clusters count e c good w = record {
 pub hypergraph_kept : ContractionIsHypergraph
 hypergraph_kept h clusters count c = record {
   fixes = length-map-range_with_len (fix_in h.fixes clusters) 0 count ∙ sym (vertex_count-contract h clusters count);
-  fixed = All-map (λ f. f ≤ FREE) (fix_in h.fixes clusters) (range_with_len 0 count) (λ k d l. fix_in-le h.fixes clusters (get_or (range_with_len 0 count) k d) c.hypergraph.fixed);
-  nets = All-map (IsNet (vertex_count (contract h clusters count))) (λ i. record { weight = merged_weight h clusters i; pins = i }) (images h clusters) (λ k d l. one (get_or (images h clusters) k d) (Contains-get_or (images h clusters) k d l));
+  fixed = All-map (λ f. f ≤ FREE) (fix_in h.fixes clusters) (range_with_len 0 count)
+      (λ k d l. fix_in-le h.fixes clusters (get_or (range_with_len 0 count) k d)
+      c.hypergraph.fixed);
+  nets = All-map (IsNet (vertex_count (contract h clusters count))) (λ i. record { weight = merged_weight h clusters i; pins = i }) (images h clusters)
+      (λ k d l. one (get_or (images h clusters) k d) (Contains-get_or (images h clusters) k d l));
 }
   where
-    one : (i : List ℕ) → Contains (images h clusters) i → IsNet (vertex_count (contract h clusters count)) (record { weight = merged_weight h clusters i; pins = i })
+    one : (i : List ℕ) → Contains (images h clusters) i → IsNet (vertex_count (contract h clusters count))
+        (record { weight = merged_weight h clusters i; pins = i })
     one i t =
         let x = Contains-from_images h clusters i t in
         subst (λ n. IsNet n (record { weight = merged_weight h clusters i; pins = i })) (sym (vertex_count-contract h clusters count))
@@ -380,7 +423,8 @@ total-joined-le : {A : Type 0} (f : A → ℕ) (R : A → A → Ordering) (x : A
 total-joined-le f R x [] = omega arith
 total-joined-le f R x (y ∷ ys) = by (R x y) (total-joined-le f R x ys)
   where
-    by : (r : Ordering) → total f (joined R x ys) ≤ f x + total f ys → total f (match_ordering r (x ∷ y ∷ ys) (y ∷ ys) (y ∷ joined R x ys)) ≤ f x + (f y + total f ys)
+    by : (r : Ordering) → total f (joined R x ys) ≤ f x + total f ys → total f (match_ordering r (x ∷ y ∷ ys) (y ∷ ys) (y ∷ joined R x ys)) ≤ f x +
+        (f y + total f ys)
     by Less h = omega arith
     by Equal h = omega arith
     by Greater h = omega arith
@@ -398,8 +442,10 @@ total-filter-le f test (x ∷ xs) = by (test x) (total-filter-le f test xs)
     by false r = omega arith
 
 -- the merged nets cost at most what the nets cost, each by its image
-merged-le : (h : Hyper) (clusters : List ℕ) (g : List ℕ → ℕ) → total (λ i. merged_weight h clusters i * g i) (images h clusters) ≤ total (λ e. e.weight * g (image clusters e)) h.nets
-merged-le h clusters g = subst (λ n. n ≤ total (λ e. e.weight * g (image clusters e)) h.nets) turned (total-le (λ e. total (term e) (images h clusters)) (λ e. e.weight * g (image clusters e)) h.nets each)
+merged-le : (h : Hyper) (clusters : List ℕ) (g : List ℕ → ℕ) → total (λ i. merged_weight h clusters i * g i) (images h clusters) ≤ total
+    (λ e. e.weight * g (image clusters e)) h.nets
+merged-le h clusters g = subst (λ n. n ≤ total (λ e. e.weight * g (image clusters e)) h.nets) turned (total-le (λ e. total (term e) (images h clusters))
+    (λ e. e.weight * g (image clusters e)) h.nets each)
   where
     term : Net → List ℕ → ℕ
     term e i = (if is_eq (slice_cmp nat_cmp (image clusters e) i) then e.weight else 0) * g i
@@ -408,7 +454,8 @@ merged-le h clusters g = subst (λ n. n ≤ total (λ e. e.weight * g (image clu
     turned =
         total-swap term h.nets (images h clusters)
         ∙ total-same (λ i. total (λ e. term e i) h.nets) (λ i. merged_weight h clusters i * g i) (images h clusters)
-        (λ k d l. total-scale_right (g (get_or (images h clusters) k d)) (λ e. if is_eq (slice_cmp nat_cmp (image clusters e) (get_or (images h clusters) k d)) then e.weight else 0) h.nets)
+        (λ k d l. total-scale_right (g (get_or (images h clusters) k d))
+        (λ e. if is_eq (slice_cmp nat_cmp (image clusters e) (get_or (images h clusters) k d)) then e.weight else 0) h.nets)
 
     each : All (λ e. total (term e) (images h clusters) ≤ e.weight * g (image clusters e)) h.nets
     each k d l = one (get_or h.nets k d) (Contains-get_or h.nets k d l)
@@ -417,8 +464,11 @@ merged-le h clusters g = subst (λ n. n ≤ total (λ e. e.weight * g (image clu
         one e m = by (cases_lt (length (image clusters e)) 2)
           where
             by : (length (image clusters e) < 2) ⊎ (2 ≤ length (image clusters e)) → total (term e) (images h clusters) ≤ e.weight * g (image clusters e)
-            by (inr w) = let a = only_term (image clusters e) e.weight g (images h clusters) (strict-images h clusters) (Contains-images h clusters e m w) in omega arith
-            by (inl w) = let a = no_term (image clusters e) e.weight g (images h clusters) (λ t. let x = Contains-from_images h clusters (image clusters e) t in let y = x.3 in absurd (omega arith)) in omega arith
+            by (inr w) = let a = only_term (image clusters e) e.weight g (images h clusters) (strict-images h clusters)
+                (Contains-images h clusters e m w) in
+                omega arith
+            by (inl w) = let a = no_term (image clusters e) e.weight g (images h clusters) (λ t. let x = Contains-from_images h clusters (image clusters e)
+                t in let y = x.3 in absurd (omega arith)) in omega arith
 
 -- there are no more clusters than vertices
 count-le : (clusters : List ℕ) (count : ℕ) → ((i : ℕ) → i < count → Contains clusters i) → count ≤ length clusters
@@ -444,7 +494,9 @@ count-le clusters count used =
 
 pub limits_kept : ContractionKeepsLimits
 limits_kept h clusters count c w = record {
-  vertices = let a = count-le clusters count c.full.used in let b = c.full.vertices in let n = vertex_count-contract h clusters count in let x = w.vertices in le_trans (omega arith) x;
+  vertices = let a = count-le clusters count c.full.used in let b = c.full.vertices in let n = vertex_count-contract h clusters count in
+      let x = w.vertices in
+      le_trans (omega arith) x;
   nets = let a = length-images-le h clusters in let n = length-map (images h clusters) net in let x = w.nets in le_trans (omega arith) x;
   pins = le_trans pins w.pins;
   weight = subst (λ n. n < 2 ^ 54) (sym (weight_kept h clusters count c)) w.weight;
@@ -479,5 +531,6 @@ limits_kept h clusters count c w = record {
     pin_weight =
         let a = total-map (λ e. e.weight * length e.pins) net (images h clusters) in
         let b = merged-le h clusters (λ i. length i) in
-        let d = total-le (λ e. e.weight * length (image clusters e)) (λ e. e.weight * length e.pins) h.nets (λ k x l. mul-le-mul_left (get_or h.nets k x).weight (length-image-le clusters (get_or h.nets k x))) in
+        let d = total-le (λ e. e.weight * length (image clusters e)) (λ e. e.weight * length e.pins) h.nets
+        (λ k x l. mul-le-mul_left (get_or h.nets k x).weight (length-image-le clusters (get_or h.nets k x))) in
         omega arith

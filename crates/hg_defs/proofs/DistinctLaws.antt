@@ -1,5 +1,7 @@
 -- Laws of the number of distinct entries of a list, and of the blocks that the pins of a net touch.
-use Rattle.std.proofs.Common.{◌≡◌, ◌≢◌, ℕ, zero, suc, ◌+◌, ◌*◌, ◌<◌, ◌≤◌, ◌⊎◌, inl, inr, Bool, true, false, ◌||◌, cond, if◌then◌else◌, nat_eq, nat_lt, List, [], ◌∷◌, map, length, get_or, slice_set, All, Contains, refl, sym, ap, ap₂, ◌∙◌, subst, arith, nat_cmp, max, get_or-set_same, get_or-set_other}
+use Rattle.std.proofs.Common.{◌≡◌, ◌≢◌, ℕ, zero, suc, ◌+◌, ◌*◌, ◌<◌, ◌≤◌, ◌⊎◌, inl, inr, Bool, true, false, ◌||◌, cond}
+use Rattle.std.proofs.Common.{if◌then◌else◌, nat_eq, nat_lt, List, [], ◌∷◌, map, length, get_or, slice_set, All, Contains, refl, sym}
+use Rattle.std.proofs.Common.{ap, ap₂, ◌∙◌, subst, arith, nat_cmp, max, get_or-set_same, get_or-set_other}
 use Rattle.std.proofs.lemmas.List.Elements.{All-nil, All-head, All-tail, All-cons, All-weaker, All-map, All-set}
 use Rattle.std.proofs.lemmas.List.{length-map}
 use Rattle.std.proofs.lemmas.Bool.{eqb-true, eqb-false, eq-eqb, ne_eqb, ltb-true, ltb-false, lt-ltb, false_from_ne_true}
@@ -17,8 +19,10 @@ use Rattle.hg_defs.specs.Sorting.{set_of}
 use Rattle.hg_defs.specs.Partition.{block_of}
 use Rattle.hg_defs.specs.Pins.{pins_in, present}
 use Rattle.hg_defs.specs.Cost.{connectivity}
-use Rattle.hg_defs.proofs.SumLaws.{total-map, sum_below-same, sum_below-change, sum_below-zero, sum_below-add, sum_below-weight_if, weight_if, weight_if-same, weight_if-other, weight_if-le}
-use Rattle.hg_defs.proofs.SortLaws.{Contains_head, Contains_later, Contains-cons_cases, Contains-nil, strict-set_of, is_member-set_of, set_of-same, nat_cmp_exact}
+use Rattle.hg_defs.proofs.SumLaws.{total-map, sum_below-same, sum_below-change, sum_below-zero, sum_below-add}
+use Rattle.hg_defs.proofs.SumLaws.{sum_below-weight_if, weight_if, weight_if-same, weight_if-other, weight_if-le}
+use Rattle.hg_defs.proofs.SortLaws.{Contains_head, Contains_later, Contains-cons_cases, Contains-nil}
+use Rattle.hg_defs.proofs.SortLaws.{strict-set_of, is_member-set_of, set_of-same, nat_cmp_exact}
 
 -- ---- members of a mapped list
 
@@ -44,17 +48,20 @@ Contains-from_map {A} f (x ∷ xs) y h = by (Contains-cons_cases (f x) (map f xs
 pub distinct_count-set_of : (xs : List ℕ) → distinct_count nat_eq xs ≡ length (set_of nat_cmp xs)
 distinct_count-set_of xs =
     sym (length-from_keys nat_eq_equiv (set_of nat_cmp xs) xs
-    (subst (λ (E : ℕ → ℕ → Bool). IsDistinct E (set_of nat_cmp xs)) same (IsDistinct-from_sorted nat_cmp (set_of nat_cmp xs) (strict-set_of nat_cmp_total xs)))
+    (subst (λ (E : ℕ → ℕ → Bool). IsDistinct E (set_of nat_cmp xs)) same (IsDistinct-from_sorted nat_cmp (set_of nat_cmp xs)
+    (strict-set_of nat_cmp_total xs)))
     (λ q. subst (λ (E : ℕ → ℕ → Bool). is_member E (set_of nat_cmp xs) q ≡ is_member E xs q) same (is_member-set_of nat_cmp_total xs q)))
   where
     same : eq_by_cmp nat_cmp ≡ nat_eq
     same = λ i x y. unsigned_tied x y i
 
 -- it depends on the members alone
-pub distinct_count-same : (xs ys : List ℕ) → ((q : ℕ) → Contains xs q → Contains ys q) → ((q : ℕ) → Contains ys q → Contains xs q) → distinct_count nat_eq xs ≡ distinct_count nat_eq ys
+pub distinct_count-same : (xs ys : List ℕ) → ((q : ℕ) → Contains xs q → Contains ys q) → ((q : ℕ) → Contains ys q → Contains xs q) →
+    distinct_count nat_eq xs ≡ distinct_count nat_eq ys
 distinct_count-same xs ys f g = distinct_count-set_of xs ∙ ap length (set_of-same nat_cmp_total nat_cmp_exact xs ys f g) ∙ sym (distinct_count-set_of ys)
 
-pub distinct_count-map_same : {A : Type 0} (f : A → ℕ) (xs ys : List A) → ((q : A) → Contains xs q → Contains ys q) → ((q : A) → Contains ys q → Contains xs q) → distinct_count nat_eq (map f xs) ≡ distinct_count nat_eq (map f ys)
+pub distinct_count-map_same : {A : Type 0} (f : A → ℕ) (xs ys : List A) → ((q : A) → Contains xs q → Contains ys q) →
+    ((q : A) → Contains ys q → Contains xs q) → distinct_count nat_eq (map f xs) ≡ distinct_count nat_eq (map f ys)
 distinct_count-map_same {A} f xs ys to from = distinct_count-same (map f xs) (map f ys) (pass xs ys to) (pass ys xs from)
   where
     pass : (us vs : List A) → ((q : A) → Contains us q → Contains vs q) → (b : ℕ) → Contains (map f us) b → Contains (map f vs) b
@@ -146,7 +153,8 @@ distinct_count-sum k (x ∷ xs) h = by (is_member nat_eq xs x) refl (distinct_co
     other : (b : ℕ) → b ≢ x → present (times_of (x ∷ xs) b) ≡ present (times_of xs b)
     other b q = let z = weight_if-other x b 1 (λ e. q (sym e)) in ap present (omega arith)
 
-    by : (t : Bool) → is_member nat_eq xs x ≡ t → distinct_count nat_eq xs ≡ sum_below (λ b. present (times_of xs b)) k → length (cond t (unique_keys nat_eq xs) (x ∷ unique_keys nat_eq xs)) ≡ sum_below (λ b. present (times_of (x ∷ xs) b)) k
+    by : (t : Bool) → is_member nat_eq xs x ≡ t → distinct_count nat_eq xs ≡ sum_below (λ b. present (times_of xs b)) k →
+        length (cond t (unique_keys nat_eq xs) (x ∷ unique_keys nat_eq xs)) ≡ sum_below (λ b. present (times_of (x ∷ xs) b)) k
     by true e r =
         let c = ltb-true 0 (times_of xs x) (sym (member_times xs x) ∙ e) in
         let s = sum_below-change (λ b. present (times_of (x ∷ xs) b)) (λ b. present (times_of xs b)) k x l (λ j m q. other j q) in
@@ -166,18 +174,21 @@ abbrev one_if : Bool → ℕ
 one_if t = if t then 1 else 0
 
 -- one count raised by one: a block is touched anew where its count was 0
-pub present-raise : (f g : ℕ → ℕ) (k b : ℕ) → b < k → g b ≡ f b + 1 → ((c : ℕ) → c < k → c ≢ b → g c ≡ f c) → sum_below (λ c. present (g c)) k ≡ sum_below (λ c. present (f c)) k + weight_if (f b) 0 1
+pub present-raise : (f g : ℕ → ℕ) (k b : ℕ) → b < k → g b ≡ f b + 1 → ((c : ℕ) → c < k → c ≢ b → g c ≡ f c) → sum_below (λ c. present (g c)) k ≡ sum_below
+    (λ c. present (f c)) k + weight_if (f b) 0 1
 present-raise f g k b l e h =
     let s = sum_below-change (λ c. present (g c)) (λ c. present (f c)) k b l (λ j m q. ap present (h j m q)) in
     let a = present-positive (g b) (omega arith) in
     by (nat_eq (f b) 0) refl a s
   where
-    by : (t : Bool) → nat_eq (f b) 0 ≡ t → present (g b) ≡ 1 → sum_below (λ c. present (g c)) k + present (f b) ≡ sum_below (λ c. present (f c)) k + present (g b) → sum_below (λ c. present (g c)) k ≡ sum_below (λ c. present (f c)) k + (if t then 1 else 0)
+    by : (t : Bool) → nat_eq (f b) 0 ≡ t → present (g b) ≡ 1 → sum_below (λ c. present (g c)) k + present (f b) ≡ sum_below (λ c. present (f c)) k + present
+        (g b) → sum_below (λ c. present (g c)) k ≡ sum_below (λ c. present (f c)) k + (if t then 1 else 0)
     by true r a s = let z = present-zero (f b) (eqb-true (f b) 0 r) in omega arith
     by false r a s = let n = eqb-false (f b) 0 r in let z = present-positive (f b) (grind arith) in omega arith
 
 -- one count lowered by one: a block isn't touched any more where its count was 1
-pub present-lower : (f g : ℕ → ℕ) (k a : ℕ) → a < k → g a + 1 ≡ f a → ((c : ℕ) → c < k → c ≢ a → g c ≡ f c) → sum_below (λ c. present (g c)) k + weight_if (f a) 1 1 ≡ sum_below (λ c. present (f c)) k
+pub present-lower : (f g : ℕ → ℕ) (k a : ℕ) → a < k → g a + 1 ≡ f a → ((c : ℕ) → c < k → c ≢ a → g c ≡ f c) → sum_below (λ c. present (g c)) k + weight_if
+    (f a) 1 1 ≡ sum_below (λ c. present (f c)) k
 present-lower f g k a l e h =
     let r = present-raise g f k a l (sym e) (λ c m q. sym (h c m q)) in
     let same : weight_if (f a) 1 1 ≡ weight_if (g a) 0 1 = by (nat_eq (f a) 1) (nat_eq (g a) 0) refl refl in
@@ -223,19 +234,26 @@ pins_in-sum k p (v ∷ pins) h =
     omega arith
 
 -- one vertex moved
-pub pins_in-set : (p pins : List ℕ) (v b c : ℕ) → v < length p → pins_in (slice_set p v b) pins c + times_of pins v * weight_if (block_of p v) c 1 ≡ pins_in p pins c + times_of pins v * weight_if b c 1
+pub pins_in-set : (p pins : List ℕ) (v b c : ℕ) → v < length p → pins_in (slice_set p v b) pins c + times_of pins v * weight_if (block_of p v) c 1 ≡
+    pins_in p
+    pins c + times_of pins v * weight_if b c 1
 pins_in-set p [] v b c l = omega arith
 pins_in-set p (u ∷ pins) v b c l = by (nat_eq u v) refl (pins_in-set p pins v b c l)
   where
-    by : (t : Bool) → nat_eq u v ≡ t → pins_in (slice_set p v b) pins c + times_of pins v * weight_if (block_of p v) c 1 ≡ pins_in p pins c + times_of pins v * weight_if b c 1
-        → pins_in (slice_set p v b) (u ∷ pins) c + ((if t then 1 else 0) + times_of pins v) * weight_if (block_of p v) c 1 ≡ pins_in p (u ∷ pins) c + ((if t then 1 else 0) + times_of pins v) * weight_if b c 1
+    by : (t : Bool) → nat_eq u v ≡ t → pins_in (slice_set p v b) pins c + times_of pins v * weight_if (block_of p v) c 1 ≡ pins_in p pins c + times_of pins
+        v *
+        weight_if b c 1
+        → pins_in (slice_set p v b) (u ∷ pins) c + ((if t then 1 else 0) + times_of pins v) * weight_if (block_of p v) c 1 ≡ pins_in p (u ∷ pins) c +
+        ((if t then 1 else 0) + times_of pins v) * weight_if b c 1
     by true e r =
         let same = eqb-true u v e in
-        let new : weight_if (block_of (slice_set p v b) u) c 1 ≡ weight_if b c 1 = ap (λ x. weight_if x c 1) (ap (block_of (slice_set p v b)) same ∙ get_or-set_same p v b 0 l) in
+        let new : weight_if (block_of (slice_set p v b) u) c 1 ≡ weight_if b c 1 = ap (λ x. weight_if x c 1) (ap (block_of (slice_set p v b)) same ∙
+        get_or-set_same p v b 0 l) in
         let old : weight_if (block_of p u) c 1 ≡ weight_if (block_of p v) c 1 = ap (λ x. weight_if (block_of p x) c 1) same in
         omega arith
     by false e r =
-        let new : weight_if (block_of (slice_set p v b) u) c 1 ≡ weight_if (block_of p u) c 1 = ap (λ x. weight_if x c 1) (get_or-set_other p v u b 0 (eqb-false u v e)) in
+        let new : weight_if (block_of (slice_set p v b) u) c 1 ≡ weight_if (block_of p u) c 1 = ap (λ x. weight_if x c 1)
+        (get_or-set_other p v u b 0 (eqb-false u v e)) in
         omega arith
 
 max_of : List ℕ → ℕ
@@ -245,7 +263,8 @@ max_of (x ∷ xs) = max x (max_of xs)
 max_of-above : (xs : List ℕ) → All (λ x. x < suc (max_of xs)) xs
 unfolding max_of
 max_of-above [] = All-nil (λ x. x < suc (max_of []))
-max_of-above (x ∷ xs) = All-cons (λ y. y < suc (max x (max_of xs))) x xs (omega arith) (All-weaker (λ y. y < suc (max_of xs)) (λ y. y < suc (max x (max_of xs))) (λ y l. omega arith) xs (max_of-above xs))
+max_of-above (x ∷ xs) = All-cons (λ y. y < suc (max x (max_of xs))) x xs (omega arith)
+    (All-weaker (λ y. y < suc (max_of xs)) (λ y. y < suc (max x (max_of xs))) (λ y l. omega arith) xs (max_of-above xs))
 
 -- the block of a number past the list is 0
 block_of_below : (k : ℕ) (p : List ℕ) → 0 < k → All (λ b. b < k) p → (v : ℕ) → block_of p v < k
@@ -258,7 +277,8 @@ module _ (p pins : List ℕ) (v b : ℕ) (inside : v < length p) where
   pub pins_in-set_apart : (Contains pins v → ⊥) → (c : ℕ) → pins_in (slice_set p v b) pins c ≡ pins_in p pins c
   pins_in-set_apart h c =
       let t = times_of-absent pins v h in
-      let e = subst (λ n. pins_in (slice_set p v b) pins c + n * weight_if (block_of p v) c 1 ≡ pins_in p pins c + n * weight_if b c 1) t (pins_in-set p pins v b c inside) in
+      let e = subst (λ n. pins_in (slice_set p v b) pins c + n * weight_if (block_of p v) c 1 ≡ pins_in p pins c + n * weight_if b c 1) t
+      (pins_in-set p pins v b c inside) in
       omega arith
 
   pub connectivity-set_apart : (Contains pins v → ⊥) → connectivity (slice_set p v b) pins ≡ connectivity p pins
@@ -274,7 +294,8 @@ module _ (p pins : List ℕ) (v b : ℕ) (inside : v < length p) where
     changed : (c : ℕ) → pins_in (slice_set p v b) pins c + weight_if (block_of p v) c 1 ≡ pins_in p pins c + weight_if b c 1
     changed c =
         let t = times_of-once pins v rising pin in
-        let e = subst (λ n. pins_in (slice_set p v b) pins c + n * weight_if (block_of p v) c 1 ≡ pins_in p pins c + n * weight_if b c 1) t (pins_in-set p pins v b c inside) in
+        let e = subst (λ n. pins_in (slice_set p v b) pins c + n * weight_if (block_of p v) c 1 ≡ pins_in p pins c + n * weight_if b c 1) t
+        (pins_in-set p pins v b c inside) in
         omega arith
 
     -- the old block loses a pin, the new one gains it, the others keep theirs
@@ -300,17 +321,20 @@ module _ (p pins : List ℕ) (v b : ℕ) (inside : v < length p) where
         omega arith
 
     -- the last pin that leaves a block lowers the connectivity by one, the first that comes to a block raises it by one
-    pub connectivity-set : b ≢ block_of p v → connectivity (slice_set p v b) pins + weight_if (pins_in p pins (block_of p v)) 1 1 ≡ connectivity p pins + weight_if (pins_in p pins b) 0 1
+    pub connectivity-set : b ≢ block_of p v → connectivity (slice_set p v b) pins + weight_if (pins_in p pins (block_of p v)) 1 1 ≡ connectivity p pins +
+        weight_if (pins_in p pins b) 0 1
     connectivity-set q =
         let high = max_of-above (b ∷ p) in
         let low = All-tail (λ c. c < suc (max_of (b ∷ p))) b p high in
         let to = All-head (λ c. c < suc (max_of (b ∷ p))) b p high in
         counted (suc (max_of (b ∷ p))) (omega arith) low to
       where
-        counted : (k : ℕ) → 0 < k → All (λ c. c < k) p → b < k → connectivity (slice_set p v b) pins + weight_if (pins_in p pins (block_of p v)) 1 1 ≡ connectivity p pins + weight_if (pins_in p pins b) 0 1
+        counted : (k : ℕ) → 0 < k → All (λ c. c < k) p → b < k → connectivity (slice_set p v b) pins + weight_if (pins_in p pins (block_of p v)) 1 1 ≡
+            connectivity p pins + weight_if (pins_in p pins b) 0 1
         counted k z low to =
             let before = connectivity-sum k p pins (λ i d l. block_of_below k p z low (get_or pins i d)) in
-            let after = connectivity-sum k (slice_set p v b) pins (λ i d l. block_of_below k (slice_set p v b) z (All-set (λ c. c < k) p v b to low) (get_or pins i d)) in
+            let after = connectivity-sum k (slice_set p v b) pins (λ i d l. block_of_below k (slice_set p v b) z (All-set (λ c. c < k) p v b to low)
+            (get_or pins i d)) in
             let lowered = present-lower (pins_in p pins) between k (block_of p v) (block_of_below k p z low v) left kept in
             let raised = present-raise between (pins_in (slice_set p v b) pins) k b to joined_to others in
             let count : between b ≡ pins_in p pins b = at_new in

@@ -1,5 +1,6 @@
 -- Laws of two single vertices that are joined in a clustering by roots.
-use Rattle.std.proofs.Common.{◌≡◌, ◌≢◌, ◌⊎◌, inl, inr, ℕ, suc, ◌+◌, ◌<◌, ◌≤◌, Bool, true, false, ◌||◌, not, nat_eq, List, length, get_or, set, All, refl, sym, ap, subst, ◌∙◌, arith, true≢false, length-set, get_or-set_same, get_or-set_other}
+use Rattle.std.proofs.Common.{◌≡◌, ◌≢◌, ◌⊎◌, inl, inr, ℕ, suc, ◌+◌, ◌<◌, ◌≤◌, Bool, true, false, ◌||◌, not, nat_eq, List, length, get_or, set, All}
+use Rattle.std.proofs.Common.{refl, sym, ap, subst, ◌∙◌, arith, true≢false, length-set, get_or-set_same, get_or-set_other}
 use Rattle.std.specs.List.{list_all}
 use Rattle.std.proofs.lemmas.Bool.{and_parts, and_from, eqb-true, eq-eqb, cases_eq}
 use Rattle.std.proofs.lemmas.List.{get_or_default}
@@ -33,18 +34,22 @@ module _ (h : Hyper) (roots : List ℕ) (v : ℕ) where
       record {
         vertex = low;
         free = eqb-true (fix_of h v) FREE both.0;
-        alone = λ u m f. eqb-true u v (or_alike (nat_eq u v) (nat_eq (get_or roots u 0) (get_or roots v 0)) (all_below test (vertex_count h) both.1 u m) (eq-eqb (get_or roots u 0) (get_or roots v 0) f));
+        alone = λ u m f. eqb-true u v (or_alike (nat_eq u v) (nat_eq (get_or roots u 0) (get_or roots v 0)) (all_below test (vertex_count h) both.1 u m)
+            (eq-eqb (get_or roots u 0) (get_or roots v 0) f));
       }
 
   pub is_single_from : IsSingleton h roots v → is_single h roots v ≡ true
   is_single_from s =
       and_from (is_free h v) (list_all test (vertices h)) (eq-eqb (fix_of h v) FREE s.free)
-      (from_all_below test (vertex_count h) (λ u m. from_alike (nat_eq u v) (nat_eq (get_or roots u 0) (get_or roots v 0)) (λ e. eq-eqb u v (s.alone u m (eqb-true (get_or roots u 0) (get_or roots v 0) e)))))
+      (from_all_below test (vertex_count h) (λ u m. from_alike (nat_eq u v) (nat_eq (get_or roots u 0) (get_or roots v 0))
+      (λ e. eq-eqb u v (s.alone u m (eqb-true (get_or roots u 0) (get_or roots v 0) e)))))
 
 -- ---- the weight of a cluster
 
 -- a cluster of one weighs what its vertex weighs
-single_weight : (h : Hyper) (roots : List ℕ) (v : ℕ) → length roots ≡ vertex_count h → IsSingleton h roots v → weight_in h.weights roots (get_or roots v 0) ≡ weight_of h v
+single_weight : (h : Hyper) (roots : List ℕ) (v : ℕ) → length roots ≡ vertex_count h → IsSingleton h roots v → weight_in h.weights roots
+    (get_or roots v 0) ≡
+    weight_of h v
 single_weight h roots v long s =
     let low = s.vertex in
     let old = weight_in-set_old h.weights roots v (suc (get_or roots v 0)) (get_or roots v 0) low (omega arith) refl (λ e. absurd (omega arith)) in
@@ -61,12 +66,14 @@ single_weight h roots v long s =
         at = get_or_default (set roots v (suc (get_or roots v 0))) i 0 d m ∙ e
 
         by : (i ≡ v) ⊎ (i ≢ v) → ⊥
-        by (inl f) = let g = get_or-set_same roots v (suc (get_or roots v 0)) 0 (subst (λ j. j < length roots) f inside) in let q = subst (λ j. get_or (set roots v (suc (get_or roots v 0))) j 0 ≡ get_or roots v 0) f at in omega arith
+        by (inl f) = let g = get_or-set_same roots v (suc (get_or roots v 0)) 0 (subst (λ j. j < length roots) f inside) in
+            let q = subst (λ j. get_or (set roots v (suc (get_or roots v 0))) j 0 ≡ get_or roots v 0) f at in omega arith
         by (inr n) = n (s.alone i (let a = long in let b = inside in omega arith) (sym (get_or-set_other roots v i (suc (get_or roots v 0)) 0 n) ∙ at))
 
 -- ---- two single vertices, of which b becomes the root of a
 
-module _ (h : Hyper) (cap : ℕ) (roots : List ℕ) (r : IsRooted h cap roots) (a b : ℕ) (sa : IsSingleton h roots a) (sb : IsSingleton h roots b) (differ : a ≢ b)
+module _ (h : Hyper) (cap : ℕ) (roots : List ℕ) (r : IsRooted h cap roots) (a b : ℕ) (sa : IsSingleton h roots a) (sb : IsSingleton h roots b)
+    (differ : a ≢ b)
   where
     abbrev pub joined_roots : List ℕ
     joined_roots = set roots a b
@@ -103,7 +110,8 @@ module _ (h : Hyper) (cap : ℕ) (roots : List ℕ) (r : IsRooted h cap roots) (
     joined-own v low = by (cases_eq v a)
       where
         by : (v ≡ a) ⊎ (v ≢ a) → get_or joined_roots (get_or joined_roots v 0) 0 ≡ get_or joined_roots v 0
-        by (inl e) = let is : get_or joined_roots v 0 ≡ b = ap (λ w. get_or joined_roots w 0) e ∙ at_a in ap (λ w. get_or joined_roots w 0) is ∙ at_b ∙ sym is
+        by (inl e) = let is : get_or joined_roots v 0 ≡ b = ap (λ w. get_or joined_roots w 0) e ∙ at_a in ap (λ w. get_or joined_roots w 0) is ∙ at_b ∙
+            sym is
         by (inr n) =
             let is : get_or joined_roots v 0 ≡ get_or roots v 0 = at_other v n in
             ap (λ w. get_or joined_roots w 0) is ∙ at_other (get_or roots v 0) (λ e. n (only_a v low e)) ∙ r.own v low ∙ sym is
@@ -116,7 +124,13 @@ module _ (h : Hyper) (cap : ℕ) (roots : List ℕ) (r : IsRooted h cap roots) (
         by (inl e) (inl f) = absurd (t.different (e ∙ sym f))
         by (inl e) (inr n) = inr (inl (e, only_b y t.second (sym (at_other y n) ∙ sym t.cluster ∙ ap (λ w. get_or joined_roots w 0) e ∙ at_a)))
         by (inr n) (inl f) = inr (inr (only_b x t.first (sym (at_other x n) ∙ t.cluster ∙ ap (λ w. get_or joined_roots w 0) f ∙ at_a), f))
-        by (inr n) (inr m) = inl (record { first = t.first; second = t.second; different = t.different; cluster = sym (at_other x n) ∙ t.cluster ∙ at_other y m })
+        by (inr n) (inr m) = inl (record {
+          first = t.first;
+          second = t.second;
+          different = t.different;
+          cluster = sym (at_other x n) ∙ t.cluster ∙
+              at_other y m;
+        })
 
     -- a vertex that is together with another isn't single
     not_single : (v x y : ℕ) → IsSingleton h roots v → AreTogether h roots x y → x ≢ v
@@ -175,12 +189,14 @@ module _ (h : Hyper) (cap : ℕ) (roots : List ℕ) (r : IsRooted h cap roots) (
             let own = ap (weight_in h.weights roots) (own_root b sb) in
             omega arith
 
-        weighs : (x y : ℕ) → AreTogether h joined_roots x y → AreTogether h roots x y ⊎ (((x ≡ a) × (y ≡ b)) ⊎ ((x ≡ b) × (y ≡ a))) → weight_in h.weights joined_roots (get_or joined_roots x 0) ≤ cap
+        weighs : (x y : ℕ) → AreTogether h joined_roots x y → AreTogether h roots x y ⊎ (((x ≡ a) × (y ≡ b)) ⊎ ((x ≡ b) × (y ≡ a))) →
+            weight_in h.weights joined_roots (get_or joined_roots x 0) ≤ cap
         weighs x y t (inl u) =
             let n = not_single a x y sa u in
             let m = not_single b x y sb u in
             let same = at_other x n in
-            let others = weight_in-set_other h.weights roots a b (get_or roots x 0) sa.vertex (inside a sa.vertex) (λ e. n (sa.alone x u.first e)) (λ e. m (only_b x u.first e)) in
+            let others = weight_in-set_other h.weights roots a b (get_or roots x 0) sa.vertex (inside a sa.vertex) (λ e. n (sa.alone x u.first e))
+            (λ e. m (only_b x u.first e)) in
             subst (λ c. weight_in h.weights joined_roots c ≤ cap) (sym same) (let w = r.capped x y u in omega arith)
         weighs x y t (inr (inl e)) = subst (λ c. weight_in h.weights joined_roots c ≤ cap) (sym (ap (λ w. get_or joined_roots w 0) e.0 ∙ at_a)) pair_weight
         weighs x y t (inr (inr e)) = subst (λ c. weight_in h.weights joined_roots c ≤ cap) (sym (ap (λ w. get_or joined_roots w 0) e.0 ∙ at_b)) pair_weight

@@ -1,5 +1,6 @@
 -- Laws of numbers that are sorted by pairs of a key and the number itself.
-use Rattle.std.proofs.Common.{◌≡◌, ◌≢◌, ◌⊎◌, inl, inr, ℕ, ◌<◌, false, nat_eq, List, [], ◌∷◌, map, length, get_or, All, AllPairs, IsPermutation, refl, sym, ap, subst, subst₂, ◌∙◌, arith, true≢false, Ordering, Less, Equal, Greater, is_lt, nat_cmp}
+use Rattle.std.proofs.Common.{◌≡◌, ◌≢◌, ◌⊎◌, inl, inr, ℕ, ◌<◌, false, nat_eq, List, [], ◌∷◌, map, length, get_or, All, AllPairs, IsPermutation, refl}
+use Rattle.std.proofs.Common.{sym, ap, subst, subst₂, ◌∙◌, arith, true≢false, Ordering, Less, Equal, Greater, is_lt, nat_cmp}
 use Rattle.std.specs.List.{IsDistinct}
 use Rattle.std.specs.Cmp.{IsTotalOrder}
 use Rattle.std.specs.Ordering.{ordering_reverse, ordering_then, MatchOrdering}
@@ -77,7 +78,8 @@ module _ {R : ℕ × ℕ → ℕ × ℕ → Ordering} (o : IsTotalOrder R) (exac
       far = sorted_far (λ x y. is_lt (R x y)) (ranks_by o (λ (a : ℕ × ℕ). a)) ps (IsSorted-sorted o start) i j e (omega arith) in_j
 
       differ : R (get_or ps i e) (get_or ps j e) ≡ Equal → ⊥
-      differ q = eqb-false (get_or (by_key R f vs) i d) (get_or (by_key R f vs) j d) (apart_from_distinct nat_eq (by_key R f vs) i j d (by_key-distinct R f vs apart) l m)
+      differ q = eqb-false (get_or (by_key R f vs) i d) (get_or (by_key R f vs) j d) (apart_from_distinct nat_eq (by_key R f vs) i j d
+          (by_key-distinct R f vs apart) l m)
           (second i in_i ∙ ap (λ (a : ℕ × ℕ). a.1) (exact (get_or ps i e) (get_or ps j e) q) ∙ sym (second j in_j))
 
       less : R (get_or ps i e) (get_or ps j e) ≡ Less
@@ -86,7 +88,8 @@ module _ {R : ℕ × ℕ → ℕ × ℕ → Ordering} (o : IsTotalOrder R) (exac
 pub heavier_goes_first : (a b : ℕ × ℕ) → heavier_first a b ≡ Less → (b.0 < a.0) ⊎ ((a.0 ≡ b.0) × (a.1 < b.1))
 heavier_goes_first a b e = by (nat_cmp b.0 a.0) (nat_cmp a.1 b.1) (ranked b.0 a.0 (nat_cmp b.0 a.0) refl) (ranked a.1 b.1 (nat_cmp a.1 b.1) refl) e
   where
-    by : (r s : Ordering) → MatchOrdering r (b.0 < a.0) (b.0 ≡ a.0) (a.0 < b.0) → MatchOrdering s (a.1 < b.1) (a.1 ≡ b.1) (b.1 < a.1) → ordering_then r s ≡ Less → (b.0 < a.0) ⊎ ((a.0 ≡ b.0) × (a.1 < b.1))
+    by : (r s : Ordering) → MatchOrdering r (b.0 < a.0) (b.0 ≡ a.0) (a.0 < b.0) → MatchOrdering s (a.1 < b.1) (a.1 ≡ b.1) (b.1 < a.1) →
+        ordering_then r s ≡ Less → (b.0 < a.0) ⊎ ((a.0 ≡ b.0) × (a.1 < b.1))
     by Less s x y f = inl x
     by Equal Less x y f = inr (sym x, y)
     by Equal Equal x y f = absurd (true≢false (sym (ap is_lt f)))
@@ -96,7 +99,8 @@ heavier_goes_first a b e = by (nat_cmp b.0 a.0) (nat_cmp a.1 b.1) (ranked b.0 a.
 pub lower_goes_first : (a b : ℕ × ℕ) → lower_first a b ≡ Less → (a.0 < b.0) ⊎ ((a.0 ≡ b.0) × (a.1 < b.1))
 lower_goes_first a b e = by (nat_cmp a.0 b.0) (nat_cmp a.1 b.1) (ranked a.0 b.0 (nat_cmp a.0 b.0) refl) (ranked a.1 b.1 (nat_cmp a.1 b.1) refl) e
   where
-    by : (r s : Ordering) → MatchOrdering r (a.0 < b.0) (a.0 ≡ b.0) (b.0 < a.0) → MatchOrdering s (a.1 < b.1) (a.1 ≡ b.1) (b.1 < a.1) → ordering_then r s ≡ Less → (a.0 < b.0) ⊎ ((a.0 ≡ b.0) × (a.1 < b.1))
+    by : (r s : Ordering) → MatchOrdering r (a.0 < b.0) (a.0 ≡ b.0) (b.0 < a.0) → MatchOrdering s (a.1 < b.1) (a.1 ≡ b.1) (b.1 < a.1) →
+        ordering_then r s ≡ Less → (a.0 < b.0) ⊎ ((a.0 ≡ b.0) × (a.1 < b.1))
     by Less s x y f = inl x
     by Equal Less x y f = inr (x, y)
     by Equal Equal x y f = absurd (true≢false (sym (ap is_lt f)))

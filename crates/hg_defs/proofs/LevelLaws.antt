@@ -1,5 +1,6 @@
 -- The laws of levels, and of partitions carried up to them.
-use Rattle.std.proofs.Common.{◌≡◌, ◌≢◌, ◌⊎◌, inl, inr, ℕ, zero, suc, ◌<◌, ◌≤◌, Bool, true, false, nat_eq, if◌then◌else◌, List, [], ◌∷◌, length, get_or, Contains, refl, sym, ap, ◌∙◌, arith, ext_get_or}
+use Rattle.std.proofs.Common.{◌≡◌, ◌≢◌, ◌⊎◌, inl, inr, ℕ, zero, suc, ◌<◌, ◌≤◌, Bool, true, false, nat_eq, if◌then◌else◌, List}
+use Rattle.std.proofs.Common.{[], ◌∷◌, length, get_or, Contains, refl, sym, ap, ◌∙◌, arith, ext_get_or}
 use Rattle.std.proofs.lemmas.Bool.{cases_eq, eqb-true, eqb-false}
 use Rattle.std.proofs.lemmas.List.{get_or_default}
 use Rattle.std.proofs.lemmas.List.FromFn.{get_or-map-range_with_len, length-map-range_with_len}
@@ -9,7 +10,8 @@ use Rattle.hg_defs.specs.Partition.{block_of, weight_in}
 use Rattle.hg_defs.specs.Contraction.{contract, after}
 use Rattle.hg_defs.specs.Clustering.{cluster_count}
 use Rattle.hg_defs.specs.Levels.{level, map_of, cluster_block, lifted, lifted_to, projected_from}
-use Rattle.hg_defs.specs.LevelLaws.{LevelsAreOneMore, LevelsAreListed, LevelIsContraction, LevelsStay, LevelIsAdded, LiftedIsProjected, OnlyLiftedIsProjected, LiftedFollows, ProjectionKeepsCost, LiftedIsProjectedBack}
+use Rattle.hg_defs.specs.LevelLaws.{LevelsAreOneMore, LevelsAreListed, LevelIsContraction, LevelsStay, LevelIsAdded, LiftedIsProjected}
+use Rattle.hg_defs.specs.LevelLaws.{OnlyLiftedIsProjected, LiftedFollows, ProjectionKeepsCost, LiftedIsProjectedBack}
 use Rattle.hg_defs.proofs.ContractionLaws.{length-after, block_of-after, cost_kept}
 
 pub levels_one_more : LevelsAreOneMore
@@ -46,17 +48,26 @@ found_in (b ∷ p) [] i v l m e = absurd (omega arith)
 found_in (b ∷ p) (c ∷ clusters) i v l m e = by (nat_eq c i) refl (found_in p clusters i)
   where
     by : (t : Bool) → nat_eq c i ≡ t
-        → ((w : ℕ) → w < length p → w < length clusters → get_or clusters w 0 ≡ i → (u : ℕ) × (u < length p) × (u < length clusters) × (get_or clusters u 0 ≡ i) × (cluster_block p clusters i ≡ get_or p u 0))
-        → (u : ℕ) × (u < suc (length p)) × (u < suc (length clusters)) × (get_or (c ∷ clusters) u 0 ≡ i) × ((if nat_eq c i then b else cluster_block p clusters i) ≡ get_or (b ∷ p) u 0)
+        → ((w : ℕ) → w < length p → w < length clusters → get_or clusters w 0 ≡ i → (u : ℕ) × (u < length p) × (u < length clusters) ×
+        (get_or clusters u 0 ≡ i) × (cluster_block p clusters i ≡ get_or p u 0))
+        → (u : ℕ) × (u < suc (length p)) × (u < suc (length clusters)) × (get_or (c ∷ clusters) u 0 ≡ i) ×
+        ((if nat_eq c i then b else cluster_block p clusters i) ≡ get_or (b ∷ p) u 0)
     by true f rest = (0, omega arith, omega arith, eqb-true c i f, ap (λ (t : Bool). if t then b else cluster_block p clusters i) f)
     by false f rest = later v l m e
       where
         later : (w : ℕ) → w < suc (length p) → w < suc (length clusters) → get_or (c ∷ clusters) w 0 ≡ i
-            → (u : ℕ) × (u < suc (length p)) × (u < suc (length clusters)) × (get_or (c ∷ clusters) u 0 ≡ i) × ((if nat_eq c i then b else cluster_block p clusters i) ≡ get_or (b ∷ p) u 0)
+            → (u : ℕ) × (u < suc (length p)) × (u < suc (length clusters)) × (get_or (c ∷ clusters) u 0 ≡ i) ×
+            ((if nat_eq c i then b else cluster_block p clusters i) ≡ get_or (b ∷ p) u 0)
         later zero x y g = absurd (eqb-false c i f g)
         later (suc w) x y g =
-            let r = rest w (omega arith) (omega arith) g in
-            (suc r.0, (let s = r.1 in omega arith), (let s = r.2 in omega arith), r.3, ap (λ (t : Bool). if t then b else cluster_block p clusters i) f ∙ r.4)
+            let r = rest w (omega arith) (omega arith) g in (
+              suc r.0,
+              (let s = r.1 in omega arith),
+              (let s = r.2 in omega arith),
+              r.3,
+              ap (λ (t : Bool). if t then b else cluster_block p clusters i) f ∙
+                  r.4,
+            )
 
 pub length-lifted : (p clusters : List ℕ) (count : ℕ) → length (lifted p clusters count) ≡ count
 length-lifted p clusters count = length-map-range_with_len (cluster_block p clusters) 0 count
@@ -75,13 +86,20 @@ lifted-projected h clusters count p good long same =
         ∙ block_of-lifted p clusters count (get_or clusters v 0) (good.full.below v 0 low)
         ∙ by (found_in p clusters (get_or clusters v 0) v (let n = good.full.vertices in omega arith) low refl)
       where
-        by : (u : ℕ) × (u < length p) × (u < length clusters) × (get_or clusters u 0 ≡ get_or clusters v 0) × (cluster_block p clusters (get_or clusters v 0) ≡ get_or p u 0)
+        by : (u : ℕ) × (u < length p) × (u < length clusters) × (get_or clusters u 0 ≡ get_or clusters v 0) ×
+            (cluster_block p clusters (get_or clusters v 0) ≡
+            get_or p u 0)
             → cluster_block p clusters (get_or clusters v 0) ≡ get_or p v 0
         by x = x.4 ∙ one (cases_eq x.0 v)
           where
             one : (x.0 ≡ v) ⊎ (x.0 ≢ v) → get_or p x.0 0 ≡ get_or p v 0
             one (inl e) = ap (λ w. get_or p w 0) e
-            one (inr d) = same x.0 v (record { first = (let a = x.1 in omega arith); second = (let n = good.full.vertices in omega arith); different = d; cluster = x.3 })
+            one (inr d) = same x.0 v (record {
+              first = (let a = x.1 in omega arith);
+              second = (let n = good.full.vertices in omega arith);
+              different = d;
+              cluster = x.3;
+            })
 
 pub only_lifted : OnlyLiftedIsProjected
 only_lifted h clusters count p q good long e =
@@ -100,7 +118,8 @@ only_lifted h clusters count p q good long e =
             here : (k : ℕ) → k < length clusters → get_or clusters k i ≡ i → get_or clusters k 0 ≡ i
             here k l f = get_or_default clusters k 0 i l ∙ f
 
-        found : (u : ℕ) × (u < length p) × (u < length clusters) × (get_or clusters u 0 ≡ i) × (cluster_block p clusters i ≡ get_or p u 0) → get_or q i 0 ≡ get_or (lifted p clusters count) i 0
+        found : (u : ℕ) × (u < length p) × (u < length clusters) × (get_or clusters u 0 ≡ i) × (cluster_block p clusters i ≡ get_or p u 0) →
+            get_or q i 0 ≡ get_or (lifted p clusters count) i 0
         found x =
             ap (λ j. get_or q j 0) (sym x.3)
             ∙ sym (block_of-after q clusters x.0 x.2)
@@ -119,7 +138,8 @@ lifted_follows p (c ∷ maps) (suc i) low = lifted_follows (lifted p c (cluster_
 pub vertices_of_contraction : (h : Hyper) (clusters : List ℕ) (count : ℕ) → vertex_count (contract h clusters count) ≡ count
 vertices_of_contraction h clusters count = length-map-range_with_len (weight_in h.weights clusters) 0 count
 
-pub length-lifted_to : (h : Hyper) (maps : List (List ℕ)) (i : ℕ) (p : List ℕ) → i ≤ length maps → length p ≡ vertex_count h → length (lifted_to p maps i) ≡ vertex_count (level h maps i)
+pub length-lifted_to : (h : Hyper) (maps : List (List ℕ)) (i : ℕ) (p : List ℕ) → i ≤ length maps → length p ≡ vertex_count h → length (lifted_to p maps i) ≡
+    vertex_count (level h maps i)
 length-lifted_to h maps zero p low long = long
 length-lifted_to h [] (suc i) p low long = absurd (omega arith)
 length-lifted_to h (c ∷ maps) (suc i) p low long =

@@ -1,6 +1,11 @@
 -- Laws of single moves, of sweeps, and of what a move changes.
-use Rattle.std.proofs.Common.{◌≡◌, ◌≢◌, ℕ, zero, suc, ◌+◌, ◌*◌, ◌<◌, ◌≤◌, ◌⊎◌, inl, inr, Bool, true, false, not, ◌&&◌, if◌then◌else◌, nat_eq, nat_lt, nat_le, List, [], ◌∷◌, ◌++◌, map, length, get_or, slice_set, All, AllPairs, Contains, Option, Some, None, option_map, option_to_list, ℤ, pos, ◌+ℤ◌, ◌-ℤ◌, ◌<ℤ◌, ◌≤ℤ◌, refl, sym, ap, ◌∙◌, subst, arith, true≢false, length-set, get_or-set_other}
-use Rattle.std.proofs.lemmas.Bool.{and_parts, and_from, not-true, not_from_false, eqb-true, eqb-false, ne_eqb, eq-eqb, leb-true, le-leb, ltb-true, ltb-false, cases_lt, cases_eq, cases_order}
+use Rattle.std.proofs.Common.{◌≡◌, ◌≢◌, ℕ, zero, suc, ◌+◌, ◌*◌, ◌<◌, ◌≤◌, ◌⊎◌, inl, inr, Bool, true, false}
+use Rattle.std.proofs.Common.{not, ◌&&◌, if◌then◌else◌, nat_eq, nat_lt, nat_le}
+use Rattle.std.proofs.Common.{List, [], ◌∷◌, ◌++◌, map, length, get_or, slice_set, All, AllPairs, Contains}
+use Rattle.std.proofs.Common.{Option, Some, None, option_map, option_to_list, ℤ}
+use Rattle.std.proofs.Common.{pos, ◌+ℤ◌, ◌-ℤ◌, ◌<ℤ◌, ◌≤ℤ◌, refl, sym, ap, ◌∙◌, subst, arith, true≢false, length-set, get_or-set_other}
+use Rattle.std.proofs.lemmas.Bool.{and_parts, and_from, not-true, not_from_false, eqb-true, eqb-false, ne_eqb, eq-eqb}
+use Rattle.std.proofs.lemmas.Bool.{leb-true, le-leb, ltb-true, ltb-false, cases_lt, cases_eq, cases_order}
 use Rattle.std.proofs.lemmas.Bool.Decides.{Decides-eqb}
 use Rattle.std.proofs.lemmas.Int.{ints}
 use Rattle.std.proofs.lemmas.List.Elements.{All-nil, All-head, All-tail, All-cons, All-set, All-weaker, All-contains, filter_passes, All-filter}
@@ -18,7 +23,11 @@ use Rattle.hg_defs.specs.Cost.{connectivity, price, net_cost, cost}
 use Rattle.hg_defs.specs.Moves.{sweep, IsAllowed, moved, gain, is_allowed, is_better, best_block, move_of, visits}
 use Rattle.hg_defs.specs.Replay.{replay, replay_first}
 use Rattle.hg_defs.specs.Incidence.{nets_of}
-use Rattle.hg_defs.specs.MoveLaws.{IsBestBlock, IsBestMove, connectivity_after, net_gain, BestBlockIsBest, OnlyBestBlockIsBest, NoBestBlockGainsNothing, EmptySweepIsSettled, SettledSweepIsEmpty, SweepMakesBestMoves, SweepRises, SweepSavesWhatItBooks, SweepLowersCost, SweepIsAllowed, AreAllowedInTurn, AllowedMovesArePartition, AllowedMovesObey, AllowedMovesFit, AllowedMoveIsPartition, AllowedMoveObeys, AllowedMoveFits, MoveRaisesLoad, MoveLowersLoad, MoveKeepsOtherLoads, ConnectivityCountsBlocks, GainIsLocal}
+use Rattle.hg_defs.specs.MoveLaws.{IsBestBlock, IsBestMove, connectivity_after, net_gain, BestBlockIsBest, OnlyBestBlockIsBest}
+use Rattle.hg_defs.specs.MoveLaws.{NoBestBlockGainsNothing, EmptySweepIsSettled, SettledSweepIsEmpty, SweepMakesBestMoves, SweepRises}
+use Rattle.hg_defs.specs.MoveLaws.{SweepSavesWhatItBooks, SweepLowersCost, SweepIsAllowed, AreAllowedInTurn, AllowedMovesArePartition}
+use Rattle.hg_defs.specs.MoveLaws.{AllowedMovesObey, AllowedMovesFit, AllowedMoveIsPartition, AllowedMoveObeys, AllowedMoveFits, MoveRaisesLoad}
+use Rattle.hg_defs.specs.MoveLaws.{MoveLowersLoad, MoveKeepsOtherLoads, ConnectivityCountsBlocks, GainIsLocal}
 use Rattle.hg_defs.proofs.SumLaws.{weight_in-set_new, weight_in-set_old, weight_in-set_other, total_z-map, total_z-filter, total_z-same, total_z-difference}
 use Rattle.hg_defs.proofs.DistinctLaws.{connectivity-sum, blocks_of_pins, connectivity-set, connectivity-set_apart}
 use Rattle.hg_defs.proofs.PlacementLaws.{Contains_vertices, vertices_within}
@@ -67,7 +76,8 @@ allowed_is h k l p v b inside low e =
 pub is_allowed_from : (h : Hyper) (k l : ℕ) (p : List ℕ) (v b : ℕ) → IsAllowed h k l p v b → is_allowed h l p v b ≡ true
 is_allowed_from h k l p v b a =
     and_from (is_free h v && not (nat_eq b (block_of p v))) (nat_le (load h p b + weight_of h v) l)
-    (and_from (is_free h v) (not (nat_eq b (block_of p v))) (eq-eqb (fix_of h v) FREE a.free) (not_from_false (nat_eq b (block_of p v)) (ne_eqb b (block_of p v) a.other)))
+    (and_from (is_free h v) (not (nat_eq b (block_of p v))) (eq-eqb (fix_of h v) FREE a.free)
+    (not_from_false (nat_eq b (block_of p v)) (ne_eqb b (block_of p v) a.other)))
     (le-leb (load h p b + weight_of h v) l a.room)
 
 -- ---- the best block
@@ -155,7 +165,8 @@ module _ (h : Hyper) (l : ℕ) (p : List ℕ) (v : ℕ) where
   best_picked : (n : ℕ) → Pick (λ c. is_allowed h l p v c) (λ c. cost h (moved p v c)) (cost h p) (best_block h l p v n) n
   best_picked zero = λ b m a. absurd (omega arith)
   best_picked (suc n) =
-      pick_step (λ c. is_allowed h l p v c) (λ c. cost h (moved p v c)) (cost h p) n (best_block h l p v n) (best_picked n) (is_allowed h l p v n) (is_better h p v (best_block h l p v n) n) refl
+      pick_step (λ c. is_allowed h l p v c) (λ c. cost h (moved p v c)) (cost h p) n (best_block h l p v n) (best_picked n) (is_allowed h l p v n)
+      (is_better h p v (best_block h l p v n) n) refl
       (better_is (best_block h l p v n) n)
 
   best_some : (n a : ℕ) → best_block h l p v n ≡ Some a → Picked (λ c. is_allowed h l p v c) (λ c. cost h (moved p v c)) (cost h p) n a
@@ -209,7 +220,8 @@ module _ (h : Hyper) (k l : ℕ) where
   no_visit p [] e v c = absurd (Contains-nil v c)
   no_visit p (u ∷ vs) e v c = by (best_block h l p u k) refl e (Contains-cons_cases u vs v c) (no_visit p vs)
     where
-      by : (o : Option ℕ) → best_block h l p u k ≡ o → option_to_list (option_map (move_of h p u) o) ++ visits h k l (replay p (option_to_list (option_map (move_of h p u) o))) vs ≡ []
+      by : (o : Option ℕ) → best_block h l p u k ≡ o → option_to_list (option_map (move_of h p u) o) ++ visits h k l
+          (replay p (option_to_list (option_map (move_of h p u) o))) vs ≡ []
           → (u ≡ v) ⊎ Contains vs v → (visits h k l p vs ≡ [] → (w : ℕ) → Contains vs w → best_block h l p w k ≡ None) → best_block h l p v k ≡ None
       by None f g (inl q) r = subst (λ w. best_block h l p w k ≡ None) q f
       by None f g (inr t) r = r g v t
@@ -221,7 +233,8 @@ module _ (h : Hyper) (k l : ℕ) where
   visits_none : (p vs : List ℕ) → ((v : ℕ) → Contains vs v → best_block h l p v k ≡ None) → visits h k l p vs ≡ []
   visits_none p [] h' = refl
   visits_none p (u ∷ vs) h' =
-      ap (λ o. option_to_list (option_map (move_of h p u) o) ++ visits h k l (replay p (option_to_list (option_map (move_of h p u) o))) vs) (h' u (Contains_head u vs))
+      ap (λ o. option_to_list (option_map (move_of h p u) o) ++ visits h k l (replay p (option_to_list (option_map (move_of h p u) o))) vs)
+      (h' u (Contains_head u vs))
       ∙ visits_none p vs (λ v c. h' v (Contains_later u vs v c))
 
 pub empty_sweep : EmptySweepIsSettled
@@ -246,13 +259,16 @@ settled_sweep h k l p s = visits_none h k l p (vertices h) each
             absurd (omega arith)
 
 module _ (h : Hyper) (k l : ℕ) where
-  visits_best : (vs p : List ℕ) → All (λ v. v < vertex_count h) vs → (i : ℕ) (d : Move) → i < length (visits h k l p vs) → IsBestMove h k l (replay_first p (visits h k l p vs) i) (get_or (visits h k l p vs) i d)
+  visits_best : (vs p : List ℕ) → All (λ v. v < vertex_count h) vs → (i : ℕ) (d : Move) → i < length (visits h k l p vs) →
+      IsBestMove h k l (replay_first p (visits h k l p vs) i) (get_or (visits h k l p vs) i d)
   visits_best [] p a i d m = absurd (omega arith)
   visits_best (v ∷ vs) p a i d m = by (best_block h l p v k) refl (λ q. visits_best vs q (All-tail (λ u. u < vertex_count h) v vs a)) i m
     where
       by : (o : Option ℕ) → best_block h l p v k ≡ o
-          → ((q : List ℕ) (j : ℕ) (e : Move) → j < length (visits h k l q vs) → IsBestMove h k l (replay_first q (visits h k l q vs) j) (get_or (visits h k l q vs) j e))
-          → (j : ℕ) → j < length (option_to_list (option_map (move_of h p v) o) ++ visits h k l (replay p (option_to_list (option_map (move_of h p v) o))) vs)
+          → ((q : List ℕ) (j : ℕ) (e : Move) → j < length (visits h k l q vs) → IsBestMove h k l (replay_first q (visits h k l q vs) j)
+          (get_or (visits h k l q vs) j e))
+          → (j : ℕ) → j < length (option_to_list (option_map (move_of h p v) o) ++ visits h k l (replay p (option_to_list (option_map (move_of h p v) o)))
+          vs)
           → IsBestMove h k l
           (replay_first p (option_to_list (option_map (move_of h p v) o) ++ visits h k l (replay p (option_to_list (option_map (move_of h p v) o))) vs) j)
           (get_or (option_to_list (option_map (move_of h p v) o) ++ visits h k l (replay p (option_to_list (option_map (move_of h p v) o))) vs) j d)
@@ -269,9 +285,12 @@ module _ (h : Hyper) (k l : ℕ) where
   visits_from a [] p h' = All-nil (λ m. a ≤ m.vertex)
   visits_from a (v ∷ vs) p h' = by (best_block h l p v k) (λ q. visits_from a vs q (All-tail (λ u. a ≤ u) v vs h'))
     where
-      by : (o : Option ℕ) → ((q : List ℕ) → All (λ m. a ≤ m.vertex) (visits h k l q vs)) → All (λ m. a ≤ m.vertex) (option_to_list (option_map (move_of h p v) o) ++ visits h k l (replay p (option_to_list (option_map (move_of h p v) o))) vs)
+      by : (o : Option ℕ) → ((q : List ℕ) → All (λ m. a ≤ m.vertex) (visits h k l q vs)) →
+          All (λ m. a ≤ m.vertex) (option_to_list (option_map (move_of h p v) o) ++ visits h k l (replay p (option_to_list (option_map (move_of h p v) o)))
+          vs)
       by None r = r p
-      by (Some b) r = All-cons (λ m. a ≤ m.vertex) (move_of h p v b) (visits h k l (slice_set p v b) vs) (All-head (λ u. a ≤ u) v vs h') (r (slice_set p v b))
+      by (Some b) r = All-cons (λ m. a ≤ m.vertex) (move_of h p v b) (visits h k l (slice_set p v b) vs) (All-head (λ u. a ≤ u) v vs h')
+          (r (slice_set p v b))
 
   range_from : (a n : ℕ) → All (λ v. a ≤ v) (range_with_len a n)
   range_from a n i d m = let e = get_or-range_with_len a n i d (let x = length-range_with_len a n in omega arith) in omega arith
@@ -281,11 +300,14 @@ module _ (h : Hyper) (k l : ℕ) where
   visits_rise a (suc n) p = by (best_block h l p a k) (visits_rise (a + 1) n)
     where
       by : (o : Option ℕ) → ((q : List ℕ) → AllPairs (λ (x y : Move). x.vertex < y.vertex) (visits h k l q (range_with_len (a + 1) n)))
-          → AllPairs (λ (x y : Move). x.vertex < y.vertex) (option_to_list (option_map (move_of h p a) o) ++ visits h k l (replay p (option_to_list (option_map (move_of h p a) o))) (range_with_len (a + 1) n))
+          → AllPairs (λ (x y : Move). x.vertex < y.vertex) (option_to_list (option_map (move_of h p a) o) ++ visits h k l
+          (replay p (option_to_list (option_map (move_of h p a) o))) (range_with_len (a + 1) n))
       by None r = r p
       by (Some b) r =
           AllPairs-cons (λ (x y : Move). x.vertex < y.vertex) (move_of h p a b) (visits h k l (slice_set p a b) (range_with_len (a + 1) n))
-          (All-weaker (λ (m : Move). a + 1 ≤ m.vertex) (λ (m : Move). a < m.vertex) (λ m q. omega arith) (visits h k l (slice_set p a b) (range_with_len (a + 1) n)) (visits_from (a + 1) (range_with_len (a + 1) n) (slice_set p a b) (range_from (a + 1) n)))
+          (All-weaker (λ (m : Move). a + 1 ≤ m.vertex) (λ (m : Move). a < m.vertex) (λ m q. omega arith)
+          (visits h k l (slice_set p a b) (range_with_len (a + 1) n)) (visits_from (a + 1) (range_with_len (a + 1) n) (slice_set p a b)
+          (range_from (a + 1) n)))
           (r (slice_set p a b))
 
   visits_save : (vs p : List ℕ) → total_z (λ (m : Move). m.booked) (visits h k l p vs) ≡ pos (cost h p) -ℤ pos (cost h (replay p (visits h k l p vs)))
@@ -298,11 +320,15 @@ module _ (h : Hyper) (k l : ℕ) where
       joined : (a b c : ℕ) (z : ℤ) → z ≡ pos b -ℤ pos c → (pos a -ℤ pos b) +ℤ z ≡ pos a -ℤ pos c
       joined a b c z e = omega (arith, ints)
 
-      by : (o : Option ℕ) → ((q : List ℕ) → total_z (λ (m : Move). m.booked) (visits h k l q vs) ≡ pos (cost h q) -ℤ pos (cost h (replay q (visits h k l q vs))))
-          → total_z (λ (m : Move). m.booked) (option_to_list (option_map (move_of h p v) o) ++ visits h k l (replay p (option_to_list (option_map (move_of h p v) o))) vs)
-          ≡ pos (cost h p) -ℤ pos (cost h (replay p (option_to_list (option_map (move_of h p v) o) ++ visits h k l (replay p (option_to_list (option_map (move_of h p v) o))) vs)))
+      by : (o : Option ℕ) → ((q : List ℕ) → total_z (λ (m : Move). m.booked) (visits h k l q vs) ≡ pos (cost h q) -ℤ pos
+          (cost h (replay q (visits h k l q vs))))
+          → total_z (λ (m : Move). m.booked) (option_to_list (option_map (move_of h p v) o) ++ visits h k l
+          (replay p (option_to_list (option_map (move_of h p v) o))) vs)
+          ≡ pos (cost h p) -ℤ pos (cost h (replay p (option_to_list (option_map (move_of h p v) o) ++ visits h k l
+          (replay p (option_to_list (option_map (move_of h p v) o))) vs)))
       by None r = r p
-      by (Some b) r = joined (cost h p) (cost h (slice_set p v b)) (cost h (replay (slice_set p v b) (visits h k l (slice_set p v b) vs))) (total_z (λ (m : Move). m.booked) (visits h k l (slice_set p v b) vs)) (r (slice_set p v b))
+      by (Some b) r = joined (cost h p) (cost h (slice_set p v b)) (cost h (replay (slice_set p v b) (visits h k l (slice_set p v b) vs)))
+          (total_z (λ (m : Move). m.booked) (visits h k l (slice_set p v b) vs)) (r (slice_set p v b))
 
 pub sweep_best : SweepMakesBestMoves
 sweep_best h k l p i d m = visits_best h k l (vertices h) p (vertices_within h) i d m
@@ -341,7 +367,8 @@ pub moved-fits : AllowedMoveFits
 moved-fits h k l p v b whole f a c low = by (cases_eq c b) (cases_eq c (block_of p v))
   where
     by : (c ≡ b) ⊎ (c ≡ b → ⊥) → (c ≡ block_of p v) ⊎ (c ≡ block_of p v → ⊥) → load h (moved p v b) c ≤ l
-    by (inl e) q = subst (λ d. load h (moved p v b) d ≤ l) (sym e) (let x = load-moved_new h p v b whole.vertices a.vertex a.other in let y = a.room in omega arith)
+    by (inl e) q = subst (λ d. load h (moved p v b) d ≤ l) (sym e) (let x = load-moved_new h p v b whole.vertices a.vertex a.other in let y = a.room in
+        omega arith)
     by (inr n) (inl e) =
         let x = load-moved_old h p v b whole.vertices a.vertex a.other in
         let y = f c low in
@@ -354,16 +381,20 @@ module _ (h : Hyper) (k l : ℕ) where
   first_allowed : (p : List ℕ) (m : Move) (moves : List Move) → AreAllowedInTurn h k l p (m ∷ moves) → IsAllowed h k l p m.vertex m.to
   first_allowed p m moves a = a 0 m (omega arith)
 
-  rest_allowed : (p : List ℕ) (m : Move) (moves : List Move) → AreAllowedInTurn h k l p (m ∷ moves) → AreAllowedInTurn h k l (slice_set p m.vertex m.to) moves
+  rest_allowed : (p : List ℕ) (m : Move) (moves : List Move) → AreAllowedInTurn h k l p (m ∷ moves) → AreAllowedInTurn h k l (slice_set p m.vertex m.to)
+      moves
   rest_allowed p m moves a i d n = a (suc i) d (omega arith)
 
   replay_partition : (p : List ℕ) (moves : List Move) → IsPartition h k p → AreAllowedInTurn h k l p moves → IsPartition h k (replay p moves)
   replay_partition p [] w a = w
-  replay_partition p (m ∷ moves) w a = replay_partition (slice_set p m.vertex m.to) moves (moved-partition h k l p m.vertex m.to w (first_allowed p m moves a)) (rest_allowed p m moves a)
+  replay_partition p (m ∷ moves) w a = replay_partition (slice_set p m.vertex m.to) moves
+      (moved-partition h k l p m.vertex m.to w (first_allowed p m moves a))
+      (rest_allowed p m moves a)
 
   replay_obeys : (p : List ℕ) (moves : List Move) → Obeys h p → AreAllowedInTurn h k l p moves → Obeys h (replay p moves)
   replay_obeys p [] w a = w
-  replay_obeys p (m ∷ moves) w a = replay_obeys (slice_set p m.vertex m.to) moves (moved-obeys h k l p m.vertex m.to w (first_allowed p m moves a)) (rest_allowed p m moves a)
+  replay_obeys p (m ∷ moves) w a = replay_obeys (slice_set p m.vertex m.to) moves (moved-obeys h k l p m.vertex m.to w (first_allowed p m moves a))
+      (rest_allowed p m moves a)
 
   replay_fits : (p : List ℕ) (moves : List Move) → IsPartition h k p → Fits h k l p → AreAllowedInTurn h k l p moves → Fits h k l (replay p moves)
   replay_fits p [] w f a = f
@@ -404,7 +435,8 @@ net_is h e good l = good.nets e (record { weight = 0; pins = [] }) l
 
 pub connectivity_counts : ConnectivityCountsBlocks
 connectivity_counts h k p e good whole l =
-    connectivity-sum k p (net_of h e).pins (blocks_of_pins k p (net_of h e).pins whole.blocks (subst (λ n. All (λ v. v < n) (net_of h e).pins) (sym whole.vertices) (net_is h e good l).pins))
+    connectivity-sum k p (net_of h e).pins (blocks_of_pins k p (net_of h e).pins whole.blocks (subst (λ n. All (λ v. v < n) (net_of h e).pins)
+    (sym whole.vertices) (net_is h e good l).pins))
 
 -- ---- gains are local
 
@@ -412,42 +444,49 @@ connectivity_counts h k p e good whole l =
 pub nets_by_number : (h : Hyper) → h.nets ≡ map (net_of h) (range_with_len 0 (net_count h))
 nets_by_number h = fill_by_all (net_of h) h.nets (net_count h) (record { weight = 0; pins = [] }) refl (λ e l. refl)
 
-module _ (h : Hyper) (p : List ℕ) (v b : ℕ) (good : IsHypergraph h) (long : length p ≡ vertex_count h) (vertex : v < vertex_count h) (other : b ≢ block_of p v) where
-  abbrev saved : ℕ → ℤ
-  saved e = pos (net_cost h.objective p (net_of h e)) -ℤ pos (net_cost h.objective (moved p v b) (net_of h e))
+module _ (h : Hyper) (p : List ℕ) (v b : ℕ) (good : IsHypergraph h) (long : length p ≡ vertex_count h) (vertex : v < vertex_count h)
+    (other : b ≢ block_of p v)
+  where
+    abbrev saved : ℕ → ℤ
+    saved e = pos (net_cost h.objective p (net_of h e)) -ℤ pos (net_cost h.objective (moved p v b) (net_of h e))
 
-  inside : v < length p
-  inside = omega arith
+    inside : v < length p
+    inside = omega arith
 
-  apart_saves_nothing : (e : ℕ) → is_member nat_eq (net_of h e).pins v ≡ false → saved e ≡ pos 0
-  apart_saves_nothing e f =
-      same (net_cost h.objective p (net_of h e)) (net_cost h.objective (moved p v b) (net_of h e))
-      (ap (λ c. (net_of h e).weight * price h.objective c) (sym (connectivity-set_apart p (net_of h e).pins v b inside (λ c. absurd (true≢false (sym ((is_member-Decides Decides-eqb (net_of h e).pins v).1 c) ∙ f))))))
-    where
-      same : (x y : ℕ) → x ≡ y → pos x -ℤ pos y ≡ pos 0
-      same x y q = omega (arith, ints)
+    apart_saves_nothing : (e : ℕ) → is_member nat_eq (net_of h e).pins v ≡ false → saved e ≡ pos 0
+    apart_saves_nothing e f =
+        same (net_cost h.objective p (net_of h e)) (net_cost h.objective (moved p v b) (net_of h e))
+        (ap (λ c. (net_of h e).weight * price h.objective c)
+        (sym (connectivity-set_apart p (net_of h e).pins v b inside
+        (λ c. absurd (true≢false (sym ((is_member-Decides Decides-eqb (net_of h e).pins v).1 c) ∙ f))))))
+      where
+        same : (x y : ℕ) → x ≡ y → pos x -ℤ pos y ≡ pos 0
+        same x y q = omega (arith, ints)
 
-  pin_saves : (e : ℕ) → e < net_count h → is_member nat_eq (net_of h e).pins v ≡ true → saved e ≡ net_gain h p v b (net_of h e)
-  pin_saves e l f = ap (λ c. pos (net_cost h.objective p (net_of h e)) -ℤ pos ((net_of h e).weight * price h.objective c)) after
-    where
-      after : connectivity (moved p v b) (net_of h e).pins ≡ connectivity_after p (net_of h e).pins (block_of p v) b
-      after =
-          let s = connectivity-set p (net_of h e).pins v b inside (net_is h e good l).rising ((is_member-Decides Decides-eqb (net_of h e).pins v).0 f) other in
-          omega arith
+    pin_saves : (e : ℕ) → e < net_count h → is_member nat_eq (net_of h e).pins v ≡ true → saved e ≡ net_gain h p v b (net_of h e)
+    pin_saves e l f = ap (λ c. pos (net_cost h.objective p (net_of h e)) -ℤ pos ((net_of h e).weight * price h.objective c)) after
+      where
+        after : connectivity (moved p v b) (net_of h e).pins ≡ connectivity_after p (net_of h e).pins (block_of p v) b
+        after =
+            let s = connectivity-set p (net_of h e).pins v b inside (net_is h e good l).rising ((is_member-Decides Decides-eqb (net_of h e).pins v).0 f)
+            other in
+            omega arith
 
-  gain_is : gain h p v b ≡ total_z (λ e. net_gain h p v b (net_of h e)) (nets_of h v)
-  gain_is =
-      sym (total_z-difference (net_cost h.objective p) (net_cost h.objective (moved p v b)) h.nets)
-      ∙ ap (total_z (λ e. pos (net_cost h.objective p e) -ℤ pos (net_cost h.objective (moved p v b) e))) (nets_by_number h)
-      ∙ total_z-map (λ e. pos (net_cost h.objective p e) -ℤ pos (net_cost h.objective (moved p v b) e)) (net_of h) (range_with_len 0 (net_count h))
-      ∙ sym (total_z-filter saved (λ e. is_member nat_eq (net_of h e).pins v) (range_with_len 0 (net_count h)) (λ i d l. apart_saves_nothing (get_or (range_with_len 0 (net_count h)) i d)))
-      ∙ total_z-same saved (λ e. net_gain h p v b (net_of h e)) (nets_of h v) (λ i d l. pin_saves (get_or (nets_of h v) i d) (within i d l) (filter_passes (λ e. is_member nat_eq (net_of h e).pins v) (range_with_len 0 (net_count h)) i d l))
-    where
-      within : (i d : ℕ) → i < length (nets_of h v) → get_or (nets_of h v) i d < net_count h
-      within i d l = All-filter (λ e. is_member nat_eq (net_of h e).pins v) (λ e. e < net_count h) (range_with_len 0 (net_count h)) below i d l
-        where
-          below : All (λ e. e < net_count h) (range_with_len 0 (net_count h))
-          below j c m = let n = length-range_with_len 0 (net_count h) in let a = get_or-range_with_len 0 (net_count h) j c (omega arith) in omega arith
+    gain_is : gain h p v b ≡ total_z (λ e. net_gain h p v b (net_of h e)) (nets_of h v)
+    gain_is =
+        sym (total_z-difference (net_cost h.objective p) (net_cost h.objective (moved p v b)) h.nets)
+        ∙ ap (total_z (λ e. pos (net_cost h.objective p e) -ℤ pos (net_cost h.objective (moved p v b) e))) (nets_by_number h)
+        ∙ total_z-map (λ e. pos (net_cost h.objective p e) -ℤ pos (net_cost h.objective (moved p v b) e)) (net_of h) (range_with_len 0 (net_count h))
+        ∙ sym (total_z-filter saved (λ e. is_member nat_eq (net_of h e).pins v) (range_with_len 0 (net_count h))
+        (λ i d l. apart_saves_nothing (get_or (range_with_len 0 (net_count h)) i d)))
+        ∙ total_z-same saved (λ e. net_gain h p v b (net_of h e)) (nets_of h v) (λ i d l. pin_saves (get_or (nets_of h v) i d) (within i d l)
+        (filter_passes (λ e. is_member nat_eq (net_of h e).pins v) (range_with_len 0 (net_count h)) i d l))
+      where
+        within : (i d : ℕ) → i < length (nets_of h v) → get_or (nets_of h v) i d < net_count h
+        within i d l = All-filter (λ e. is_member nat_eq (net_of h e).pins v) (λ e. e < net_count h) (range_with_len 0 (net_count h)) below i d l
+          where
+            below : All (λ e. e < net_count h) (range_with_len 0 (net_count h))
+            below j c m = let n = length-range_with_len 0 (net_count h) in let a = get_or-range_with_len 0 (net_count h) j c (omega arith) in omega arith
 
 pub gain_is_local : GainIsLocal
 gain_is_local h p v b good long vertex other = gain_is h p v b good long vertex other

@@ -1,5 +1,6 @@
 -- The laws of the named placements and of the cheapest of them.
-use Rattle.std.proofs.Common.{◌≡◌, ◌⊎◌, inl, inr, ℕ, zero, suc, ◌<◌, ◌≤◌, Bool, true, false, ◌&&◌, nat_le, if◌then◌else◌, List, [], ◌∷◌, map, length, get_or, All, Option, Some, None, refl, sym, ap, subst, ◌∙◌, arith, true≢false}
+use Rattle.std.proofs.Common.{◌≡◌, ◌⊎◌, inl, inr, ℕ, zero, suc, ◌<◌, ◌≤◌, Bool, true, false, ◌&&◌, nat_le, if◌then◌else◌, List, [], ◌∷◌, map}
+use Rattle.std.proofs.Common.{length, get_or, All, Option, Some, None, refl, sym, ap, subst, ◌∙◌, arith, true≢false}
 use Rattle.std.specs.List.{range_with_len}
 use Rattle.std.proofs.lemmas.Bool.{leb-true, le-leb, cases_lt}
 use Rattle.std.proofs.lemmas.List.Elements.{All-nil, All-cons, All-head, All-map}
@@ -8,13 +9,15 @@ use Rattle.hg_defs.specs.Partition.{IsPartition, Fits, Obeys, is_fitting}
 use Rattle.hg_defs.specs.Cost.{cost}
 use Rattle.hg_defs.specs.LeastLoaded.{least_loaded, greedy}
 use Rattle.hg_defs.specs.Placement.{drawn_order, named, is_as_cheap, first_cheapest}
-use Rattle.hg_defs.specs.NamedLaws.{partition_at, IsCheapestAt, CheapestIsFirst, OnlyCheapestIsFirst, NoneIsCheapestWhereNoneFits, NamedArePartitions, NamedObey, OneFitsWhereGreedyDoes}
+use Rattle.hg_defs.specs.NamedLaws.{partition_at, IsCheapestAt, CheapestIsFirst, OnlyCheapestIsFirst}
+use Rattle.hg_defs.specs.NamedLaws.{NoneIsCheapestWhereNoneFits, NamedArePartitions, NamedObey, OneFitsWhereGreedyDoes}
 use Rattle.hg_defs.proofs.PlacementLaws.{least_loaded-partition, least_loaded-obeys, greedy-partition, greedy-obeys, greedy-fits}
 use Rattle.hg_defs.proofs.ReplayLaws.{fitting_is_tested}
 
 pub named-partitions : NamedArePartitions
 named-partitions h k seed good fixed some =
-    All-cons (IsPartition h k) (greedy h k) (map (λ stream. least_loaded h k (drawn_order h seed stream)) (range_with_len 0 8)) (greedy-partition h k good fixed some)
+    All-cons (IsPartition h k) (greedy h k) (map (λ stream. least_loaded h k (drawn_order h seed stream)) (range_with_len 0 8))
+    (greedy-partition h k good fixed some)
     (All-map (IsPartition h k) (λ stream. least_loaded h k (drawn_order h seed stream)) (range_with_len 0 8)
     (λ i d low. least_loaded-partition h k (drawn_order h seed (get_or (range_with_len 0 8) i d)) good fixed some))
 
@@ -33,7 +36,8 @@ module _ (h : Hyper) (k l : ℕ) where
   Found ps (Some p) = (i : ℕ) × IsCheapestAt h k l ps i × (p ≡ partition_at ps i)
 
   -- one more in front of the list, where it is the best
-  front : (p : List ℕ) (ps : List (List ℕ)) → Fits h k l p → ((j : ℕ) → j < length ps → Fits h k l (partition_at ps j) → cost h p ≤ cost h (partition_at ps j)) → IsCheapestAt h k l (p ∷ ps) 0
+  front : (p : List ℕ) (ps : List (List ℕ)) → Fits h k l p → ((j : ℕ) → j < length ps → Fits h k l (partition_at ps j) →
+      cost h p ≤ cost h (partition_at ps j)) → IsCheapestAt h k l (p ∷ ps) 0
   front p ps f low = record { within = omega arith; fits = f; cheapest = each; first = λ j m g. absurd (omega arith) }
     where
       each : (j : ℕ) → j < suc (length ps) → Fits h k l (partition_at (p ∷ ps) j) → cost h p ≤ cost h (partition_at (p ∷ ps) j)
@@ -41,7 +45,8 @@ module _ (h : Hyper) (k l : ℕ) where
       each (suc j) m g = low j (omega arith) g
 
   -- one more in front, where it isn't
-  behind : (p : List ℕ) (ps : List (List ℕ)) (i : ℕ) → IsCheapestAt h k l ps i → (Fits h k l p → cost h (partition_at ps i) < cost h p) → IsCheapestAt h k l (p ∷ ps) (suc i)
+  behind : (p : List ℕ) (ps : List (List ℕ)) (i : ℕ) → IsCheapestAt h k l ps i → (Fits h k l p → cost h (partition_at ps i) < cost h p) →
+      IsCheapestAt h k l (p ∷ ps) (suc i)
   behind p ps i s dear = record { within = (let w = s.within in omega arith); fits = s.fits; cheapest = each; first = before }
     where
       each : (j : ℕ) → j < suc (length ps) → Fits h k l (partition_at (p ∷ ps) j) → cost h (partition_at ps i) ≤ cost h (partition_at (p ∷ ps) j)
@@ -56,13 +61,15 @@ module _ (h : Hyper) (k l : ℕ) where
   found [] = All-nil (λ p. Fits h k l p → ⊥)
   found (p ∷ ps) = by (is_fitting h k l p) (fitting_is_tested h k l p) (first_cheapest h k l ps) (found ps)
     where
-      by : (fit : Bool) → ((fit ≡ true → Fits h k l p) × (Fits h k l p → fit ≡ true)) → (o : Option (List ℕ)) → Found ps o → Found (p ∷ ps) (if fit && is_as_cheap h p o then Some p else o)
+      by : (fit : Bool) → ((fit ≡ true → Fits h k l p) × (Fits h k l p → fit ≡ true)) → (o : Option (List ℕ)) → Found ps o →
+          Found (p ∷ ps) (if fit && is_as_cheap h p o then Some p else o)
       by false t None f = All-cons (λ q. Fits h k l q → ⊥) p ps (λ g. true≢false (sym (t.1 g))) f
       by false t (Some q) f = (suc f.0, behind p ps f.0 f.1 (λ g. absurd (true≢false (sym (t.1 g)))), f.2)
       by true t None f = (0, front p ps (t.0 refl) (λ j m g. absurd (f j [] m g)), refl)
       by true t (Some q) f = two (nat_le (cost h p) (cost h q)) refl (cases_lt (cost h q) (cost h p))
         where
-          two : (c : Bool) → nat_le (cost h p) (cost h q) ≡ c → (cost h q < cost h p) ⊎ (cost h p ≤ cost h q) → Found (p ∷ ps) (if c then Some p else Some q)
+          two : (c : Bool) → nat_le (cost h p) (cost h q) ≡ c → (cost h q < cost h p) ⊎ (cost h p ≤ cost h q) →
+              Found (p ∷ ps) (if c then Some p else Some q)
           two true e r =
               let low = leb-true (cost h p) (cost h q) e in
               let same = ap (cost h) f.2 in

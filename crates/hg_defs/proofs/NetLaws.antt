@@ -1,5 +1,6 @@
 -- The laws of the nets of a contraction.
-use Rattle.std.proofs.Common.{◌≡◌, ℕ, Bool, true, false, if◌then◌else◌, List, [], map, length, get_or, filter, Contains, Decides, refl, sym, ap, subst, subst₂, ◌∙◌, arith, Less, nat_cmp, is_eq}
+use Rattle.std.proofs.Common.{◌≡◌, ℕ, Bool, true, false, if◌then◌else◌, List, [], map, length, get_or, filter, Contains}
+use Rattle.std.proofs.Common.{Decides, refl, sym, ap, subst, subst₂, ◌∙◌, arith, Less, nat_cmp, is_eq}
 use Rattle.std.specs.Cmp.Lexicographic.{slice_cmp}
 use Rattle.std.proofs.lemmas.List.{length-map, get_or-map}
 use Rattle.std.proofs.lemmas.List.Elements.{All-map, All-contains_itself, All-weaker}
@@ -34,7 +35,8 @@ pub images_are_nets : ImagesAreNets
 images_are_nets h clusters count pins is = (
   merged h clusters pins,
   Contains-map (merged h clusters) (images h clusters) pins
-      (subst (Contains (images h clusters)) is.net.2 (Contains-images h clusters is.net.0 is.net.1 (let e = ap length is.net.2 in let n = is.several in omega arith))),
+      (subst (Contains (images h clusters)) is.net.2 (Contains-images h clusters is.net.0 is.net.1 (let e = ap length is.net.2 in let n = is.several in
+      omega arith))),
   refl,
 )
 
@@ -55,11 +57,15 @@ same_test false false s t = refl
 
 pub nets_weigh_together : NetsWeighTogether
 nets_weigh_together h clusters count =
-    All-map (λ (c : Net). (test : Net → Bool) → ((e : Net) → Decides (test e) (image clusters e ≡ c.pins)) → c.weight ≡ total (λ (e : Net). e.weight) (filter test h.nets)) (merged h clusters) (images h clusters)
+    All-map (λ (c : Net). (test : Net → Bool) → ((e : Net) → Decides (test e) (image clusters e ≡ c.pins)) → c.weight ≡ total (λ (e : Net). e.weight)
+    (filter test h.nets)) (merged h clusters) (images h clusters)
     (λ i d l test told. by (get_or (images h clusters) i d) test told)
   where
-    by : (pins : List ℕ) (test : Net → Bool) → ((e : Net) → Decides (test e) (image clusters e ≡ pins)) → merged_weight h clusters pins ≡ total (λ (e : Net). e.weight) (filter test h.nets)
+    by : (pins : List ℕ) (test : Net → Bool) → ((e : Net) → Decides (test e) (image clusters e ≡ pins)) → merged_weight h clusters pins ≡ total
+        (λ (e : Net). e.weight) (filter test h.nets)
     by pins test told =
-        total-same_each (λ (e : Net). if is_eq (slice_cmp nat_cmp (image clusters e) pins) then e.weight else 0) (λ (e : Net). if test e then e.weight else 0)
-        (λ e. ap (λ (b : Bool). if b then e.weight else 0) (same_test (is_eq (slice_cmp nat_cmp (image clusters e) pins)) (test e) (same_key lists_cmp_total lists_exact (image clusters e) pins) (told e))) h.nets
+        total-same_each (λ (e : Net). if is_eq (slice_cmp nat_cmp (image clusters e) pins) then e.weight else 0)
+        (λ (e : Net). if test e then e.weight else 0)
+        (λ e. ap (λ (b : Bool). if b then e.weight else 0) (same_test (is_eq (slice_cmp nat_cmp (image clusters e) pins)) (test e)
+        (same_key lists_cmp_total lists_exact (image clusters e) pins) (told e))) h.nets
         ∙ sym (total-filter (λ (e : Net). e.weight) test h.nets)

@@ -1,5 +1,6 @@
 -- The laws of clusterings by roots, numbered by rising root.
-use Rattle.std.proofs.Common.{◌≡◌, ◌≢◌, ◌⊎◌, inl, inr, ℕ, zero, suc, ◌+◌, ◌<◌, ◌≤◌, Bool, true, false, cond, max, nat_eq, nat_lt, if◌then◌else◌, List, [], ◌∷◌, map, length, get_or, filter, All, Contains, refl, sym, ap, subst, subst₂, ◌∙◌, arith, Less, nat_cmp}
+use Rattle.std.proofs.Common.{◌≡◌, ◌≢◌, ◌⊎◌, inl, inr, ℕ, zero, suc, ◌+◌, ◌<◌, ◌≤◌, Bool, true, false, cond, max, nat_eq, nat_lt, if◌then◌else◌, List, []}
+use Rattle.std.proofs.Common.{◌∷◌, map, length, get_or, filter, All, Contains, refl, sym, ap, subst, subst₂, ◌∙◌, arith, Less, nat_cmp}
 use Rattle.std.specs.Ordering.{MatchOrdering}
 use Rattle.std.specs.List.{range_with_len}
 use Rattle.std.specs.List.Sorted.{IsStrictlySortedBy, IsStrictlyIncreasing}
@@ -14,8 +15,10 @@ use Rattle.hg_defs.specs.Sorting.{set_of}
 use Rattle.hg_defs.specs.Partition.{weight_in}
 use Rattle.hg_defs.specs.Clustering.{cluster_count}
 use Rattle.hg_defs.specs.Numbering.{root_number, numbered}
-use Rattle.hg_defs.specs.PairingLaws.{NumbersTellRoots, NumbersRise, NumbersAreAsMany, NumberCountsRoots, NumbersAreClustering, NumberingKeepsTogether, NumberingKeepsSingles}
-use Rattle.hg_defs.proofs.SortLaws.{strict-set_of, strict_pairs, same_strict, nat_cmp_exact, Contains-set_of, Contains-from_set_of, Contains_head, Contains_later, Contains-cons_cases, Contains-nil}
+use Rattle.hg_defs.specs.PairingLaws.{NumbersTellRoots, NumbersRise, NumbersAreAsMany, NumberCountsRoots}
+use Rattle.hg_defs.specs.PairingLaws.{NumbersAreClustering, NumberingKeepsTogether, NumberingKeepsSingles}
+use Rattle.hg_defs.proofs.SortLaws.{strict-set_of, strict_pairs, same_strict, nat_cmp_exact, Contains-set_of}
+use Rattle.hg_defs.proofs.SortLaws.{Contains-from_set_of, Contains_head, Contains_later, Contains-cons_cases, Contains-nil}
 use Rattle.hg_defs.proofs.PlacementLaws.{Contains_filter}
 
 -- ---- elements that pass a test
@@ -24,7 +27,8 @@ pub Contains-from_filter : {A : Type 0} (test : A → Bool) (xs : List A) (x : A
 Contains-from_filter test [] x c = absurd (Contains-nil x c)
 Contains-from_filter {A} test (y ∷ ys) x c = by (test y) refl c (Contains-from_filter test ys x)
   where
-    by : (b : Bool) → test y ≡ b → Contains (cond b (y ∷ filter test ys) (filter test ys)) x → (Contains (filter test ys) x → Contains ys x × (test x ≡ true)) → Contains (y ∷ ys) x × (test x ≡ true)
+    by : (b : Bool) → test y ≡ b → Contains (cond b (y ∷ filter test ys) (filter test ys)) x →
+        (Contains (filter test ys) x → Contains ys x × (test x ≡ true)) → Contains (y ∷ ys) x × (test x ≡ true)
     by true e d rest = two (Contains-cons_cases y (filter test ys) x d)
       where
         two : (y ≡ x) ⊎ Contains (filter test ys) x → Contains (y ∷ ys) x × (test x ≡ true)
@@ -49,7 +53,8 @@ rank_at : (xs : List ℕ) → IsStrictlySortedBy nat_cmp xs → (i : ℕ) → i 
 unfolding IsStrictlySortedBy
 rank_at [] h i l = absurd (omega arith)
 rank_at (x ∷ xs) h zero l =
-    ap length (filter_none (λ q. nat_lt q x) (x ∷ xs) (All-cons (λ q. nat_lt q x ≡ false) x xs (not_less x x (omega arith)) (λ j d m. not_less (get_or xs j d) x (let a = less_than x (get_or xs j d) (All-from_recursion (λ y. nat_cmp x y ≡ Less) xs h.0 j d m) in omega arith))))
+    ap length (filter_none (λ q. nat_lt q x) (x ∷ xs) (All-cons (λ q. nat_lt q x ≡ false) x xs (not_less x x (omega arith))
+    (λ j d m. not_less (get_or xs j d) x (let a = less_than x (get_or xs j d) (All-from_recursion (λ y. nat_cmp x y ≡ Less) xs h.0 j d m) in omega arith))))
   where
     not_less : (a b : ℕ) → b ≤ a → nat_lt a b ≡ false
     not_less a b m = by (nat_lt a b) refl
@@ -98,7 +103,8 @@ module _ (roots : List ℕ) where
   alike u v low low' e = numbered_at u low ∙ ap (root_number roots) e ∙ sym (numbered_at v low')
 
   rises : (u v : ℕ) → u < length roots → v < length roots → get_or roots u 0 < get_or roots v 0 → get_or (numbered roots) u 0 < get_or (numbered roots) v 0
-  rises u v low low' less = subst₂ (λ i j. i < j) (sym (numbered_at u low)) (sym (numbered_at v low')) (by (cases_lt (root_number roots (get_or roots u 0)) (root_number roots (get_or roots v 0))))
+  rises u v low low' less = subst₂ (λ i j. i < j) (sym (numbered_at u low)) (sym (numbered_at v low'))
+      (by (cases_lt (root_number roots (get_or roots u 0)) (root_number roots (get_or roots v 0))))
     where
       a : Placed (get_or roots u 0)
       a = placed_root u low
@@ -106,14 +112,18 @@ module _ (roots : List ℕ) where
       b : Placed (get_or roots v 0)
       b = placed_root v low'
 
-      by : (root_number roots (get_or roots u 0) < root_number roots (get_or roots v 0)) ⊎ (root_number roots (get_or roots v 0) ≤ root_number roots (get_or roots u 0)) → root_number roots (get_or roots u 0) < root_number roots (get_or roots v 0)
+      by : (root_number roots (get_or roots u 0) < root_number roots (get_or roots v 0)) ⊎ (root_number roots (get_or roots v 0) ≤ root_number roots
+          (get_or roots u 0)) → root_number roots (get_or roots u 0) < root_number roots (get_or roots v 0)
       by (inl m) = m
       by (inr m) = two (cases_eq (root_number roots (get_or roots u 0)) (root_number roots (get_or roots v 0)))
         where
-          two : (root_number roots (get_or roots u 0) ≡ root_number roots (get_or roots v 0)) ⊎ (root_number roots (get_or roots u 0) ≢ root_number roots (get_or roots v 0)) → root_number roots (get_or roots u 0) < root_number roots (get_or roots v 0)
+          two : (root_number roots (get_or roots u 0) ≡ root_number roots (get_or roots v 0)) ⊎ (root_number roots (get_or roots u 0) ≢ root_number roots
+              (get_or roots v 0)) → root_number roots (get_or roots u 0) < root_number roots (get_or roots v 0)
           two (inl e) = let same : get_or roots u 0 ≡ get_or roots v 0 = sym a.is ∙ ap (λ i. get_or set i 0) e ∙ b.is in absurd (omega arith)
           two (inr n) =
-              let far = less_than (get_or set (root_number roots (get_or roots v 0)) 0) (get_or set (root_number roots (get_or roots u 0)) 0) (strict_pairs nat_cmp_total set strict (root_number roots (get_or roots v 0)) (root_number roots (get_or roots u 0)) 0 (omega arith) a.below) in
+              let far = less_than (get_or set (root_number roots (get_or roots v 0)) 0) (get_or set (root_number roots (get_or roots u 0)) 0)
+              (strict_pairs nat_cmp_total set strict (root_number roots (get_or roots v 0)) (root_number roots (get_or roots u 0)) 0 (omega arith)
+              a.below) in
               let x = a.is in
               let y = b.is in
               absurd (omega arith)
@@ -155,7 +165,8 @@ pub below_count : (xs : List ℕ) → All (λ c. c < cluster_count xs) xs
 below_count xs i d low = count_above xs (get_or xs i d) (i, low, get_or_default xs i (get_or xs i d) d low)
 
 pub numbers_are_as_many : NumbersAreAsMany
-numbers_are_as_many roots = let a = count_upto (numbered roots) (length (set_of nat_cmp roots)) (below roots) in let b = low (length (set_of nat_cmp roots)) refl in omega arith
+numbers_are_as_many roots = let a = count_upto (numbered roots) (length (set_of nat_cmp roots)) (below roots) in let b = low (length (set_of nat_cmp roots))
+    refl in omega arith
   where
     low : (n : ℕ) → length (set_of nat_cmp roots) ≡ n → n ≤ cluster_count (numbered roots)
     low zero e = omega arith
@@ -171,8 +182,20 @@ numbers_rise roots u v low low' less = rises roots u v low low' less
 
 pub numbering_keeps_together : NumberingKeepsTogether
 numbering_keeps_together h roots u v long = (
-  λ t. record { first = t.first; second = t.second; different = t.different; cluster = tells roots u v (let a = t.first in omega arith) (let a = t.second in omega arith) t.cluster },
-  λ t. record { first = t.first; second = t.second; different = t.different; cluster = alike roots u v (let a = t.first in omega arith) (let a = t.second in omega arith) t.cluster },
+  λ t. record {
+    first = t.first;
+    second = t.second;
+    different = t.different;
+    cluster = tells roots u v (let a = t.first in omega arith)
+        (let a = t.second in omega arith) t.cluster;
+  },
+  λ t. record {
+    first = t.first;
+    second = t.second;
+    different = t.different;
+    cluster = alike roots u v (let a = t.first in omega arith)
+        (let a = t.second in omega arith) t.cluster;
+  },
 )
 
 pub numbering_keeps_singles : NumberingKeepsSingles
@@ -194,8 +217,11 @@ weight_in-map f (w ∷ ws) (x ∷ p) b one =
     by (inr n) = ne_eqb (f x) (f b) (λ e. n (All-head (λ y. f y ≡ f b → y ≡ b) x p one e)) ∙ sym (ne_eqb x b n)
 
 -- a cluster weighs the same by its number
-numbered_weight : (ws roots : List ℕ) (v : ℕ) → v < length roots → weight_in ws (numbered roots) (get_or (numbered roots) v 0) ≡ weight_in ws roots (get_or roots v 0)
-numbered_weight ws roots v low = ap (weight_in ws (numbered roots)) (numbered_at roots v low) ∙ weight_in-map (root_number roots) ws roots (get_or roots v 0) each
+numbered_weight : (ws roots : List ℕ) (v : ℕ) → v < length roots → weight_in ws (numbered roots) (get_or (numbered roots) v 0) ≡ weight_in ws roots
+    (get_or roots v 0)
+numbered_weight ws roots v low = ap (weight_in ws (numbered roots)) (numbered_at roots v low) ∙ weight_in-map (root_number roots) ws roots
+    (get_or roots v 0)
+    each
   where
     each : All (λ x. root_number roots x ≡ root_number roots (get_or roots v 0) → x ≡ get_or roots v 0) roots
     each i d m e =
@@ -209,7 +235,8 @@ numbers_are_clustering h cap roots r = record {
     below = below_count (numbered roots);
     used = λ i low. used roots i (let n = numbers_are_as_many roots in omega arith);
   };
-  capped = λ u v t. subst (λ n. n ≤ cap) (sym (numbered_weight h.weights roots u (let a = t.first in let n = r.vertices in omega arith))) (r.capped u v ((numbering_keeps_together h roots u v r.vertices).0 t));
+  capped = λ u v t. subst (λ n. n ≤ cap) (sym (numbered_weight h.weights roots u (let a = t.first in let n = r.vertices in omega arith)))
+      (r.capped u v ((numbering_keeps_together h roots u v r.vertices).0 t));
   free = λ u v t. r.free u v ((numbering_keeps_together h roots u v r.vertices).0 t);
 }
 
@@ -239,12 +266,15 @@ range-within n v c =
 pub number_counts_roots : NumberCountsRoots
 number_counts_roots h cap roots r rooted low =
     ap length
-    (same_strict nat_cmp_total nat_cmp_exact (filter (λ q. nat_lt q r) (set_of nat_cmp roots)) (filter (λ v. nat_eq (get_or roots v 0) v) (range_with_len 0 r))
+    (same_strict nat_cmp_total nat_cmp_exact (filter (λ q. nat_lt q r) (set_of nat_cmp roots))
+    (filter (λ v. nat_eq (get_or roots v 0) v) (range_with_len 0 r))
     (IsStrictlySortedBy-filter nat_cmp (λ q. nat_lt q r) (set_of nat_cmp roots) (strict-set_of nat_cmp_total roots))
-    (IsStrictlySortedBy-filter nat_cmp (λ v. nat_eq (get_or roots v 0) v) (range_with_len 0 r) (sorted_from_strictly_increasing (range_with_len 0 r) (increasing-range 0 r)))
+    (IsStrictlySortedBy-filter nat_cmp (λ v. nat_eq (get_or roots v 0) v) (range_with_len 0 r) (sorted_from_strictly_increasing (range_with_len 0 r)
+    (increasing-range 0 r)))
     to from)
   where
-    to : (q : ℕ) → Contains (filter (λ x. nat_lt x r) (set_of nat_cmp roots)) q → Contains (filter (λ v. nat_eq (get_or roots v 0) v) (range_with_len 0 r)) q
+    to : (q : ℕ) → Contains (filter (λ x. nat_lt x r) (set_of nat_cmp roots)) q → Contains (filter (λ v. nat_eq (get_or roots v 0) v) (range_with_len 0 r))
+        q
     to q c =
         let x = Contains-from_filter (λ x. nat_lt x r) (set_of nat_cmp roots) q c in
         let m = ltb-true q r x.1 in
@@ -253,12 +283,18 @@ number_counts_roots h cap roots r rooted low =
         let w = d.1 in
         let at : get_or roots d.0 0 ≡ q = get_or_default roots d.0 0 q d.1 ∙ d.2 in
         let own : get_or roots q 0 ≡ q = subst (λ z. get_or roots z 0 ≡ z) at (rooted.own d.0 (omega arith)) in
-        Contains_filter (λ v. nat_eq (get_or roots v 0) v) (range_with_len 0 r) q (Contains_range 0 r q (omega arith) (omega arith)) (eq-eqb (get_or roots q 0) q own)
+        Contains_filter (λ v. nat_eq (get_or roots v 0) v) (range_with_len 0 r) q (Contains_range 0 r q (omega arith) (omega arith))
+        (eq-eqb (get_or roots q 0) q own)
 
-    from : (q : ℕ) → Contains (filter (λ v. nat_eq (get_or roots v 0) v) (range_with_len 0 r)) q → Contains (filter (λ x. nat_lt x r) (set_of nat_cmp roots)) q
+    from : (q : ℕ) → Contains (filter (λ v. nat_eq (get_or roots v 0) v) (range_with_len 0 r)) q →
+        Contains (filter (λ x. nat_lt x r) (set_of nat_cmp roots)) q
     from q c =
         let x = Contains-from_filter (λ v. nat_eq (get_or roots v 0) v) (range_with_len 0 r) q c in
         let m = range-within r q x.0 in
         let own = eqb-true (get_or roots q 0) q x.1 in
         let n = rooted.vertices in
-        Contains_filter (λ x. nat_lt x r) (set_of nat_cmp roots) q (Contains-set_of nat_cmp_total nat_cmp_exact roots q (q, (let a = low in omega arith), get_or_default roots q q 0 (omega arith) ∙ own)) (lt-ltb q r m)
+        Contains_filter (λ x. nat_lt x r) (set_of nat_cmp roots) q (Contains-set_of nat_cmp_total nat_cmp_exact roots q (
+          q,
+          (let a = low in omega arith),
+          get_or_default roots q q 0 (omega arith) ∙ own,
+        )) (lt-ltb q r m)

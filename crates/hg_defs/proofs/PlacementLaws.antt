@@ -1,6 +1,10 @@
 -- Laws of least loaded placement.
-use Rattle.std.proofs.Common.{◌≡◌, ◌≢◌, ℕ, zero, suc, ◌+◌, ◌<◌, ◌≤◌, ◌⊎◌, inl, inr, Bool, true, false, not, if◌then◌else◌, nat_eq, nat_le, List, [], ◌∷◌, ◌++◌, map, filter, length, get_or, take, slice_index, slice_set, All, AllPairs, Contains, IsPermutation, IsSorted, Some, None, refl, sym, ap, ap₂, cond, ◌∙◌, subst, arith, append_assoc, append-nil, add-one, length-set, get_or-set_same, get_or-set_other, true≢false, ◌&&◌}
-use Rattle.std.proofs.lemmas.List.{length-replicate, get_or-replicate, get_or_past, get_or_default, ext_get_or, take_all, get_or-take, length-take, take_more}
+use Rattle.std.proofs.Common.{◌≡◌, ◌≢◌, ℕ, zero, suc, ◌+◌, ◌<◌, ◌≤◌, ◌⊎◌, inl, inr, Bool, true, false, not, if◌then◌else◌, nat_eq, nat_le}
+use Rattle.std.proofs.Common.{List, [], ◌∷◌, ◌++◌, map, filter, length, get_or, take, slice_index, slice_set, All, AllPairs, Contains}
+use Rattle.std.proofs.Common.{IsPermutation, IsSorted, Some, None, refl, sym, ap, ap₂, cond, ◌∙◌, subst, arith, append_assoc, append-nil}
+use Rattle.std.proofs.Common.{add-one, length-set, get_or-set_same, get_or-set_other, true≢false, ◌&&◌}
+use Rattle.std.proofs.lemmas.List.{length-replicate, get_or-replicate, get_or_past, get_or_default}
+use Rattle.std.proofs.lemmas.List.{ext_get_or, take_all, get_or-take, length-take, take_more}
 use Rattle.std.proofs.lemmas.List.Elements.{Contains-get_or, All-head, All-tail, All-set, All-replicate, Contains-push_cases, Contains-append_left}
 use Rattle.std.proofs.lemmas.List.FromFn.{length-range_with_len, get_or-range_with_len}
 use Rattle.std.proofs.lemmas.List.Sorted.{IsPermutation-trans, IsPermutation-append_right, IsPermutation-filter_both, All-permutation, Contains-permutation}
@@ -15,13 +19,19 @@ use Rattle.std.specs.List.{IsDistinct, AllByRecursion, list_all}
 use Rattle.hg_defs.specs.declared.objective.TheConstants.{FREE}
 use Rattle.hg_defs.specs.Hypergraph.{Hyper, IsHypergraph, IsFixedWithin, vertex_count, vertices, weight_of, fix_of, is_free, IsFree}
 use Rattle.hg_defs.specs.Partition.{IsPartition, block_of, load}
-use Rattle.hg_defs.specs.LeastLoaded.{Placing, placed, placed_one, unplaced, taken_block, placing_order, least, least_loaded, heaviest_first, heavier_first, first_overfilling}
-use Rattle.hg_defs.specs.PlacementLaws.{IsFirstLeast, weight_placed, IsPlacedAt, IsPlacedInTurn, IsFirstOverfilling, ListsFree, IsPlaceable, LeastLoadedIsPartition, LeastLoadedObeys, LeastLoadedIsInTurn, OnlyLeastLoadedIsInTurn, LeastIsFirstLeast, LoadsAreKept, AllWeightsArePlaced, OverfillingIsFirst, NoneOverfillsWhereItFits, OneOverfillsWhereItDoesNotFit, HeaviestFirstListsFree, HeaviestGoFirst, GreedyIsPartition, GreedyObeys, GreedyFits, GreedyDoesNotFit}
+use Rattle.hg_defs.specs.LeastLoaded.{Placing, placed, placed_one, unplaced, taken_block, placing_order, least}
+use Rattle.hg_defs.specs.LeastLoaded.{least_loaded, heaviest_first, heavier_first, first_overfilling}
+use Rattle.hg_defs.specs.PlacementLaws.{IsFirstLeast, weight_placed, IsPlacedAt, IsPlacedInTurn, IsFirstOverfilling, ListsFree, IsPlaceable}
+use Rattle.hg_defs.specs.PlacementLaws.{LeastLoadedIsPartition, LeastLoadedObeys, LeastLoadedIsInTurn, OnlyLeastLoadedIsInTurn, LeastIsFirstLeast}
+use Rattle.hg_defs.specs.PlacementLaws.{LoadsAreKept, AllWeightsArePlaced, OverfillingIsFirst, NoneOverfillsWhereItFits, OneOverfillsWhereItDoesNotFit}
+use Rattle.hg_defs.specs.PlacementLaws.{HeaviestFirstListsFree, HeaviestGoFirst, GreedyIsPartition, GreedyObeys, GreedyFits, GreedyDoesNotFit}
 use Rattle.hg_defs.proofs.KeyLaws.{by_key-permutation, by_key-pairs, heavier_goes_first}
-use Rattle.hg_defs.proofs.SumLaws.{weight_if, weight_if-same, weight_if-other, total_push, total-same, total-permutation, total-range, total-take-le, weight_in-by_index}
+use Rattle.hg_defs.proofs.SumLaws.{weight_if, weight_if-same, weight_if-other, total_push, total-same}
+use Rattle.hg_defs.proofs.SumLaws.{total-permutation, total-range, total-take-le, weight_in-by_index}
 use Rattle.hg_defs.specs.Sorting.{sorted}
 use Rattle.std.specs.declared.cmp.Reverse.{Reverse}
-use Rattle.hg_defs.proofs.SortLaws.{heavy_key, heavy_key_cmp, heavy_keys_sorted, heavier_first_total, heavier_first_exact, Contains_head, Contains_later, Contains-cons_cases, Contains-nil}
+use Rattle.hg_defs.proofs.SortLaws.{heavy_key, heavy_key_cmp, heavy_keys_sorted, heavier_first_total, heavier_first_exact}
+use Rattle.hg_defs.proofs.SortLaws.{Contains_head, Contains_later, Contains-cons_cases, Contains-nil}
 
 -- ---- the least element
 
@@ -29,7 +39,8 @@ pub least_is : LeastIsFirstLeast
 least_is [] h = absurd (omega arith)
 least_is (x ∷ xs) h = by (list_all (λ y. nat_le x y) xs) refl (least_is xs)
   where
-    by : (t : Bool) → list_all (λ y. nat_le x y) xs ≡ t → (0 < length xs → IsFirstLeast (slice_index xs) (length xs) (least xs)) → IsFirstLeast (slice_index (x ∷ xs)) (suc (length xs)) (if t then 0 else suc (least xs))
+    by : (t : Bool) → list_all (λ y. nat_le x y) xs ≡ t → (0 < length xs → IsFirstLeast (slice_index xs) (length xs) (least xs)) →
+        IsFirstLeast (slice_index (x ∷ xs)) (suc (length xs)) (if t then 0 else suc (least xs))
     by true e r = record { below = omega arith; least = low; first = λ c l. absurd (omega arith) }
       where
         pass : All (λ y. nat_le x y ≡ true) xs
@@ -44,7 +55,9 @@ least_is (x ∷ xs) h = by (list_all (λ y. nat_le x y) xs) refl (least_is xs)
         smaller [] f = absurd (true≢false f)
         smaller (y ∷ ys) f = one (nat_le x y) refl f (smaller ys)
           where
-            one : (t : Bool) → nat_le x y ≡ t → (t && list_all (λ z. nat_le x z) ys) ≡ false → (list_all (λ z. nat_le x z) ys ≡ false → (c : ℕ) × (c < length ys) × (slice_index ys c < x)) → (c : ℕ) × (c < suc (length ys)) × (slice_index (y ∷ ys) c < x)
+            one : (t : Bool) → nat_le x y ≡ t → (t && list_all (λ z. nat_le x z) ys) ≡ false →
+                (list_all (λ z. nat_le x z) ys ≡ false → (c : ℕ) × (c < length ys) × (slice_index ys c < x)) → (c : ℕ) × (c < suc (length ys)) ×
+                (slice_index (y ∷ ys) c < x)
             one true q g s = let t = s g in (suc t.0, let l = t.1 in omega arith, t.2)
             one false q g s = (0, omega arith, leb-false x y q)
 
@@ -136,13 +149,17 @@ module _ (h : Hyper) (k : ℕ) (good : IsHypergraph h) (fixed : IsFixedWithin h 
   placed_sound (v ∷ vs) s d = placed_sound vs (placed_one h s v) (one_sound s v d)
 
   -- a fixed vertex that was placed stands in the block of its fix, and so it stays
-  fixed_stays : (vs : List ℕ) (s : Placing) (u : ℕ) → IsSound s → fix_of h u ≢ FREE → (block_of s.blocks u ≡ fix_of h u) ⊎ Contains vs u → block_of (placed h s vs).blocks u ≡ fix_of h u
+  fixed_stays : (vs : List ℕ) (s : Placing) (u : ℕ) → IsSound s → fix_of h u ≢ FREE → (block_of s.blocks u ≡ fix_of h u) ⊎ Contains vs u →
+      block_of (placed h s vs).blocks u ≡ fix_of h u
   fixed_stays [] s u d f (inl e) = e
   fixed_stays [] s u d f (inr c) = absurd (Contains-nil u c)
   fixed_stays (v ∷ vs) s u d f h' = fixed_stays vs (placed_one h s v) u (one_sound s v d) f (by (cases_eq u v) h')
     where
-      by : (u ≡ v) ⊎ (u ≡ v → ⊥) → (block_of s.blocks u ≡ fix_of h u) ⊎ Contains (v ∷ vs) u → (block_of (placed_one h s v).blocks u ≡ fix_of h u) ⊎ Contains vs u
-      by (inl e) c = inl (subst (λ x. block_of (slice_set s.blocks x (taken_block h s.loads x)) u ≡ fix_of h u) e (get_or-set_same s.blocks u (taken_block h s.loads u) 0 inside ∙ taken_fixed h s.loads u f))
+      by : (u ≡ v) ⊎ (u ≡ v → ⊥) → (block_of s.blocks u ≡ fix_of h u) ⊎ Contains (v ∷ vs) u → (block_of (placed_one h s v).blocks u ≡ fix_of h u) ⊎
+          Contains vs
+          u
+      by (inl e) c = inl (subst (λ x. block_of (slice_set s.blocks x (taken_block h s.loads x)) u ≡ fix_of h u) e
+          (get_or-set_same s.blocks u (taken_block h s.loads u) 0 inside ∙ taken_fixed h s.loads u f))
         where
           inside : u < length s.blocks
           inside = let a = fixed_below h u good f in let b = d.blocks in omega arith
@@ -154,14 +171,19 @@ module _ (h : Hyper) (k : ℕ) (good : IsHypergraph h) (fixed : IsFixedWithin h 
           other (inr t) = inr t
 
 pub Contains_vertices : (h : Hyper) (v : ℕ) → v < vertex_count h → Contains (vertices h) v
-Contains_vertices h v l = (v, (let e = length-range_with_len 0 (vertex_count h) in omega arith), (let e : 0 + v ≡ v = omega arith in get_or-range_with_len 0 (vertex_count h) v v l ∙ e))
+Contains_vertices h v l = (
+  v,
+  (let e = length-range_with_len 0 (vertex_count h) in omega arith),
+  (let e : 0 + v ≡ v = omega arith in get_or-range_with_len 0 (vertex_count h) v v l ∙ e),
+)
 
 pub Contains_filter : {A : Type 0} (test : A → Bool) (xs : List A) (x : A) → Contains xs x → test x ≡ true → Contains (filter test xs) x
 Contains_filter test [] x c e = absurd (Contains-nil x c)
 Contains_filter {A} test (y ∷ ys) x c e = by (Contains-cons_cases y ys x c) (Contains_filter test ys x)
   where
     by : (y ≡ x) ⊎ Contains ys x → (Contains ys x → test x ≡ true → Contains (filter test ys) x) → Contains (filter test (y ∷ ys)) x
-    by (inl q) r = subst (λ (b : Bool). Contains (cond b (y ∷ filter test ys) (filter test ys)) x) (sym (ap test q ∙ e)) (subst (Contains (y ∷ filter test ys)) q (Contains_head y (filter test ys)))
+    by (inl q) r = subst (λ (b : Bool). Contains (cond b (y ∷ filter test ys) (filter test ys)) x) (sym (ap test q ∙ e))
+        (subst (Contains (y ∷ filter test ys)) q (Contains_head y (filter test ys)))
     by (inr t) r = later (test y)
       where
         later : (b : Bool) → Contains (cond b (y ∷ filter test ys) (filter test ys)) x
@@ -176,16 +198,20 @@ least_loaded-partition h k order good fixed blocks =
 pub least_loaded-obeys : LeastLoadedObeys
 least_loaded-obeys h k order good fixed blocks v l f =
     fixed_stays h k good fixed blocks (placing_order h order) (unplaced h k) v (unplaced_sound h k good fixed blocks) f
-    (inr (Contains-append_left (filter (λ u. not (is_free h u)) (vertices h)) order v (Contains_filter (λ u. not (is_free h u)) (vertices h) v (Contains_vertices h v l) (ap not (ne_eqb (fix_of h v) FREE f)))))
+    (inr (Contains-append_left (filter (λ u. not (is_free h u)) (vertices h)) order v (Contains_filter (λ u. not (is_free h u)) (vertices h) v
+    (Contains_vertices h v l) (ap not (ne_eqb (fix_of h v) FREE f)))))
 
 -- ---- what stands before the fixes and the loads: the vertices placed so far
 
-weight_placed-same : (h : Hyper) (p q vs : List ℕ) (b : ℕ) → ((v : ℕ) → Contains vs v → block_of p v ≡ block_of q v) → weight_placed h p vs b ≡ weight_placed h q vs b
+weight_placed-same : (h : Hyper) (p q vs : List ℕ) (b : ℕ) → ((v : ℕ) → Contains vs v → block_of p v ≡ block_of q v) →
+    weight_placed h p vs b ≡ weight_placed h
+    q vs b
 weight_placed-same h p q vs b e =
     total-same (λ v. weight_if (block_of p v) b (weight_of h v)) (λ v. weight_if (block_of q v) b (weight_of h v)) vs
     (λ i d l. ap (λ x. weight_if x b (weight_of h (get_or vs i d))) (e (get_or vs i d) (Contains-get_or vs i d l)))
 
-weight_placed_push : (h : Hyper) (p vs : List ℕ) (v b : ℕ) → weight_placed h p (vs ++ v ∷ []) b ≡ weight_placed h p vs b + weight_if (block_of p v) b (weight_of h v)
+weight_placed_push : (h : Hyper) (p vs : List ℕ) (v b : ℕ) → weight_placed h p (vs ++ v ∷ []) b ≡ weight_placed h p vs b + weight_if (block_of p v) b
+    (weight_of h v)
 weight_placed_push h p vs v b = total_push (λ u. weight_if (block_of p u) b (weight_of h u)) vs v
 
 apart : (xs : List ℕ) (x : ℕ) → AllByRecursion (λ y. nat_eq x y ≡ false) xs → Contains xs x → ⊥
@@ -245,19 +271,26 @@ module _ (h : Hyper) (k : ℕ) (good : IsHypergraph h) (fixed : IsFixedWithin h 
       here = get_or-set_same s.blocks v (taken_block h s.loads v) 0 (let e = d.sound.blocks in omega arith)
 
       before : (b : ℕ) → weight_placed h (placed_one h s v).blocks done b ≡ weight_placed h s.blocks done b
-      before b = weight_placed-same h (placed_one h s v).blocks s.blocks done b (λ u c. get_or-set_other s.blocks v u (taken_block h s.loads v) 0 (λ e. n (subst (Contains done) e c)))
+      before b = weight_placed-same h (placed_one h s v).blocks s.blocks done b (λ u c. get_or-set_other s.blocks v u (taken_block h s.loads v) 0
+          (λ e. n (subst (Contains done) e c)))
 
-      pushed : (b : ℕ) → weight_placed h (placed_one h s v).blocks (done ++ v ∷ []) b ≡ weight_placed h s.blocks done b + weight_if (taken_block h s.loads v) b (weight_of h v)
+      pushed : (b : ℕ) → weight_placed h (placed_one h s v).blocks (done ++ v ∷ []) b ≡ weight_placed h s.blocks done b + weight_if
+          (taken_block h s.loads v) b
+          (weight_of h v)
       pushed b = weight_placed_push h (placed_one h s v).blocks done v b ∙ ap₂ (λ x y. x + weight_if y b (weight_of h v)) (before b) here
 
       loaded : (b : ℕ) → b < k → slice_index (placed_one h s v).loads b ≡ slice_index s.loads b + weight_if (taken_block h s.loads v) b (weight_of h v)
       loaded b m = by (cases_eq b (taken_block h s.loads v))
         where
-          by : (b ≡ taken_block h s.loads v) ⊎ (b ≡ taken_block h s.loads v → ⊥) → slice_index (placed_one h s v).loads b ≡ slice_index s.loads b + weight_if (taken_block h s.loads v) b (weight_of h v)
+          by : (b ≡ taken_block h s.loads v) ⊎ (b ≡ taken_block h s.loads v → ⊥) → slice_index (placed_one h s v).loads b ≡ slice_index s.loads b +
+              weight_if
+              (taken_block h s.loads v) b (weight_of h v)
           by (inl e) =
               subst (λ c. slice_index (placed_one h s v).loads c ≡ slice_index s.loads c + weight_if (taken_block h s.loads v) c (weight_of h v)) (sym e)
-              (get_or-set_same s.loads (taken_block h s.loads v) (slice_index s.loads (taken_block h s.loads v) + weight_of h v) 0 (let a = d.sound.loads in let c = low in omega arith)
-              ∙ ap (λ x. slice_index s.loads (taken_block h s.loads v) + x) (sym (weight_if-same (taken_block h s.loads v) (taken_block h s.loads v) (weight_of h v) refl)))
+              (get_or-set_same s.loads (taken_block h s.loads v) (slice_index s.loads (taken_block h s.loads v) + weight_of h v) 0 (let a = d.sound.loads in
+              let c = low in omega arith)
+              ∙ ap (λ x. slice_index s.loads (taken_block h s.loads v) + x)
+              (sym (weight_if-same (taken_block h s.loads v) (taken_block h s.loads v) (weight_of h v) refl)))
           by (inr q) =
               let a = get_or-set_other s.loads (taken_block h s.loads v) b (slice_index s.loads (taken_block h s.loads v) + weight_of h v) 0 q in
               let z = weight_if-other (taken_block h s.loads v) b (weight_of h v) (λ e. q (sym e)) in
@@ -281,7 +314,8 @@ module _ (h : Hyper) (k : ℕ) (good : IsHypergraph h) (fixed : IsFixedWithin h 
   at_each : (rest done : List ℕ) (s : Placing) → IsNew (vertex_count h) done rest → Keeps done s → (i : ℕ) → i < length rest → At done rest s i
   at_each [] done s d e i l = absurd (omega arith)
   at_each (v ∷ rest) done s d e zero l = record {
-    takes = block_stays h rest (placed_one h s v) v (head_new (vertex_count h) done v rest d) ∙ get_or-set_same s.blocks v (taken_block h s.loads v) 0 (let a = e.sound.blocks in let b = All-head (λ u. u < vertex_count h) v rest d.within in omega arith);
+    takes = block_stays h rest (placed_one h s v) v (head_new (vertex_count h) done v rest d) ∙ get_or-set_same s.blocks v (taken_block h s.loads v) 0
+        (let a = e.sound.blocks in let b = All-head (λ u. u < vertex_count h) v rest d.within in omega arith);
     weighs = λ b m.
         e.weights b m ∙ sym (weight_placed-same h (placed h s (v ∷ rest)).blocks s.blocks done b (λ u c. block_stays h (v ∷ rest) s u (λ f. d.new u f c)))
         ∙ ap (λ xs. weight_placed h (placed h s (v ∷ rest)).blocks xs b) (sym (append-nil done));
@@ -325,7 +359,8 @@ placing_order_permutation h order d =
 placing_order_new : (h : Hyper) (order : List ℕ) → ListsFree h order → IsNew (vertex_count h) [] (placing_order h order)
 placing_order_new h order d = record {
   within = All-permutation (λ v. v < vertex_count h) (vertices h) (placing_order h order) (placing_order_permutation h order d) (vertices_within h);
-  distinct = IsDistinct-IsPermutation nat_eq nat_eq_equiv.symm (vertices h) (placing_order h order) (placing_order_permutation h order d) (distinct_vertices h);
+  distinct = IsDistinct-IsPermutation nat_eq nat_eq_equiv.symm (vertices h) (placing_order h order) (placing_order_permutation h order d)
+      (distinct_vertices h);
   new = λ u c e. Contains-nil u e;
 }
 
@@ -342,16 +377,24 @@ module _ (h : Hyper) (k : ℕ) (order : List ℕ) (ready : IsPlaceable h k order
   at_place = at_each h k ready.hypergraph ready.fixed ready.blocks (placing_order h order) [] (unplaced h k) new_start kept_start
 
   sound_at : (i : ℕ) → IsSound h k ready.hypergraph ready.fixed ready.blocks (placed h (unplaced h k) (take i (placing_order h order)))
-  sound_at i = placed_sound h k ready.hypergraph ready.fixed ready.blocks (take i (placing_order h order)) (unplaced h k) (unplaced_sound h k ready.hypergraph ready.fixed ready.blocks)
+  sound_at i = placed_sound h k ready.hypergraph ready.fixed ready.blocks (take i (placing_order h order)) (unplaced h k)
+      (unplaced_sound h k ready.hypergraph ready.fixed ready.blocks)
 
   is_placed_at : (i : ℕ) → i < length (placing_order h order) → IsPlacedAt h k (placing_order h order) (least_loaded h k order) i
   is_placed_at i l = record {
-    fixed = λ f. (at_place i l).takes ∙ taken_fixed h (placed h (unplaced h k) (take i (placing_order h order))).loads (slice_index (placing_order h order) i) f;
+    fixed = λ f. (at_place i l).takes ∙ taken_fixed h (placed h (unplaced h k) (take i (placing_order h order))).loads
+        (slice_index (placing_order h order) i)
+        f;
     free = λ f.
-        subst (IsFirstLeast (weight_placed h (least_loaded h k order) (take i (placing_order h order))) k) (sym ((at_place i l).takes ∙ taken_free h (placed h (unplaced h k) (take i (placing_order h order))).loads (slice_index (placing_order h order) i) f))
-        (first_least-same (slice_index (placed h (unplaced h k) (take i (placing_order h order))).loads) (weight_placed h (least_loaded h k order) (take i (placing_order h order))) k (least (placed h (unplaced h k) (take i (placing_order h order))).loads)
+        subst (IsFirstLeast (weight_placed h (least_loaded h k order) (take i (placing_order h order))) k)
+        (sym ((at_place i l).takes ∙ taken_free h (placed h (unplaced h k) (take i (placing_order h order))).loads (slice_index (placing_order h order) i)
+        f))
+        (first_least-same (slice_index (placed h (unplaced h k) (take i (placing_order h order))).loads)
+        (weight_placed h (least_loaded h k order) (take i (placing_order h order))) k
+        (least (placed h (unplaced h k) (take i (placing_order h order))).loads)
         (λ c m. (at_place i l).weighs c m)
-        (subst (λ n. IsFirstLeast (slice_index (placed h (unplaced h k) (take i (placing_order h order))).loads) n (least (placed h (unplaced h k) (take i (placing_order h order))).loads)) (sound_at i).loads
+        (subst (λ n. IsFirstLeast (slice_index (placed h (unplaced h k) (take i (placing_order h order))).loads) n
+        (least (placed h (unplaced h k) (take i (placing_order h order))).loads)) (sound_at i).loads
         (least_is (placed h (unplaced h k) (take i (placing_order h order))).loads (let e = (sound_at i).loads in let z = ready.blocks in omega arith))));
   }
 
@@ -362,14 +405,18 @@ pub loads_are_kept : LoadsAreKept
 loads_are_kept h k order i b ready m = by (cases_lt i (length (placing_order h order)))
   where
     by : (i < length (placing_order h order)) ⊎ (length (placing_order h order) ≤ i)
-        → slice_index (placed h (unplaced h k) (take i (placing_order h order))).loads b ≡ weight_placed h (least_loaded h k order) (take i (placing_order h order)) b
+        → slice_index (placed h (unplaced h k) (take i (placing_order h order))).loads b ≡ weight_placed h (least_loaded h k order)
+        (take i (placing_order h order)) b
     by (inl l) = (at_place h k order ready i l).weighs b m
     by (inr l) =
-        subst (λ xs. slice_index (placed h (unplaced h k) xs).loads b ≡ weight_placed h (least_loaded h k order) xs b) (sym (take_all i (placing_order h order) l))
-        ((placed_keeps h k ready.hypergraph ready.fixed ready.blocks (placing_order h order) [] (unplaced h k) (new_start h k order ready) (kept_start h k order ready)).weights b m)
+        subst (λ xs. slice_index (placed h (unplaced h k) xs).loads b ≡ weight_placed h (least_loaded h k order) xs b)
+        (sym (take_all i (placing_order h order) l))
+        ((placed_keeps h k ready.hypergraph ready.fixed ready.blocks (placing_order h order) [] (unplaced h k) (new_start h k order ready)
+        (kept_start h k order ready)).weights b m)
 
 -- the weights of all vertices, in whatever order, are the loads
-pub weight_placed-load : (h : Hyper) (p vs : List ℕ) (b : ℕ) → length p ≡ vertex_count h → IsPermutation (vertices h) vs → weight_placed h p vs b ≡ load h p b
+pub weight_placed-load : (h : Hyper) (p vs : List ℕ) (b : ℕ) → length p ≡ vertex_count h → IsPermutation (vertices h) vs → weight_placed h p vs b ≡ load h
+    p b
 weight_placed-load h p vs b e d =
     total-permutation (λ v. weight_if (block_of p v) b (weight_of h v)) (vertices h) vs d
     ∙ total-range (λ v. weight_if (block_of p v) b (weight_of h v)) (vertex_count h)
@@ -377,7 +424,8 @@ weight_placed-load h p vs b e d =
 
 pub all_weights_are_placed : AllWeightsArePlaced
 all_weights_are_placed h k order b ready =
-    weight_placed-load h (least_loaded h k order) (placing_order h order) b (least_loaded-partition h k order ready.hypergraph ready.fixed ready.blocks).vertices (placing_order_permutation h order ready.listed)
+    weight_placed-load h (least_loaded h k order) (placing_order h order) b (least_loaded-partition h k order ready.hypergraph ready.fixed
+    ready.blocks).vertices (placing_order_permutation h order ready.listed)
 
 -- two partitions that place the vertices in turn agree
 module _ (h : Hyper) (k : ℕ) (vs p q : List ℕ) (in_turn : IsPlacedInTurn h k vs p) (too : IsPlacedInTurn h k vs q) where
@@ -385,10 +433,13 @@ module _ (h : Hyper) (k : ℕ) (vs p q : List ℕ) (in_turn : IsPlacedInTurn h k
   agree_upto zero j l m = absurd (omega arith)
   agree_upto (suc i) j l m = by (is_free h (slice_index vs j)) refl (agree_upto i)
     where
-      by : (t : Bool) → is_free h (slice_index vs j) ≡ t → ((c : ℕ) → c < i → c < length vs → block_of p (slice_index vs c) ≡ block_of q (slice_index vs c)) → block_of p (slice_index vs j) ≡ block_of q (slice_index vs j)
+      by : (t : Bool) → is_free h (slice_index vs j) ≡ t → ((c : ℕ) → c < i → c < length vs → block_of p (slice_index vs c) ≡ block_of q
+          (slice_index vs c)) →
+          block_of p (slice_index vs j) ≡ block_of q (slice_index vs j)
       by true e r =
           first_least_same (weight_placed h q (take j vs)) k (block_of p (slice_index vs j)) (block_of q (slice_index vs j))
-          (first_least-same (weight_placed h p (take j vs)) (weight_placed h q (take j vs)) k (block_of p (slice_index vs j)) (λ b n. weight_placed-same h p q (take j vs) b same) ((in_turn j m).free (free_is h (slice_index vs j) e)))
+          (first_least-same (weight_placed h p (take j vs)) (weight_placed h q (take j vs)) k (block_of p (slice_index vs j))
+          (λ b n. weight_placed-same h p q (take j vs) b same) ((in_turn j m).free (free_is h (slice_index vs j) e)))
           ((too j m).free (free_is h (slice_index vs j) e))
         where
           same : (v : ℕ) → Contains (take j vs) v → block_of p v ≡ block_of q v
@@ -408,7 +459,8 @@ only_least_loaded-in_turn h k order p ready e in_turn =
 
     agrees : (v : ℕ) → v < length p → block_of p v ≡ block_of (least_loaded h k order) v
     agrees v l =
-        let c = Contains-permutation (vertices h) (placing_order h order) v (placing_order_permutation h order ready.listed) (Contains_vertices h v (omega arith)) in
+        let c = Contains-permutation (vertices h) (placing_order h order) v (placing_order_permutation h order ready.listed)
+        (Contains_vertices h v (omega arith)) in
         subst (λ u. block_of p u ≡ block_of (least_loaded h k order) u) (get_or_default (placing_order h order) c.0 0 v c.1 ∙ c.2)
         (agree_upto h k (placing_order h order) p (least_loaded h k order) in_turn (least_loaded-in_turn h k order ready) (suc c.0) c.0 (omega arith) c.1)
 
@@ -416,7 +468,8 @@ only_least_loaded-in_turn h k order p ready e in_turn =
 
 -- what the block of the vertex at place i holds once it is placed
 full_at : Hyper → Placing → List ℕ → ℕ → ℕ
-full_at h s vs i = slice_index (placed h s (take i vs)).loads (taken_block h (placed h s (take i vs)).loads (slice_index vs i)) + weight_of h (slice_index vs i)
+full_at h s vs i = slice_index (placed h s (take i vs)).loads (taken_block h (placed h s (take i vs)).loads (slice_index vs i)) + weight_of h
+    (slice_index vs i)
 
 record FoundFull (h : Hyper) (l : ℕ) (s : Placing) (vs : List ℕ) (v i : ℕ) : Type 0 where
   within : i < length vs
@@ -432,8 +485,10 @@ over_some h l [] s v e = absurd (none_is_none v e)
     none_is_none u e = cc
 over_some h l (u ∷ vs) s v e = by (nat_le (slice_index s.loads (taken_block h s.loads u) + weight_of h u) l) refl e (over_some h l vs (placed_one h s u) v)
   where
-    by : (t : Bool) → nat_le (slice_index s.loads (taken_block h s.loads u) + weight_of h u) l ≡ t → (if t then first_overfilling h l (placed_one h s u) vs else Some u) ≡ Some v
-        → (first_overfilling h l (placed_one h s u) vs ≡ Some v → (i : ℕ) × FoundFull h l (placed_one h s u) vs v i) → (i : ℕ) × FoundFull h l s (u ∷ vs) v i
+    by : (t : Bool) → nat_le (slice_index s.loads (taken_block h s.loads u) + weight_of h u) l ≡ t →
+        (if t then first_overfilling h l (placed_one h s u) vs else Some u) ≡ Some v
+        → (first_overfilling h l (placed_one h s u) vs ≡ Some v → (i : ℕ) × FoundFull h l (placed_one h s u) vs v i) → (i : ℕ) × FoundFull h l s (u ∷ vs) v
+        i
     by true f g r =
         let x = r g in (
           suc x.0,
@@ -448,7 +503,15 @@ over_some h l (u ∷ vs) s v e = by (nat_le (slice_index s.loads (taken_block h 
         before : (i : ℕ) → FoundFull h l (placed_one h s u) vs v i → (j : ℕ) → j < suc i → full_at h s (u ∷ vs) j ≤ l
         before i x zero m = leb-true (slice_index s.loads (taken_block h s.loads u) + weight_of h u) l f
         before i x (suc j) m = x.first j (omega arith)
-    by false f g r = (0, record { within = omega arith; is = same u v g; past = leb-false (slice_index s.loads (taken_block h s.loads u) + weight_of h u) l f; first = λ j m. absurd (omega arith) })
+    by false f g r = (
+      0,
+      record {
+        within = omega arith;
+        is = same u v g;
+        past = leb-false (slice_index s.loads (taken_block h s.loads u) + weight_of h u) l f;
+        first = λ j m. absurd (omega arith);
+      },
+    )
       where
         same : (a b : ℕ) → Some a ≡ Some b → b ≡ a
         same a b e = cc
@@ -456,10 +519,13 @@ over_some h l (u ∷ vs) s v e = by (nat_le (slice_index s.loads (taken_block h 
 over_none : (h : Hyper) (l : ℕ) (vs : List ℕ) (s : Placing) → first_overfilling h l s vs ≡ None → (i : ℕ) → i < length vs → full_at h s vs i ≤ l
 unfolding full_at
 over_none h l [] s e i m = absurd (omega arith)
-over_none h l (u ∷ vs) s e i m = by (nat_le (slice_index s.loads (taken_block h s.loads u) + weight_of h u) l) refl e (over_none h l vs (placed_one h s u)) i m
+over_none h l (u ∷ vs) s e i m = by (nat_le (slice_index s.loads (taken_block h s.loads u) + weight_of h u) l) refl e (over_none h l vs (placed_one h s u))
+    i m
   where
-    by : (t : Bool) → nat_le (slice_index s.loads (taken_block h s.loads u) + weight_of h u) l ≡ t → (if t then first_overfilling h l (placed_one h s u) vs else Some u) ≡ None
-        → (first_overfilling h l (placed_one h s u) vs ≡ None → (j : ℕ) → j < length vs → full_at h (placed_one h s u) vs j ≤ l) → (j : ℕ) → j < suc (length vs) → full_at h s (u ∷ vs) j ≤ l
+    by : (t : Bool) → nat_le (slice_index s.loads (taken_block h s.loads u) + weight_of h u) l ≡ t →
+        (if t then first_overfilling h l (placed_one h s u) vs else Some u) ≡ None
+        → (first_overfilling h l (placed_one h s u) vs ≡ None → (j : ℕ) → j < length vs → full_at h (placed_one h s u) vs j ≤ l) → (j : ℕ) →
+        j < suc (length vs) → full_at h s (u ∷ vs) j ≤ l
     by true f g r zero n = leb-true (slice_index s.loads (taken_block h s.loads u) + weight_of h u) l f
     by true f g r (suc j) n = r g j (omega arith)
     by false f g r j n = absurd (some_is_none u g)
@@ -468,20 +534,25 @@ over_none h l (u ∷ vs) s e i m = by (nat_le (slice_index s.loads (taken_block 
         some_is_none a e = cc
 
 module _ (h : Hyper) (k : ℕ) (order : List ℕ) (ready : IsPlaceable h k order) where
-  full_is : (i : ℕ) → i < length (placing_order h order) → full_at h (unplaced h k) (placing_order h order) i ≡ weight_placed h (least_loaded h k order) (take (i + 1) (placing_order h order)) (block_of (least_loaded h k order) (slice_index (placing_order h order) i))
+  full_is : (i : ℕ) → i < length (placing_order h order) → full_at h (unplaced h k) (placing_order h order) i ≡ weight_placed h (least_loaded h k order)
+      (take (i + 1) (placing_order h order)) (block_of (least_loaded h k order) (slice_index (placing_order h order) i))
   unfolding full_at
   full_is i l =
       let a = at_place h k order ready i l in
       let s = (sound_at h k order ready i).loads in
-      let low = taken_below h k ready.hypergraph ready.fixed ready.blocks (placed h (unplaced h k) (take i (placing_order h order))).loads (slice_index (placing_order h order) i) s in
+      let low = taken_below h k ready.hypergraph ready.fixed ready.blocks (placed h (unplaced h k) (take i (placing_order h order))).loads
+      (slice_index (placing_order h order) i) s in
       let b = taken_block h (placed h (unplaced h k) (take i (placing_order h order))).loads (slice_index (placing_order h order) i) in
       let more = weight_placed_push h (least_loaded h k order) (take i (placing_order h order)) (slice_index (placing_order h order) i) b in
-      let same = weight_if-same (block_of (least_loaded h k order) (slice_index (placing_order h order) i)) b (weight_of h (slice_index (placing_order h order) i)) a.takes in
+      let same = weight_if-same (block_of (least_loaded h k order) (slice_index (placing_order h order) i)) b
+      (weight_of h (slice_index (placing_order h order) i)) a.takes in
       let w = a.weighs b low in
-      let sum : full_at h (unplaced h k) (placing_order h order) i ≡ weight_placed h (least_loaded h k order) (take i (placing_order h order) ++ slice_index (placing_order h order) i ∷ []) b = omega arith in
+      let sum : full_at h (unplaced h k) (placing_order h order) i ≡ weight_placed h (least_loaded h k order)
+      (take i (placing_order h order) ++ slice_index (placing_order h order) i ∷ []) b = omega arith in
       sum ∙ ap₂ (weight_placed h (least_loaded h k order)) (sym (take_more (placing_order h order) i 0 l)) (sym a.takes)
 
-  first_overfilling_is : (l v : ℕ) → first_overfilling h l (unplaced h k) (placing_order h order) ≡ Some v → (i : ℕ) × IsFirstOverfilling h l (placing_order h order) (least_loaded h k order) i × (v ≡ slice_index (placing_order h order) i)
+  first_overfilling_is : (l v : ℕ) → first_overfilling h l (unplaced h k) (placing_order h order) ≡ Some v → (i : ℕ) × IsFirstOverfilling h l
+      (placing_order h order) (least_loaded h k order) i × (v ≡ slice_index (placing_order h order) i)
   first_overfilling_is l v e =
       let x = over_some h l (placing_order h order) (unplaced h k) v e in (
         x.0,
@@ -493,24 +564,30 @@ module _ (h : Hyper) (k : ℕ) (order : List ℕ) (ready : IsPlaceable h k order
         x.1.is,
       )
 
-  weight_upto : (l b : ℕ) → first_overfilling h l (unplaced h k) (placing_order h order) ≡ None → (i : ℕ) → i ≤ length (placing_order h order) → weight_placed h (least_loaded h k order) (take i (placing_order h order)) b ≤ l
+  weight_upto : (l b : ℕ) → first_overfilling h l (unplaced h k) (placing_order h order) ≡ None → (i : ℕ) → i ≤ length (placing_order h order) →
+      weight_placed h (least_loaded h k order) (take i (placing_order h order)) b ≤ l
   weight_upto l b e zero m = omega arith
-  weight_upto l b e (suc i) m = by (cases_eq (block_of (least_loaded h k order) (slice_index (placing_order h order) i)) b) (weight_upto l b e i (omega arith))
+  weight_upto l b e (suc i) m = by (cases_eq (block_of (least_loaded h k order) (slice_index (placing_order h order) i)) b)
+      (weight_upto l b e i (omega arith))
     where
       v : ℕ
       v = slice_index (placing_order h order) i
 
-      by : (block_of (least_loaded h k order) (slice_index (placing_order h order) i) ≡ b) ⊎ (block_of (least_loaded h k order) (slice_index (placing_order h order) i) ≡ b → ⊥)
-          → weight_placed h (least_loaded h k order) (take i (placing_order h order)) b ≤ l → weight_placed h (least_loaded h k order) (take (suc i) (placing_order h order)) b ≤ l
+      by : (block_of (least_loaded h k order) (slice_index (placing_order h order) i) ≡ b) ⊎
+          (block_of (least_loaded h k order) (slice_index (placing_order h order) i) ≡ b → ⊥)
+          → weight_placed h (least_loaded h k order) (take i (placing_order h order)) b ≤ l → weight_placed h (least_loaded h k order)
+          (take (suc i) (placing_order h order)) b ≤ l
       by (inl q) r =
           let a = over_none h l (placing_order h order) (unplaced h k) e i (omega arith) in
           let f = full_is i (omega arith) in
           subst (λ n. weight_placed h (least_loaded h k order) (take n (placing_order h order)) b ≤ l) (add-one i)
           (subst (λ c. weight_placed h (least_loaded h k order) (take (i + 1) (placing_order h order)) c ≤ l) q (omega arith))
       by (inr q) r =
-          let z = weight_if-other (block_of (least_loaded h k order) (slice_index (placing_order h order) i)) b (weight_of h (slice_index (placing_order h order) i)) q in
+          let z = weight_if-other (block_of (least_loaded h k order) (slice_index (placing_order h order) i)) b
+          (weight_of h (slice_index (placing_order h order) i)) q in
           let p = weight_placed_push h (least_loaded h k order) (take i (placing_order h order)) (slice_index (placing_order h order) i) b in
-          subst (λ xs. weight_placed h (least_loaded h k order) xs b ≤ l) (sym (take_more (placing_order h order) i 0 (omega arith)) ∙ ap (λ n. take n (placing_order h order)) (add-one i)) (omega arith)
+          subst (λ xs. weight_placed h (least_loaded h k order) xs b ≤ l) (sym (take_more (placing_order h order) i 0 (omega arith)) ∙
+          ap (λ n. take n (placing_order h order)) (add-one i)) (omega arith)
 
 pub overfilling_is_first : OverfillingIsFirst
 overfilling_is_first h k l order v ready e = first_overfilling_is h k order ready l v e
@@ -547,7 +624,10 @@ apart_vertices h test = AllPairs-filter (λ x y. x ≢ y) test (vertices h) (All
 
 pub heaviest_go_first : HeaviestGoFirst
 heaviest_go_first h i j d l m =
-    heavier_goes_first (weight_of h (get_or (heaviest_first h) i d), get_or (heaviest_first h) i d) (weight_of h (get_or (heaviest_first h) j d), get_or (heaviest_first h) j d)
+    heavier_goes_first (weight_of h (get_or (heaviest_first h) i d), get_or (heaviest_first h) i d) (
+      weight_of h (get_or (heaviest_first h) j d),
+      get_or (heaviest_first h) j d,
+    )
     (by_key-pairs heavier_first_total heavier_first_exact (weight_of h) (filter (is_free h) (vertices h)) (apart_vertices h (is_free h)) i j d l m)
 
 -- ---- greedy placement
@@ -568,7 +648,8 @@ pub greedy-does_not_fit : GreedyDoesNotFit
 greedy-does_not_fit h k l v good fixed some e = one_overfills h k l (heaviest_first h) v (greedy-placeable h k good fixed some) e
 
 -- keys of the free vertices, sorted, give the order of greedy placement
-pub heaviest_first_is : (h : Hyper) (keys sorted_keys : List (Reverse ℕ × ℕ)) → map heavy_key keys ≡ map (λ v. (weight_of h v, v)) (filter (is_free h) (vertices h)) → IsPermutation keys sorted_keys → IsSorted heavy_key_cmp sorted_keys
+pub heaviest_first_is : (h : Hyper) (keys sorted_keys : List (Reverse ℕ × ℕ)) → map heavy_key keys ≡ map (λ v. (weight_of h v, v))
+    (filter (is_free h) (vertices h)) → IsPermutation keys sorted_keys → IsSorted heavy_key_cmp sorted_keys
     → map (λ (a : Reverse ℕ × ℕ). a.1) sorted_keys ≡ heaviest_first h
 heaviest_first_is h keys sorted_keys e p s =
     seconds_of sorted_keys ∙ ap (map (λ (a : ℕ × ℕ). a.1)) (heavy_keys_sorted keys sorted_keys p s ∙ ap (sorted heavier_first) e)

@@ -1,5 +1,7 @@
 -- Laws of the best prefix of a list of moves.
-use Rattle.std.proofs.Common.{take, ◌≢◌, AllPairs, IsPermutation, Contains, get_or, length-set, get_or-set_same, get_or-set_other, ◌≡◌, ℕ, zero, suc, ◌+◌, ◌<◌, ◌≤◌, ◌⊎◌, inl, inr, Bool, true, false, not, ◌&&◌, ◌||◌, cond, nat_le, List, [], ◌∷◌, ◌++◌, length, All, Some, find, unwrap_or, refl, sym, ap, ◌∙◌, subst, arith, true≢false, slice_set}
+use Rattle.std.proofs.Common.{take, ◌≢◌, AllPairs, IsPermutation, Contains, get_or, length-set, get_or-set_same, get_or-set_other, ◌≡◌, ℕ, zero}
+use Rattle.std.proofs.Common.{suc, ◌+◌, ◌<◌, ◌≤◌, ◌⊎◌, inl, inr, Bool, true, false, not, ◌&&◌, ◌||◌, cond, nat_le, List, [], ◌∷◌, ◌++◌, length, All}
+use Rattle.std.proofs.Common.{Some, find, unwrap_or, refl, sym, ap, ◌∙◌, subst, arith, true≢false, slice_set}
 use Rattle.std.proofs.lemmas.List.{take_more, take-take, ext_get_or, take_all}
 use Rattle.std.proofs.lemmas.List.FromFn.{length-range_with_len, get_or-range_with_len}
 use Rattle.std.proofs.lemmas.List.Sums.{AllPass-from_list_all, list_all-from_AllPass}
@@ -54,7 +56,8 @@ finds test a (suc n) i l e = by (test a) refl (finds test (a + 1) n)
     none : a ≡ a + 0
     none = omega arith
 
-    by : (b : Bool) → test a ≡ b → ((c : ℕ) → c < n → test (a + 1 + c) ≡ true → (j : ℕ) × FindsFirst test (a + 1) n j) → (j : ℕ) × FindsFirst test a (suc n) j
+    by : (b : Bool) → test a ≡ b → ((c : ℕ) → c < n → test (a + 1 + c) ≡ true → (j : ℕ) × FindsFirst test (a + 1) n j) → (j : ℕ) × FindsFirst test a
+        (suc n) j
     by true f r = (
       0,
       record {
@@ -111,7 +114,8 @@ module _ (fit : ℕ → Bool) (c : ℕ → ℕ) (n : ℕ) where
 
   best_passes : (j : ℕ) → fit j ≡ true → IsCheapest j → is_best j ≡ true
   unfolding IsCheapest
-  best_passes j f h = and_from (fit j) (list_all (λ i. not (fit i) || nat_le (c j) (c i)) (range_with_len 0 (n + 1))) f (from_all_below (λ i. not (fit i) || nat_le (c j) (c i)) (n + 1) (λ i l. by i l (fit i) refl))
+  best_passes j f h = and_from (fit j) (list_all (λ i. not (fit i) || nat_le (c j) (c i)) (range_with_len 0 (n + 1))) f
+      (from_all_below (λ i. not (fit i) || nat_le (c j) (c i)) (n + 1) (λ i l. by i l (fit i) refl))
     where
       by : (i : ℕ) → i < n + 1 → (b : Bool) → fit i ≡ b → (not b || nat_le (c j) (c i)) ≡ true
       by i l true e = le-leb (c j) (c i) (h i l e)
@@ -122,10 +126,12 @@ module _ (fit : ℕ → Bool) (c : ℕ → ℕ) (n : ℕ) where
   cheapest_of z zero = (0, omega arith, z, λ i l f. let e : 0 ≡ i = omega arith in subst (λ x. c 0 ≤ c x) e (omega arith))
   cheapest_of z (suc m) = by (fit (suc m)) refl (cheapest_of z m)
     where
-      by : (b : Bool) → fit (suc m) ≡ b → (j : ℕ) × (j < m + 1) × (fit j ≡ true) × ((i : ℕ) → i < m + 1 → fit i ≡ true → c j ≤ c i) → (j : ℕ) × (j < suc m + 1) × (fit j ≡ true) × ((i : ℕ) → i < suc m + 1 → fit i ≡ true → c j ≤ c i)
+      by : (b : Bool) → fit (suc m) ≡ b → (j : ℕ) × (j < m + 1) × (fit j ≡ true) × ((i : ℕ) → i < m + 1 → fit i ≡ true → c j ≤ c i) →
+          (j : ℕ) × (j < suc m + 1) × (fit j ≡ true) × ((i : ℕ) → i < suc m + 1 → fit i ≡ true → c j ≤ c i)
       by true e r = two (cases_lt (c (suc m)) (c r.0))
         where
-          two : (c (suc m) < c r.0) ⊎ (c r.0 ≤ c (suc m)) → (j : ℕ) × (j < suc m + 1) × (fit j ≡ true) × ((i : ℕ) → i < suc m + 1 → fit i ≡ true → c j ≤ c i)
+          two : (c (suc m) < c r.0) ⊎ (c r.0 ≤ c (suc m)) → (j : ℕ) × (j < suc m + 1) × (fit j ≡ true) × ((i : ℕ) → i < suc m + 1 → fit i ≡ true →
+              c j ≤ c i)
           two (inl l) = (suc m, omega arith, e, λ i q f. last i q f (cases_lt i (m + 1)))
             where
               last : (i : ℕ) → i < suc m + 1 → fit i ≡ true → (i < m + 1) ⊎ (m + 1 ≤ i) → c (suc m) ≤ c i
@@ -179,7 +185,8 @@ module _ (fit : ℕ → Bool) (c : ℕ → ℕ) (n : ℕ) where
               two i l f (inl a) = a
               two i l f (inr a) =
                   let s : 0 + i ≡ i = omega arith in
-                  absurd (true≢false (sym (best_passes i f (λ q m g. let b = best.1 q m g in omega arith)) ∙ subst (λ j. is_best j ≡ false) s (x.1.first i l)))
+                  absurd (true≢false (sym (best_passes i f (λ q m g. let b = best.1 q m g in omega arith)) ∙ subst (λ j. is_best j ≡ false) s
+                  (x.1.first i l)))
 
 pub best_prefix_is : BestPrefixIsBest
 best_prefix_is h k l p moves start = record {
@@ -190,16 +197,20 @@ best_prefix_is h k l p moves start = record {
 }
   where
     pick : IsPick (λ i. is_fitting h k l (replay_first p moves i)) (λ i. cost h (replay_first p moves i)) (length moves) (best_prefix h k l p moves)
-    pick = pick_is (λ i. is_fitting h k l (replay_first p moves i)) (λ i. cost h (replay_first p moves i)) (length moves) ((fitting_is_tested h k l p).1 start)
+    pick = pick_is (λ i. is_fitting h k l (replay_first p moves i)) (λ i. cost h (replay_first p moves i)) (length moves)
+        ((fitting_is_tested h k l p).1 start)
 
-    two : (i : ℕ) → Fits h k l (replay_first p moves i) → (i < length moves + 1) ⊎ (length moves + 1 ≤ i) → cost h (replay_first p moves (best_prefix h k l p moves)) ≤ cost h (replay_first p moves i)
+    two : (i : ℕ) → Fits h k l (replay_first p moves i) → (i < length moves + 1) ⊎ (length moves + 1 ≤ i) →
+        cost h (replay_first p moves (best_prefix h k l p moves)) ≤ cost h (replay_first p moves i)
     two i f (inl m) = pick.cheapest i m ((fitting_is_tested h k l (replay_first p moves i)).1 f)
-    two i f (inr m) = subst (λ q. cost h (replay_first p moves (best_prefix h k l p moves)) ≤ cost h q) (sym same) (pick.cheapest (length moves) (omega arith) ((fitting_is_tested h k l (replay_first p moves (length moves))).1 (subst (Fits h k l) same f)))
+    two i f (inr m) = subst (λ q. cost h (replay_first p moves (best_prefix h k l p moves)) ≤ cost h q) (sym same)
+        (pick.cheapest (length moves) (omega arith) ((fitting_is_tested h k l (replay_first p moves (length moves))).1 (subst (Fits h k l) same f)))
       where
         same : replay_first p moves i ≡ replay_first p moves (length moves)
         same = ap (replay p) (take_all i moves (omega arith) ∙ sym (take_all (length moves) moves (omega arith)))
 
-pub best_prefix_same : (h : Hyper) (k l : ℕ) (p : List ℕ) (moves : List Move) (i j : ℕ) → IsBestPrefix h k l p moves i → IsBestPrefix h k l p moves j → i ≡ j
+pub best_prefix_same : (h : Hyper) (k l : ℕ) (p : List ℕ) (moves : List Move) (i j : ℕ) → IsBestPrefix h k l p moves i → IsBestPrefix h k l p moves j →
+    i ≡ j
 best_prefix_same h k l p moves i j x y = by (cases_order i j)
   where
     by : (i ≡ j) ⊎ ((i < j) ⊎ (j < i)) → i ≡ j
@@ -244,7 +255,8 @@ replay-apart p (m ∷ moves) u a =
     ∙ get_or-set_other p m.vertex u m.to 0 (λ e. All-head (λ n. n.vertex ≢ u) m moves a (sym e))
 
 -- a vertex that moves once goes to that block
-pub replay-once : (p : List ℕ) (moves : List Move) (m : Move) → AllPairs (λ x y. x.vertex ≢ y.vertex) moves → All (λ n. n.vertex < length p) moves → Contains moves m
+pub replay-once : (p : List ℕ) (moves : List Move) (m : Move) → AllPairs (λ x y. x.vertex ≢ y.vertex) moves → All (λ n. n.vertex < length p) moves →
+    Contains moves m
     → block_of (replay p moves) m.vertex ≡ m.to
 replay-once p [] m a l c = absurd (Contains-nil m c)
 replay-once p (n ∷ moves) m a l c = by (Contains-cons_cases n moves m c) (replay-once (slice_set p n.vertex n.to) moves m rest low)
@@ -258,14 +270,16 @@ replay-once p (n ∷ moves) m a l c = by (Contains-cons_cases n moves m c) (repl
     others : All (λ x. x.vertex ≢ n.vertex) moves
     others i d q = λ e. a 0 (suc i) d (omega arith) (omega arith) (sym e)
 
-    by : (n ≡ m) ⊎ Contains moves m → (Contains moves m → block_of (replay (slice_set p n.vertex n.to) moves) m.vertex ≡ m.to) → block_of (replay (slice_set p n.vertex n.to) moves) m.vertex ≡ m.to
+    by : (n ≡ m) ⊎ Contains moves m → (Contains moves m → block_of (replay (slice_set p n.vertex n.to) moves) m.vertex ≡ m.to) →
+        block_of (replay (slice_set p n.vertex n.to) moves) m.vertex ≡ m.to
     by (inl e) r =
         subst (λ x. block_of (replay (slice_set p n.vertex n.to) moves) x.vertex ≡ x.to) e
         (replay-apart (slice_set p n.vertex n.to) moves n.vertex others ∙ get_or-set_same p n.vertex n.to 0 (All-head (λ x. x.vertex < length p) n moves l))
     by (inr t) r = r t
 
 -- where each vertex moves once, the order of the moves doesn't count
-pub replay-permutation : (p : List ℕ) (us vs : List Move) → AllPairs (λ x y. x.vertex ≢ y.vertex) us → AllPairs (λ x y. x.vertex ≢ y.vertex) vs → All (λ m. m.vertex < length p) us → IsPermutation us vs
+pub replay-permutation : (p : List ℕ) (us vs : List Move) → AllPairs (λ x y. x.vertex ≢ y.vertex) us → AllPairs (λ x y. x.vertex ≢ y.vertex) vs →
+    All (λ m. m.vertex < length p) us → IsPermutation us vs
     → replay p vs ≡ replay p us
 replay-permutation p us vs a b l h = ext_get_or 0 (replay p vs) (replay p us) (length-replay p vs ∙ sym (length-replay p us)) each
   where
@@ -276,7 +290,8 @@ replay-permutation p us vs a b l h = ext_get_or 0 (replay p vs) (replay p us) (l
     moves_it [] u = inr (All-nil (λ m. m.vertex ≢ u))
     moves_it (m ∷ ms) u = by (cases_eq m.vertex u) (moves_it ms u)
       where
-        by : (m.vertex ≡ u) ⊎ (m.vertex ≡ u → ⊥) → ((n : Move) × Contains ms n × (n.vertex ≡ u)) ⊎ All (λ n. n.vertex ≢ u) ms → ((n : Move) × Contains (m ∷ ms) n × (n.vertex ≡ u)) ⊎ All (λ n. n.vertex ≢ u) (m ∷ ms)
+        by : (m.vertex ≡ u) ⊎ (m.vertex ≡ u → ⊥) → ((n : Move) × Contains ms n × (n.vertex ≡ u)) ⊎ All (λ n. n.vertex ≢ u) ms →
+            ((n : Move) × Contains (m ∷ ms) n × (n.vertex ≡ u)) ⊎ All (λ n. n.vertex ≢ u) (m ∷ ms)
         by (inl e) r = inl (m, Contains_head m ms, e)
         by (inr q) (inl r) = inl (r.0, Contains_later m ms r.0 r.1, r.2)
         by (inr q) (inr r) = inr (All-cons (λ n. n.vertex ≢ u) m ms q r)

@@ -1,5 +1,9 @@
 -- Laws of sums: over a list, over the numbers below a bound, and of the weights of a block.
-use Rattle.std.proofs.Common.{◌⊎◌, inl, inr, ◌-◌, ◌≤ℤ◌, length-set, get_or-set_same, get_or-set_other, add-zero, add-suc, ◌≡◌, ℕ, zero, suc, ◌+◌, ◌*◌, ◌<◌, ◌≤◌, ◌≢◌, Bool, true, false, cond, if◌then◌else◌, nat_eq, List, [], ◌∷◌, ◌++◌, map, filter, length, get_or, take, drop, set, replicate, slice_index, slice_set, ℤ, pos, ◌+ℤ◌, ◌-ℤ◌, All, IsPermutation, refl, sym, ap, ◌∙◌, subst, arith, add-one, sum_by}
+use Rattle.std.proofs.Common.{◌⊎◌, inl, inr, ◌-◌, ◌≤ℤ◌, length-set, get_or-set_same, get_or-set_other}
+use Rattle.std.proofs.Common.{add-zero, add-suc, ◌≡◌, ℕ, zero, suc, ◌+◌, ◌*◌, ◌<◌, ◌≤◌}
+use Rattle.std.proofs.Common.{◌≢◌, Bool, true, false, cond, if◌then◌else◌, nat_eq, List, [], ◌∷◌, ◌++◌, map}
+use Rattle.std.proofs.Common.{filter, length, get_or, take, drop, set, replicate}
+use Rattle.std.proofs.Common.{slice_index, slice_set, ℤ, pos, ◌+ℤ◌, ◌-ℤ◌, All, IsPermutation, refl, sym, ap, ◌∙◌, subst, arith, add-one, sum_by}
 use Rattle.std.proofs.lemmas.List.{drop_more}
 use Rattle.std.proofs.lemmas.List.Sums.{sum_by-cons}
 use Rattle.std.proofs.lemmas.List.Sorted.{sum_by-IsPermutation}
@@ -79,7 +83,8 @@ module _ {A : Type 0} (f : A → ℕ) where
   total-filter p [] = refl
   total-filter p (x ∷ xs) = by (p x) (total-filter p xs)
     where
-      by : (b : Bool) → total f (filter p xs) ≡ total (λ x. if p x then f x else 0) xs → total f (cond b (x ∷ filter p xs) (filter p xs)) ≡ (if b then f x else 0) + total (λ x. if p x then f x else 0) xs
+      by : (b : Bool) → total f (filter p xs) ≡ total (λ x. if p x then f x else 0) xs → total f (cond b (x ∷ filter p xs) (filter p xs)) ≡
+          (if b then f x else 0) + total (λ x. if p x then f x else 0) xs
       by true e = omega arith
       by false e = omega arith
 
@@ -334,28 +339,33 @@ pub sum_below-weight_if : (x w k : ℕ) → x < k → sum_below (λ b. weight_if
 sum_below-weight_if x w k h = sum_below-only (λ b. weight_if x b w) k x h (λ j l q. weight_if-other x j w (λ e. q (sym e))) ∙ weight_if-same x x w refl
 
 -- one block changed
-pub weight_in-set : (ws p : List ℕ) (v b c : ℕ) → v < length ws → v < length p → weight_in ws (slice_set p v b) c + weight_if (slice_index p v) c (slice_index ws v) ≡ weight_in ws p c + weight_if b c (slice_index ws v)
+pub weight_in-set : (ws p : List ℕ) (v b c : ℕ) → v < length ws → v < length p → weight_in ws (slice_set p v b) c + weight_if (slice_index p v) c
+    (slice_index ws v) ≡ weight_in ws p c + weight_if b c (slice_index ws v)
 weight_in-set [] p v b c l m = absurd (omega arith)
 weight_in-set (w ∷ ws) [] v b c l m = absurd (omega arith)
 weight_in-set (w ∷ ws) (x ∷ p) zero b c l m = omega arith
 weight_in-set (w ∷ ws) (x ∷ p) (suc v) b c l m = let e = weight_in-set ws p v b c (omega arith) (omega arith) in omega arith
 
 -- the new block gains the weight, the old one loses it, the others stay
-pub weight_in-set_new : (ws p : List ℕ) (v b : ℕ) → v < length ws → v < length p → b ≢ slice_index p v → weight_in ws (slice_set p v b) b ≡ weight_in ws p b + slice_index ws v
+pub weight_in-set_new : (ws p : List ℕ) (v b : ℕ) → v < length ws → v < length p → b ≢ slice_index p v → weight_in ws (slice_set p v b) b ≡ weight_in ws p
+    b +
+    slice_index ws v
 weight_in-set_new ws p v b l m q =
     let e = weight_in-set ws p v b b l m in
     let x = weight_if-other (slice_index p v) b (slice_index ws v) (λ r. q (sym r)) in
     let y = weight_if-same b b (slice_index ws v) refl in
     omega arith
 
-pub weight_in-set_old : (ws p : List ℕ) (v b a : ℕ) → v < length ws → v < length p → a ≡ slice_index p v → b ≢ a → weight_in ws (slice_set p v b) a + slice_index ws v ≡ weight_in ws p a
+pub weight_in-set_old : (ws p : List ℕ) (v b a : ℕ) → v < length ws → v < length p → a ≡ slice_index p v → b ≢ a → weight_in ws (slice_set p v b) a +
+    slice_index ws v ≡ weight_in ws p a
 weight_in-set_old ws p v b a l m r q =
     let e = weight_in-set ws p v b a l m in
     let x = weight_if-same (slice_index p v) a (slice_index ws v) (sym r) in
     let y = weight_if-other b a (slice_index ws v) q in
     omega arith
 
-pub weight_in-set_other : (ws p : List ℕ) (v b c : ℕ) → v < length ws → v < length p → c ≢ slice_index p v → c ≢ b → weight_in ws (slice_set p v b) c ≡ weight_in ws p c
+pub weight_in-set_other : (ws p : List ℕ) (v b c : ℕ) → v < length ws → v < length p → c ≢ slice_index p v → c ≢ b → weight_in ws (slice_set p v b) c ≡
+    weight_in ws p c
 weight_in-set_other ws p v b c l m q r =
     let e = weight_in-set ws p v b c l m in
     let x = weight_if-other (slice_index p v) c (slice_index ws v) (λ s. q (sym s)) in
@@ -369,13 +379,15 @@ weight_in_push [] (y ∷ p) w x b e = absurd (omega arith)
 weight_in_push (v ∷ ws) [] w x b e = absurd (omega arith)
 weight_in_push (v ∷ ws) (y ∷ p) w x b e = let r = weight_in_push ws p w x b (omega arith) in omega arith
 
-weight_in-take_suc : (ws p : List ℕ) (v b : ℕ) → v < length ws → v < length p → weight_in (take (suc v) ws) (take (suc v) p) b ≡ weight_in (take v ws) (take v p) b + weight_if (slice_index p v) b (slice_index ws v)
+weight_in-take_suc : (ws p : List ℕ) (v b : ℕ) → v < length ws → v < length p → weight_in (take (suc v) ws) (take (suc v) p) b ≡ weight_in (take v ws)
+    (take v p) b + weight_if (slice_index p v) b (slice_index ws v)
 weight_in-take_suc [] p v b l m = absurd (omega arith)
 weight_in-take_suc (w ∷ ws) [] v b l m = absurd (omega arith)
 weight_in-take_suc (w ∷ ws) (x ∷ p) zero b l m = omega arith
 weight_in-take_suc (w ∷ ws) (x ∷ p) (suc v) b l m = let e = weight_in-take_suc ws p v b (omega arith) (omega arith) in omega arith
 
-pub weight_in-take_more : (ws p : List ℕ) (v b : ℕ) → v < length ws → v < length p → weight_in (take (v + 1) ws) (take (v + 1) p) b ≡ weight_in (take v ws) (take v p) b + weight_if (slice_index p v) b (slice_index ws v)
+pub weight_in-take_more : (ws p : List ℕ) (v b : ℕ) → v < length ws → v < length p → weight_in (take (v + 1) ws) (take (v + 1) p) b ≡ weight_in (take v ws)
+    (take v p) b + weight_if (slice_index p v) b (slice_index ws v)
 weight_in-take_more ws p v b l m = rw add-one (weight_in-take_suc ws p v b l m)
 
 -- the loads of all blocks are the whole weight
@@ -394,7 +406,9 @@ weight_in-le (w ∷ ws) [] b = omega arith
 weight_in-le (w ∷ ws) (x ∷ p) b = let e = weight_in-le ws p b in let a = weight_if-le x b w in omega arith
 
 -- a load by the numbers of the vertices
-pub weight_in-by_index : (ws p : List ℕ) (b : ℕ) → length ws ≤ length p → weight_in ws p b ≡ sum_below (λ v. weight_if (slice_index p v) b (slice_index ws v)) (length ws)
+pub weight_in-by_index : (ws p : List ℕ) (b : ℕ) → length ws ≤ length p → weight_in ws p b ≡ sum_below
+    (λ v. weight_if (slice_index p v) b (slice_index ws v))
+    (length ws)
 weight_in-by_index [] p b l = refl
 weight_in-by_index (w ∷ ws) [] b l = absurd (omega arith)
 weight_in-by_index (w ∷ ws) (x ∷ p) b l =
@@ -420,7 +434,9 @@ weight_in-blocks-le (w ∷ ws) (x ∷ p) k =
     let a = sum_below-add (λ b. weight_if x b w) (weight_in ws p) k in
     by (cases_lt x k) e a
   where
-    by : (x < k) ⊎ (k ≤ x) → sum_below (weight_in ws p) k ≤ total (λ w. w) ws → sum_below (weight_in (w ∷ ws) (x ∷ p)) k ≡ sum_below (λ b. weight_if x b w) k + sum_below (weight_in ws p) k → sum_below (weight_in (w ∷ ws) (x ∷ p)) k ≤ w + total (λ w. w) ws
+    by : (x < k) ⊎ (k ≤ x) → sum_below (weight_in ws p) k ≤ total (λ w. w) ws → sum_below (weight_in (w ∷ ws) (x ∷ p)) k ≡ sum_below (λ b. weight_if x b w)
+        k +
+        sum_below (weight_in ws p) k → sum_below (weight_in (w ∷ ws) (x ∷ p)) k ≤ w + total (λ w. w) ws
     by (inl l) e a = let s = sum_below-weight_if x w k l in omega arith
     by (inr l) e a = let s = sum_below-zero (λ b. weight_if x b w) k (λ b m. weight_if-other x b w (λ q. absurd (omega arith))) in omega arith
 
@@ -440,10 +456,12 @@ sum_below-le_more f m n l =
 -- ---- sums by groups
 
 -- the sums of the groups are the whole sum
-pub total-groups : {A : Type 0} (f key : A → ℕ) (n : ℕ) (xs : List A) → All (λ x. key x < n) xs → sum_below (λ i. total (λ x. weight_if (key x) i (f x)) xs) n ≡ total f xs
+pub total-groups : {A : Type 0} (f key : A → ℕ) (n : ℕ) (xs : List A) → All (λ x. key x < n) xs → sum_below (λ i. total (λ x. weight_if (key x) i (f x)) xs)
+    n ≡ total f xs
 total-groups f key n xs h =
     sum_below-total (λ i x. weight_if (key x) i (f x)) n xs
-    ∙ total-same (λ x. sum_below (λ i. weight_if (key x) i (f x)) n) f xs (λ k d l. sum_below-weight_if (key (get_or xs k d)) (f (get_or xs k d)) n (h k d l))
+    ∙ total-same (λ x. sum_below (λ i. weight_if (key x) i (f x)) n) f xs (λ k d l. sum_below-weight_if (key (get_or xs k d)) (f (get_or xs k d)) n
+    (h k d l))
 
 -- ---- more on signed sums
 
@@ -477,14 +495,16 @@ total_z-le f g (x ∷ xs) h =
     omega (arith, ints)
 
 -- where the test fails nothing is added
-pub total_z-filter : {A : Type 0} (f : A → ℤ) (test : A → Bool) (xs : List A) → All (λ x. test x ≡ false → f x ≡ pos 0) xs → total_z f (filter test xs) ≡ total_z f xs
+pub total_z-filter : {A : Type 0} (f : A → ℤ) (test : A → Bool) (xs : List A) → All (λ x. test x ≡ false → f x ≡ pos 0) xs →
+    total_z f (filter test xs) ≡ total_z f xs
 total_z-filter f test [] h = refl
 total_z-filter f test (x ∷ xs) h = by (test x) refl (total_z-filter f test xs (All-tail (λ y. test y ≡ false → f y ≡ pos 0) x xs h))
   where
     nothing : (y z w : ℤ) → y ≡ pos 0 → z ≡ w → z ≡ y +ℤ w
     nothing y z w e g = omega (arith, ints)
 
-    by : (b : Bool) → test x ≡ b → total_z f (filter test xs) ≡ total_z f xs → total_z f (cond b (x ∷ filter test xs) (filter test xs)) ≡ f x +ℤ total_z f xs
+    by : (b : Bool) → test x ≡ b → total_z f (filter test xs) ≡ total_z f xs → total_z f (cond b (x ∷ filter test xs) (filter test xs)) ≡ f x +ℤ total_z f
+        xs
     by true e r = ap (λ z. f x +ℤ z) r
     by false e r = nothing (f x) (total_z f (filter test xs)) (total_z f xs) (All-head (λ y. test y ≡ false → f y ≡ pos 0) x xs h e) r
 
@@ -511,15 +531,22 @@ total_z-value_if (suc n) x z a l m = by (cases_eq x a) (total_z-value_if n x z (
     other : (u w : ℤ) → u ≡ pos 0 → w ≡ z → u +ℤ w ≡ z
     other u w e g = omega (arith, ints)
 
-    by : (x ≡ a) ⊎ (x ≡ a → ⊥) → (a + 1 ≤ x → x < a + 1 + n → total_z (λ i. value_if x i z) (range_with_len (a + 1) n) ≡ z) → value_if x a z +ℤ total_z (λ i. value_if x i z) (range_with_len (a + 1) n) ≡ z
-    by (inl e) r = one (value_if x a z) (total_z (λ i. value_if x i z) (range_with_len (a + 1) n)) (ap (λ (t : Bool). if t then z else pos 0) (eq-eqb x a e)) (value_none n x z (a + 1) (omega arith))
-    by (inr q) r = other (value_if x a z) (total_z (λ i. value_if x i z) (range_with_len (a + 1) n)) (ap (λ (t : Bool). if t then z else pos 0) (ne_eqb x a q)) (r (grind arith) (omega arith))
+    by : (x ≡ a) ⊎ (x ≡ a → ⊥) → (a + 1 ≤ x → x < a + 1 + n → total_z (λ i. value_if x i z) (range_with_len (a + 1) n) ≡ z) → value_if x a z +ℤ total_z
+        (λ i. value_if x i z) (range_with_len (a + 1) n) ≡ z
+    by (inl e) r = one (value_if x a z) (total_z (λ i. value_if x i z) (range_with_len (a + 1) n))
+        (ap (λ (t : Bool). if t then z else pos 0) (eq-eqb x a e))
+        (value_none n x z (a + 1) (omega arith))
+    by (inr q) r = other (value_if x a z) (total_z (λ i. value_if x i z) (range_with_len (a + 1) n))
+        (ap (λ (t : Bool). if t then z else pos 0) (ne_eqb x a q))
+        (r (grind arith) (omega arith))
 
-pub total_z-swap : {A B : Type 0} (f : A → B → ℤ) (xs : List A) (ys : List B) → total_z (λ x. total_z (f x) ys) xs ≡ total_z (λ y. total_z (λ x. f x y) xs) ys
+pub total_z-swap : {A B : Type 0} (f : A → B → ℤ) (xs : List A) (ys : List B) → total_z (λ x. total_z (f x) ys) xs ≡ total_z (λ y. total_z (λ x. f x y) xs)
+    ys
 total_z-swap f [] ys = sym (total_z-zero (λ y. pos 0) ys (λ k d l. refl))
 total_z-swap f (x ∷ xs) ys = ap (λ n. total_z (f x) ys +ℤ n) (total_z-swap f xs ys) ∙ sym (total_z-add (f x) (λ y. total_z (λ x. f x y) xs) ys)
 
-pub total_z-groups : {A : Type 0} (f : A → ℤ) (key : A → ℕ) (n : ℕ) (xs : List A) → All (λ x. key x < n) xs → total_z (λ i. total_z (λ x. value_if (key x) i (f x)) xs) (range_with_len 0 n) ≡ total_z f xs
+pub total_z-groups : {A : Type 0} (f : A → ℤ) (key : A → ℕ) (n : ℕ) (xs : List A) → All (λ x. key x < n) xs →
+    total_z (λ i. total_z (λ x. value_if (key x) i (f x)) xs) (range_with_len 0 n) ≡ total_z f xs
 total_z-groups f key n xs h =
     total_z-swap (λ i x. value_if (key x) i (f x)) (range_with_len 0 n) xs
     ∙ total_z-same (λ x. total_z (λ i. value_if (key x) i (f x)) (range_with_len 0 n)) f xs

@@ -1,5 +1,6 @@
 -- The laws of what replayed moves save, keep and leave to be undone.
-use Rattle.std.proofs.Common.{◌≡◌, ◌≢◌, ℕ, zero, suc, ◌+◌, ◌<◌, List, [], ◌∷◌, length, get_or, set, All, AllPairs, ℤ, pos, ◌+ℤ◌, ◌-ℤ◌, refl, sym, ap, subst, ◌∙◌, arith, set-set}
+use Rattle.std.proofs.Common.{◌≡◌, ◌≢◌, ℕ, zero, suc, ◌+◌, ◌<◌, List, [], ◌∷◌, length, get_or, set, All, AllPairs, ℤ}
+use Rattle.std.proofs.Common.{pos, ◌+ℤ◌, ◌-ℤ◌, refl, sym, ap, subst, ◌∙◌, arith, set-set}
 use Rattle.std.specs.List.{range_with_len}
 use Rattle.std.proofs.lemmas.Int.{ints}
 use Rattle.std.proofs.lemmas.List.{set-get_or, set_comm}
@@ -28,7 +29,9 @@ telescope g a (suc n) =
     joined x y z t e = omega (arith, ints)
 
 pub gains_add_up : GainsAddUp
-gains_add_up h p moves i = let e : 0 + i ≡ i = omega arith in subst (λ j. total_z (λ c. pos (cost h (replay_first p moves c)) -ℤ pos (cost h (replay_first p moves (c + 1)))) (range_with_len 0 i) ≡ pos (cost h p) -ℤ pos (cost h (replay_first p moves j))) e (telescope (λ c. cost h (replay_first p moves c)) 0 i)
+gains_add_up h p moves i = let e : 0 + i ≡ i = omega arith in
+    subst (λ j. total_z (λ c. pos (cost h (replay_first p moves c)) -ℤ pos (cost h (replay_first p moves (c + 1)))) (range_with_len 0 i) ≡ pos (cost h p) -ℤ
+    pos (cost h (replay_first p moves j))) e (telescope (λ c. cost h (replay_first p moves c)) 0 i)
 
 pub moves_leave_partition : MovesLeavePartition
 moves_leave_partition h k p moves w low = record { vertices = length-replay p moves ∙ w.vertices; blocks = replay-blocks k p moves w.blocks low }
@@ -69,7 +72,8 @@ moves_are_undone p (m ∷ moves) a l f =
     ap (λ q. undone q moves)
     (set-replay (set p m.vertex m.to) moves m.vertex m.from (apart_first m moves a)
     ∙ ap (λ q. replay q moves) (over_again p m.vertex m.to m.from (All-head (λ n. n.from ≡ get_or p n.vertex 0) m moves f)))
-    ∙ moves_are_undone p moves (apart_rest m moves a) (All-tail (λ n. n.vertex < length p) m moves l) (All-tail (λ n. n.from ≡ get_or p n.vertex 0) m moves f)
+    ∙ moves_are_undone p moves (apart_rest m moves a) (All-tail (λ n. n.vertex < length p) m moves l) (All-tail (λ n. n.from ≡ get_or p n.vertex 0) m moves
+    f)
 
 pub moves_are_redone : MovesAreRedone
 moves_are_redone p [] a l f = refl

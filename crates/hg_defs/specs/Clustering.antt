@@ -1,5 +1,6 @@
 -- Clusterings: maps whose clusters are light enough, and those to which no pair of single vertices can be added.
-use Rattle.std.specs.Prelude.{◌≡◌, ◌≢◌, ℕ, suc, ◌+◌, ◌-◌, ◌*◌, ◌<◌, ◌≤◌, List, [], ◌∷◌, length, All, Contains, max, slice_index, Bool, not, ◌&&◌, ◌||◌, nat_eq, nat_le}
+use Rattle.std.specs.Prelude.{◌≡◌, ◌≢◌, ℕ, suc, ◌+◌, ◌-◌, ◌*◌, ◌<◌, ◌≤◌, List, [], ◌∷◌, length, All, Contains}
+use Rattle.std.specs.Prelude.{max, slice_index, Bool, not, ◌&&◌, ◌||◌, nat_eq, nat_le}
 use Rattle.std.specs.List.{list_all}
 use Rattle.hg_defs.specs.Hypergraph.{Net, Hyper, vertex_count, vertices, weight_of, is_free, IsFree}
 use Rattle.hg_defs.specs.Partition.{block_of, weight_in, divided_up}

@@ -1,5 +1,6 @@
 -- Placement into the least loaded block, and greedy placement, which takes the heaviest vertices first.
-use Rattle.std.specs.Prelude.{ℕ, suc, ◌+◌, List, [], ◌∷◌, ◌++◌, map, not, filter, replicate, slice_index, slice_set, nat_le, if◌then◌else◌, Option, Some, None}
+use Rattle.std.specs.Prelude.{ℕ, suc, ◌+◌, List, [], ◌∷◌, ◌++◌, map, not, filter, replicate, slice_index}
+use Rattle.std.specs.Prelude.{slice_set, nat_le, if◌then◌else◌, Option, Some, None}
 use Rattle.std.specs.List.{list_all}
 use Rattle.std.specs.declared.cmp.Ordering.{Ordering}
 use Rattle.std.specs.Ordering.{nat_cmp, ordering_then}

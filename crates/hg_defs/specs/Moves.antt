@@ -1,5 +1,6 @@
 -- Single moves: which are allowed, what they gain, where none helps, and a sweep over all vertices.
-use Rattle.std.specs.Prelude.{◌≢◌, ℕ, zero, suc, ◌+◌, ◌<◌, ◌≤◌, List, [], ◌∷◌, ◌++◌, ℤ, pos, ◌-ℤ◌, slice_set, Bool, not, ◌&&◌, nat_eq, nat_lt, nat_le, if◌then◌else◌, Option, Some, None, option_map, option_to_list}
+use Rattle.std.specs.Prelude.{◌≢◌, ℕ, zero, suc, ◌+◌, ◌<◌, ◌≤◌, List, [], ◌∷◌, ◌++◌, ℤ, pos, ◌-ℤ◌, slice_set, Bool, not, ◌&&◌, nat_eq}
+use Rattle.std.specs.Prelude.{nat_lt, nat_le, if◌then◌else◌, Option, Some, None, option_map, option_to_list}
 use Rattle.hg_defs.specs.declared.moves.Move.{Move}
 use Rattle.hg_defs.specs.Hypergraph.{Hyper, vertex_count, vertices, weight_of, is_free, IsFree}
 use Rattle.hg_defs.specs.Partition.{block_of, load}

@@ -1,5 +1,6 @@
 -- What least loaded placement means, said without its loop, and the laws that tie the two.
-use Rattle.std.specs.Prelude.{◌≡◌, ◌≢◌, ◌⊎◌, ℕ, ◌+◌, ◌<◌, ◌≤◌, List, length, take, filter, slice_index, AllPairs, IsPermutation, if◌then◌else◌, nat_eq, Some, None}
+use Rattle.std.specs.Prelude.{◌≡◌, ◌≢◌, ◌⊎◌, ℕ, ◌+◌, ◌<◌, ◌≤◌, List, length, take, filter, slice_index}
+use Rattle.std.specs.Prelude.{AllPairs, IsPermutation, if◌then◌else◌, nat_eq, Some, None}
 use Rattle.hg_defs.specs.declared.objective.TheConstants.{FREE}
 use Rattle.hg_defs.specs.Sums.{total}
 use Rattle.hg_defs.specs.Hypergraph.{Hyper, IsHypergraph, IsFixedWithin, vertex_count, vertices, weight_of, fix_of, is_free, IsFree}

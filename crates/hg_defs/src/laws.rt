@@ -1,15 +1,47 @@
 //! The laws over the definitions. Each is the contract of a function that does nothing.
 
-ghost use Rattle.hg_defs.specs.PlacementLaws.{AllWeightsArePlaced, GreedyDoesNotFit, GreedyFits, GreedyIsPartition, GreedyObeys, HeaviestFirstListsFree, HeaviestGoFirst, LeastIsFirstLeast, LeastLoadedIsInTurn, LeastLoadedIsPartition, LeastLoadedObeys, LoadsAreKept, NoneOverfillsWhereItFits, OneOverfillsWhereItDoesNotFit, OnlyLeastLoadedIsInTurn, OverfillingIsFirst};
-ghost use Rattle.hg_defs.specs.ContractionLaws.{ContractionIsHypergraph, ContractionKeepsCost, ContractionKeepsLimits, ContractionKeepsLoads, ContractionKeepsWeight, FittingIsLifted, FittingIsProjected, FixesAreLifted, FixesAreProjected, FixesStayWithin, PartitionIsLifted, PartitionIsProjected};
-ghost use Rattle.hg_defs.specs.MoveLaws.{AllowedMoveFits, AllowedMoveIsPartition, AllowedMoveObeys, AllowedMovesArePartition, AllowedMovesFit, AllowedMovesObey, BestBlockIsBest, ConnectivityCountsBlocks, EmptySweepIsSettled, GainIsLocal, MoveKeepsOtherLoads, MoveLowersLoad, MoveRaisesLoad, NoBestBlockGainsNothing, OnlyBestBlockIsBest, SettledSweepIsEmpty, SweepIsAllowed, SweepLowersCost, SweepMakesBestMoves, SweepRises, SweepSavesWhatItBooks};
-ghost use Rattle.hg_defs.specs.ReplayLaws.{BestPrefixIsBest, FittingIsTested, FreeMovesLeaveFixes, GainsAddUp, MovesAreRedone, MovesAreUndone, MovesLeavePartition, OnlyBestPrefixIsBest};
+ghost use Rattle.hg_defs.specs.PlacementLaws.{AllWeightsArePlaced, GreedyDoesNotFit, GreedyFits, GreedyIsPartition};
+ghost use Rattle.hg_defs.specs.PlacementLaws.{GreedyObeys, HeaviestFirstListsFree};
+ghost use Rattle.hg_defs.specs.PlacementLaws.{HeaviestGoFirst, LeastIsFirstLeast};
+ghost use Rattle.hg_defs.specs.PlacementLaws.{LeastLoadedIsInTurn, LeastLoadedIsPartition, LeastLoadedObeys};
+ghost use Rattle.hg_defs.specs.PlacementLaws.{LoadsAreKept, NoneOverfillsWhereItFits, OneOverfillsWhereItDoesNotFit};
+ghost use Rattle.hg_defs.specs.PlacementLaws.{OnlyLeastLoadedIsInTurn, OverfillingIsFirst};
+ghost use Rattle.hg_defs.specs.ContractionLaws.{ContractionIsHypergraph, ContractionKeepsCost};
+ghost use Rattle.hg_defs.specs.ContractionLaws.{ContractionKeepsLimits};
+ghost use Rattle.hg_defs.specs.ContractionLaws.{ContractionKeepsLoads, ContractionKeepsWeight, FittingIsLifted};
+ghost use Rattle.hg_defs.specs.ContractionLaws.{FittingIsProjected, FixesAreLifted};
+ghost use Rattle.hg_defs.specs.ContractionLaws.{FixesAreProjected, FixesStayWithin};
+ghost use Rattle.hg_defs.specs.ContractionLaws.{PartitionIsLifted, PartitionIsProjected};
+ghost use Rattle.hg_defs.specs.MoveLaws.{AllowedMoveFits, AllowedMoveIsPartition, AllowedMoveObeys};
+ghost use Rattle.hg_defs.specs.MoveLaws.{AllowedMovesArePartition, AllowedMovesFit};
+ghost use Rattle.hg_defs.specs.MoveLaws.{AllowedMovesObey, BestBlockIsBest};
+ghost use Rattle.hg_defs.specs.MoveLaws.{ConnectivityCountsBlocks, EmptySweepIsSettled, GainIsLocal};
+ghost use Rattle.hg_defs.specs.MoveLaws.{MoveKeepsOtherLoads, MoveLowersLoad, MoveRaisesLoad};
+ghost use Rattle.hg_defs.specs.MoveLaws.{NoBestBlockGainsNothing};
+ghost use Rattle.hg_defs.specs.MoveLaws.{OnlyBestBlockIsBest, SettledSweepIsEmpty, SweepIsAllowed, SweepLowersCost};
+ghost use Rattle.hg_defs.specs.MoveLaws.{SweepMakesBestMoves, SweepRises, SweepSavesWhatItBooks};
+ghost use Rattle.hg_defs.specs.ReplayLaws.{BestPrefixIsBest, FittingIsTested, FreeMovesLeaveFixes, GainsAddUp};
+ghost use Rattle.hg_defs.specs.ReplayLaws.{MovesAreRedone, MovesAreUndone, MovesLeavePartition, OnlyBestPrefixIsBest};
 ghost use Rattle.hg_defs.specs.SetLaws.{OnlySetHasMembers, SetHasMembers, SetRises};
-ghost use Rattle.hg_defs.specs.NetLaws.{ImageHasClusters, ImageRises, ImagesAreNets, NetsAreImages, NetsRise, NetsWeighTogether};
-ghost use Rattle.hg_defs.specs.NamedLaws.{CheapestIsFirst, NamedArePartitions, NamedObey, NoneIsCheapestWhereNoneFits, OneFitsWhereGreedyDoes, OnlyCheapestIsFirst};
-ghost use Rattle.hg_defs.specs.PairingLaws.{AloneIsRooted, NumberCountsRoots, NumberingKeepsSingles, NumberingKeepsTogether, NumbersAreAsMany, NumbersAreClustering, NumbersRise, NumbersTellRoots, PairedInsideIsInside, PairedIsClustering, PairedIsMaximal, PairingInsideIsMaximal, PairingInsideIsRooted, PairingInsideJoinsSingles, PairingInsideKeepsBlocks, PairingIsMaximal, PairingIsRooted, PairingJoinsSingles, SplitIsRooted, SplitKeepsBlocks};
-ghost use Rattle.hg_defs.specs.SynchronousLaws.{SettledSyncIsSame, SettledSyncMovesNothing, SyncLeavesFixes, SyncLeavesPartition, SyncMovesAreAllowed, SyncMovesAreBooked, SyncMovesAreOfDistinct, SyncMovesAreWishes, SyncMovesComeFrom, SyncMovesSaveWhatTheyBook, SyncRaisesNoCost, SyncStaysWithinLimit, UnsettledSyncLowersCost, UnsettledSyncMoves, WishesAreBestMoves, WishesComeBySaving};
-ghost use Rattle.hg_defs.specs.LevelLaws.{LevelIsAdded, LevelIsContraction, LevelsAreListed, LevelsAreOneMore, LevelsStay, LiftedFollows, LiftedIsProjected, LiftedIsProjectedBack, OnlyLiftedIsProjected, ProjectionKeepsCost};
+ghost use Rattle.hg_defs.specs.NetLaws.{ImageHasClusters, ImageRises, ImagesAreNets};
+ghost use Rattle.hg_defs.specs.NetLaws.{NetsAreImages, NetsRise, NetsWeighTogether};
+ghost use Rattle.hg_defs.specs.NamedLaws.{CheapestIsFirst, NamedArePartitions, NamedObey};
+ghost use Rattle.hg_defs.specs.NamedLaws.{NoneIsCheapestWhereNoneFits, OneFitsWhereGreedyDoes, OnlyCheapestIsFirst};
+ghost use Rattle.hg_defs.specs.PairingLaws.{AloneIsRooted, NumberCountsRoots, NumberingKeepsSingles};
+ghost use Rattle.hg_defs.specs.PairingLaws.{NumberingKeepsTogether, NumbersAreAsMany, NumbersAreClustering};
+ghost use Rattle.hg_defs.specs.PairingLaws.{NumbersRise, NumbersTellRoots, PairedInsideIsInside, PairedIsClustering};
+ghost use Rattle.hg_defs.specs.PairingLaws.{PairedIsMaximal, PairingInsideIsMaximal, PairingInsideIsRooted};
+ghost use Rattle.hg_defs.specs.PairingLaws.{PairingInsideJoinsSingles, PairingInsideKeepsBlocks, PairingIsMaximal};
+ghost use Rattle.hg_defs.specs.PairingLaws.{PairingIsRooted, PairingJoinsSingles, SplitIsRooted, SplitKeepsBlocks};
+ghost use Rattle.hg_defs.specs.SynchronousLaws.{SettledSyncIsSame, SettledSyncMovesNothing, SyncLeavesFixes};
+ghost use Rattle.hg_defs.specs.SynchronousLaws.{SyncLeavesPartition, SyncMovesAreAllowed, SyncMovesAreBooked};
+ghost use Rattle.hg_defs.specs.SynchronousLaws.{SyncMovesAreOfDistinct, SyncMovesAreWishes, SyncMovesComeFrom};
+ghost use Rattle.hg_defs.specs.SynchronousLaws.{SyncMovesSaveWhatTheyBook, SyncRaisesNoCost, SyncStaysWithinLimit};
+ghost use Rattle.hg_defs.specs.SynchronousLaws.{UnsettledSyncLowersCost, UnsettledSyncMoves, WishesAreBestMoves};
+ghost use Rattle.hg_defs.specs.SynchronousLaws.{WishesComeBySaving};
+ghost use Rattle.hg_defs.specs.LevelLaws.{LevelIsAdded, LevelIsContraction, LevelsAreListed, LevelsAreOneMore};
+ghost use Rattle.hg_defs.specs.LevelLaws.{LevelsStay, LiftedFollows, LiftedIsProjected, LiftedIsProjectedBack};
+ghost use Rattle.hg_defs.specs.LevelLaws.{OnlyLiftedIsProjected, ProjectionKeepsCost};
 
 /// Least loaded placement gives each vertex a block and obeys the fixes. It places the vertices in
 /// turn, each free one into the block of least load so far, and nothing else does.

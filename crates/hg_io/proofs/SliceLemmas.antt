@@ -1,5 +1,6 @@
 -- Slices that are moved from a list to the front of another.
-use Rattle.std.proofs.Common.{◌≡◌, ◌≤◌, ◌++◌, length, take, drop, ℕ, ◌+◌, ◌-◌, List, arith, sym, ap, ◌∙◌, length-take, length-drop, take_at, take-append-drop}
+use Rattle.std.proofs.Common.{◌≡◌, ◌≤◌, ◌++◌, length, take, drop, ℕ, ◌+◌, ◌-◌, List, arith, sym, ap, ◌∙◌}
+use Rattle.std.proofs.Common.{length-take, length-drop, take_at, take-append-drop}
 use Rattle.std.proofs.lemmas.List.{drop-drop}
 
 -- the n elements from `at` on are n long

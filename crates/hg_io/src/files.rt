@@ -27,7 +27,12 @@ impl<H: Files + Drop> Model for FileSource<H> {
 
     ghost Value = { Filed };
 
-    ghost view = { λ source. record { name = source.name; opened = is_some source.file; faults = source.faults; held = false } };
+    ghost view = { λ source. record {
+      name = source.name;
+      opened = is_some source.file;
+      faults = source.faults;
+      held = false;
+    } };
 }
 
 impl<H: Files + Drop> FileSource<H> {
@@ -97,7 +102,12 @@ impl<H: Files + Drop> Model for FileSink<H> {
 
     ghost Value = { Filed };
 
-    ghost view = { λ sink. record { name = sink.name; opened = is_some sink.file; faults = sink.faults; held = sink.held } };
+    ghost view = { λ sink. record {
+      name = sink.name;
+      opened = is_some sink.file;
+      faults = sink.faults;
+      held = sink.held;
+    } };
 }
 
 impl<H: Files + Drop> FileSink<H> {

@@ -1,5 +1,6 @@
 -- A hypergraph file that was written is read back.
-use Rattle.std.proofs.Common.{◌≡◌, ℕ, suc, ◌+◌, ◌^◌, ◌<◌, ◌≤◌, Bool, true, false, not, ◌||◌, eqb, List, [], ◌∷◌, ◌++◌, length, map, take, drop, All, refl, sym, ap, ap₂, ◌∙◌, subst, arith, lit<}
+use Rattle.std.proofs.Common.{◌≡◌, ℕ, suc, ◌+◌, ◌^◌, ◌<◌, ◌≤◌, Bool, true, false, not, ◌||◌, eqb, List, [], ◌∷◌, ◌++◌}
+use Rattle.std.proofs.Common.{length, map, take, drop, All, refl, sym, ap, ap₂, ◌∙◌, subst, arith, lit<}
 use Rattle.std.proofs.lemmas.Bool.Decides.{nat_tests}
 use Rattle.std.proofs.lemmas.List.{length-map, ext_get_or, get_or-replicate, length-replicate, length-append, take_all}
 use Rattle.std.proofs.lemmas.List.Elements.{All-head, All-tail, All-cons, All-nil, All-map}
@@ -23,11 +24,13 @@ use Rattle.hg_make.proofs.GraphLemmas.{first, guarded-true, le-true, header-read
 
 -- ---- lists of lines
 
-kept-append : (start : ℕ) (xs ys : List (List ℕ)) → map numbers_kept (enumerate_from start (xs ++ ys)) ≡ map numbers_kept (enumerate_from start xs) ++ map numbers_kept (enumerate_from (start + length xs) ys)
+kept-append : (start : ℕ) (xs ys : List (List ℕ)) → map numbers_kept (enumerate_from start (xs ++ ys)) ≡ map numbers_kept (enumerate_from start xs) ++ map
+    numbers_kept (enumerate_from (start + length xs) ys)
 kept-append start [] ys = ap (λ n. map numbers_kept (enumerate_from n ys)) (omega arith)
 kept-append start (x ∷ xs) ys =
     let next : start + 1 + length xs ≡ start + suc (length xs) = omega arith in
-    ap (λ (ls : List Line). numbers_kept (start, x) ∷ ls) (kept-append (start + 1) xs ys ∙ ap (λ n. map numbers_kept (enumerate_from (start + 1) xs) ++ map numbers_kept (enumerate_from n ys)) next)
+    ap (λ (ls : List Line). numbers_kept (start, x) ∷ ls) (kept-append (start + 1) xs ys ∙
+    ap (λ n. map numbers_kept (enumerate_from (start + 1) xs) ++ map numbers_kept (enumerate_from n ys)) next)
 
 length-kept : (start : ℕ) (xs : List (List ℕ)) → length (map numbers_kept (enumerate_from start xs)) ≡ length xs
 length-kept start xs = length-map (enumerate_from start xs) numbers_kept ∙ length-enumerate_from start xs
@@ -59,28 +62,36 @@ weight-one e h = grind (arith, nat_tests)
 pins-some : (e : Net) → needs_weight e ≡ false → 0 < length e.pins
 pins-some e h = grind (arith, nat_tests)
 
-readable : (weighted : Bool) (n before : ℕ) (nets : List Net) → All (IsNetWritable weighted n) nets → before + total (λ e. length e.pins) nets ≤ 2 ^ 25 → AreReadable weighted n before nets
+readable : (weighted : Bool) (n before : ℕ) (nets : List Net) → All (IsNetWritable weighted n) nets → before + total (λ e. length e.pins) nets ≤ 2 ^ 25 →
+    AreReadable weighted n before nets
 readable weighted n before [] are room = tt
 readable weighted n before (e ∷ nets) are room =
-    let is = All-head (IsNetWritable weighted n) e nets are in
-    (record { rising = is.net.rising; below = is.net.pins; small = is.small; one = λ h. weight-one e (is.one h) }, omega arith, readable weighted n (before + length e.pins) nets (All-tail (IsNetWritable weighted n) e nets are) (omega arith))
+    let is = All-head (IsNetWritable weighted n) e nets are in (
+      record { rising = is.net.rising; below = is.net.pins; small = is.small; one = λ h. weight-one e (is.one h) },
+      omega arith,
+      readable weighted n (before + length e.pins) nets (All-tail (IsNetWritable weighted n) e nets are) (omega arith),
+    )
 
 pins-small : (n : ℕ) (pins : List ℕ) → n ≤ 2 ^ 22 → All (λ v. v < n) pins → All (λ m. m < 2 ^ 64) (map (λ v. v + 1) pins)
 pins-small n pins few below =
     All-map (λ m. m < 2 ^ 64) (λ v. v + 1) pins (λ k d h. let low = below k d h in omega arith)
 
-line-pins : (n : ℕ) (pins : List ℕ) (ls : List (List ℕ)) → n ≤ 2 ^ 22 → All (λ v. v < n) pins → 0 < length pins → AreLines ls → AreLines (map (λ v. v + 1) pins ∷ ls)
+line-pins : (n : ℕ) (pins : List ℕ) (ls : List (List ℕ)) → n ≤ 2 ^ 22 → All (λ v. v < n) pins → 0 < length pins → AreLines ls →
+    AreLines (map (λ v. v + 1) pins ∷ ls)
 line-pins n [] ls few below some are = absurd (omega arith)
 line-pins n (v ∷ pins) ls few below some are = (pins-small n (v ∷ pins) few below, are)
 
 net-lines : (weighted : Bool) (n : ℕ) (nets : List Net) → n ≤ 2 ^ 22 → All (IsNetWritable weighted n) nets → AreLines (map (net_numbers weighted) nets)
 net-lines weighted n [] few are = tt
 net-lines true n (e ∷ nets) few are =
-    let is = All-head (IsNetWritable true n) e nets are in
-    (All-cons (λ m. m < 2 ^ 64) e.weight (map (λ v. v + 1) e.pins) (let small = is.small in omega arith) (pins-small n e.pins few is.net.pins), net-lines true n nets few (All-tail (IsNetWritable true n) e nets are))
+    let is = All-head (IsNetWritable true n) e nets are in (
+      All-cons (λ m. m < 2 ^ 64) e.weight (map (λ v. v + 1) e.pins) (let small = is.small in omega arith) (pins-small n e.pins few is.net.pins),
+      net-lines true n nets few (All-tail (IsNetWritable true n) e nets are),
+    )
 net-lines false n (e ∷ nets) few are =
     let is = All-head (IsNetWritable false n) e nets are in
-    line-pins n e.pins (map (net_numbers false) nets) few is.net.pins (pins-some e (is.one refl)) (net-lines false n nets few (All-tail (IsNetWritable false n) e nets are))
+    line-pins n e.pins (map (net_numbers false) nets) few is.net.pins (pins-some e (is.one refl))
+    (net-lines false n nets few (All-tail (IsNetWritable false n) e nets are))
 
 -- ---- the weights of vertices
 
@@ -90,8 +101,10 @@ weight_lines weighted ws = if weighted then map (λ w. w ∷ []) ws else []
 weights-lines : (weighted : Bool) (ws : List ℕ) → All (λ w. w < 2 ^ 32) ws → AreLines (weight_lines weighted ws)
 weights-lines false ws small = tt
 weights-lines true [] small = tt
-weights-lines true (w ∷ ws) small =
-    (All-cons (λ m. m < 2 ^ 64) w [] (let h = All-head (λ w. w < 2 ^ 32) w ws small in omega arith) (All-nil (λ m. m < 2 ^ 64)), weights-lines true ws (All-tail (λ w. w < 2 ^ 32) w ws small))
+weights-lines true (w ∷ ws) small = (
+  All-cons (λ m. m < 2 ^ 64) w [] (let h = All-head (λ w. w < 2 ^ 32) w ws small in omega arith) (All-nil (λ m. m < 2 ^ 64)),
+  weights-lines true ws (All-tail (λ w. w < 2 ^ 32) w ws small),
+)
 
 is-one : (w : ℕ) → not (eqb w 1) ≡ false → w ≡ 1
 is-one w h = grind (arith, nat_tests)
@@ -103,7 +116,8 @@ all_ones (w ∷ ws) h =
 
 -- ---- the body
 
-first-read : {A : Type 0} (count : ℕ) (read : List Line → Read A) (text : Reading) (value : A) → read (take count text.kept) ≡ Ok value → count ≤ length text.kept → first_in count read text ≡ Ok value
+first-read : {A : Type 0} (count : ℕ) (read : List Line → Read A) (text : Reading) (value : A) → read (take count text.kept) ≡ Ok value →
+    count ≤ length text.kept → first_in count read text ≡ Ok value
 first-read count read text value is enough =
     first (read (take count text.kept)) (λ v. guarded (nat_le count (length text.kept)) (Bad (text.count + 1) MissingLine) v) value is
     ∙ guarded-true (nat_le count (length text.kept)) (Bad (text.count + 1) MissingLine) value (le-true count (length text.kept) enough)
@@ -115,29 +129,54 @@ made_of n nets ws = record { weights = ws; nets = nets; objective = Connectivity
 -- the part of the body behind the nets
 abbrev tail_in : ℕ → ℕ → Bool → Bool → ℕ → List Net → List Line → Read Hyper
 tail_in m n net_weights vertex_weights count nets rest =
-    weights_in (record { nets = m; vertices = n; net_weights = net_weights; vertex_weights = vertex_weights }) (record { kept = rest; count = count }) >>= (λ ws. ended (read_on (vertex_lines (record { nets = m; vertices = n; net_weights = net_weights; vertex_weights = vertex_weights })) (record { kept = rest; count = count })).kept (made_of n nets ws))
+    weights_in (record { nets = m; vertices = n; net_weights = net_weights; vertex_weights = vertex_weights }) (record { kept = rest; count = count }) >>=
+    (λ ws. ended (read_on (vertex_lines (record { nets = m; vertices = n; net_weights = net_weights; vertex_weights = vertex_weights }))
+    (record { kept = rest; count = count })).kept (made_of n nets ws))
 
-tail-read : (m count start : ℕ) (net_weights vertex_weights : Bool) (nets : List Net) (ws : List ℕ) → All (λ w. w < 2 ^ 32) ws → (vertex_weights ≡ false → All (λ w. not (eqb w 1) ≡ false) ws) → tail_in m (length ws) net_weights vertex_weights count nets (map numbers_kept (enumerate_from start (weight_lines vertex_weights ws))) ≡ Ok (made_of (length ws) nets ws)
+tail-read : (m count start : ℕ) (net_weights vertex_weights : Bool) (nets : List Net) (ws : List ℕ) → All (λ w. w < 2 ^ 32) ws →
+    (vertex_weights ≡ false → All (λ w. not (eqb w 1) ≡ false) ws) → tail_in m (length ws) net_weights vertex_weights count nets
+    (map numbers_kept (enumerate_from start (weight_lines vertex_weights ws))) ≡ Ok (made_of (length ws) nets ws)
 tail-read m count start net_weights true nets ws small ones =
     let kept = map numbers_kept (enumerate_from start (map (λ w. w ∷ []) ws)) in
     let all : length kept ≡ length ws = length-kept start (map (λ w. w ∷ []) ws) ∙ length-map ws (λ w. w ∷ []) in
-    let read : each vertex_in (take (length ws) kept) ≡ Ok ws = ap (each vertex_in) (take_all (length ws) kept (omega arith)) ∙ weights-read start ws small in
+    let read : each vertex_in (take (length ws) kept) ≡ Ok ws = ap (each vertex_in) (take_all (length ws) kept (omega arith)) ∙
+    weights-read start ws small in
     let none : drop (length ws) kept ≡ [] = ap (λ n. drop n kept) (sym all) ∙ drop-length kept in
-    first (first_in (length ws) (each vertex_in) (record { kept = kept; count = count })) (λ vs. ended (drop (length ws) kept) (made_of (length ws) nets vs)) ws (first-read (length ws) (each vertex_in) (record { kept = kept; count = count }) ws read (omega arith))
+    first (first_in (length ws) (each vertex_in) (record { kept = kept; count = count }))
+    (λ vs. ended (drop (length ws) kept) (made_of (length ws) nets vs))
+    ws (first-read (length ws) (each vertex_in) (record { kept = kept; count = count }) ws read (omega arith))
     ∙ ap (λ (ls : List Line). ended ls (made_of (length ws) nets ws)) none
 tail-read m count start net_weights false nets ws small ones =
     ap (λ (vs : List ℕ). Ok (made_of (length ws) nets vs)) (all_ones ws (ones refl))
 
-body-read : (count start : ℕ) (net_weights vertex_weights : Bool) (nets : List Net) (ws : List ℕ) → length ws ≤ 2 ^ 22 → AreReadable net_weights (length ws) 0 nets → All (λ w. w < 2 ^ 32) ws → (vertex_weights ≡ false → All (λ w. not (eqb w 1) ≡ false) ws) → body_in (record { nets = length nets; vertices = length ws; net_weights = net_weights; vertex_weights = vertex_weights }) (record { kept = map numbers_kept (enumerate_from start (map (net_numbers net_weights) nets ++ weight_lines vertex_weights ws)); count = count }) ≡ Ok (made_of (length ws) nets ws)
+body-read : (count start : ℕ) (net_weights vertex_weights : Bool) (nets : List Net) (ws : List ℕ) → length ws ≤ 2 ^ 22 →
+    AreReadable net_weights (length ws) 0
+    nets → All (λ w. w < 2 ^ 32) ws → (vertex_weights ≡ false → All (λ w. not (eqb w 1) ≡ false) ws) →
+    body_in (record { nets = length nets; vertices = length ws; net_weights = net_weights; vertex_weights = vertex_weights })
+    (record { kept = map numbers_kept (enumerate_from start (map (net_numbers net_weights) nets ++ weight_lines vertex_weights ws)); count = count }) ≡ Ok
+    (made_of (length ws) nets ws)
 body-read count start net_weights vertex_weights nets ws few are small ones =
     let net_lines = map numbers_kept (enumerate_from start (map (net_numbers net_weights) nets)) in
     let rest = map numbers_kept (enumerate_from (start + length (map (net_numbers net_weights) nets)) (weight_lines vertex_weights ws)) in
     let all : length net_lines ≡ length nets = length-kept start (map (net_numbers net_weights) nets) ∙ length-map nets (net_numbers net_weights) in
     let front : take (length nets) (net_lines ++ rest) ≡ net_lines = ap (λ n. take n (net_lines ++ rest)) (sym all) ∙ take-append_seam net_lines rest in
     let back : drop (length nets) (net_lines ++ rest) ≡ rest = ap (λ n. drop n (net_lines ++ rest)) (sym all) ∙ drop-append_seam net_lines rest in
-    let read : nets_in (record { nets = length nets; vertices = length ws; net_weights = net_weights; vertex_weights = vertex_weights }) (take (length nets) (net_lines ++ rest)) ≡ Ok nets = ap (nets_in (record { nets = length nets; vertices = length ws; net_weights = net_weights; vertex_weights = vertex_weights })) front ∙ nets-read (length nets) (length ws) start 0 net_weights vertex_weights nets few are in
-    ap (λ (ls : List Line). body_in (record { nets = length nets; vertices = length ws; net_weights = net_weights; vertex_weights = vertex_weights }) (record { kept = ls; count = count })) (kept-append start (map (net_numbers net_weights) nets) (weight_lines vertex_weights ws))
-    ∙ first (first_in (length nets) (nets_in (record { nets = length nets; vertices = length ws; net_weights = net_weights; vertex_weights = vertex_weights })) (record { kept = net_lines ++ rest; count = count })) (λ es. tail_in (length nets) (length ws) net_weights vertex_weights count es (drop (length nets) (net_lines ++ rest))) nets (first-read (length nets) (nets_in (record { nets = length nets; vertices = length ws; net_weights = net_weights; vertex_weights = vertex_weights })) (record { kept = net_lines ++ rest; count = count }) nets read (omega (arith, all, length-append net_lines rest)))
+    let read : nets_in (record { nets = length nets; vertices = length ws; net_weights = net_weights; vertex_weights = vertex_weights })
+    (take (length nets) (net_lines ++ rest)) ≡ Ok nets =
+    ap (nets_in (record { nets = length nets; vertices = length ws; net_weights = net_weights; vertex_weights = vertex_weights })) front ∙
+    nets-read (length nets) (length ws) start 0 net_weights vertex_weights nets few are in
+    ap (λ (ls : List Line). body_in (record { nets = length nets; vertices = length ws; net_weights = net_weights; vertex_weights = vertex_weights })
+    (record { kept = ls; count = count })) (kept-append start (map (net_numbers net_weights) nets) (weight_lines vertex_weights ws))
+    ∙ first (first_in (length nets) (nets_in (record {
+      nets = length nets;
+      vertices = length ws;
+      net_weights = net_weights;
+      vertex_weights = vertex_weights;
+    }))
+    (record { kept = net_lines ++ rest; count = count })) (λ es. tail_in (length nets) (length ws) net_weights vertex_weights count es
+    (drop (length nets) (net_lines ++ rest))) nets
+    (first-read (length nets) (nets_in (record { nets = length nets; vertices = length ws; net_weights = net_weights; vertex_weights = vertex_weights }))
+    (record { kept = net_lines ++ rest; count = count }) nets read (omega (arith, all, length-append net_lines rest)))
     ∙ ap (tail_in (length nets) (length ws) net_weights vertex_weights count nets) back
     ∙ tail-read (length nets) count (start + length (map (net_numbers net_weights) nets)) net_weights vertex_weights nets ws small ones
 
@@ -165,12 +204,28 @@ hypergraph_is_read_back h is =
     let nets = nets-writable h is in
     let header : List ℕ = net_count h ∷ vertex_count h ∷ format nw vw in
     let behind = map (net_numbers nw) h.nets ++ weight_lines vw h.weights in
-    let head_small : All (λ m. m < 2 ^ 64) header = All-cons (λ m. m < 2 ^ 64) (net_count h) (vertex_count h ∷ format nw vw) (omega arith) (All-cons (λ m. m < 2 ^ 64) (vertex_count h) (format nw vw) (omega arith) (format-small nw vw)) in
-    let are : AreLines (header ∷ behind) = (head_small, AreLines-append (map (net_numbers nw) h.nets) (weight_lines vw h.weights) (net-lines nw (vertex_count h) h.nets few nets) (weights-lines vw h.weights is.weights)) in
+    let head_small : All (λ m. m < 2 ^ 64) header = All-cons (λ m. m < 2 ^ 64) (net_count h) (vertex_count h ∷ format nw vw) (omega arith)
+    (All-cons (λ m. m < 2 ^ 64) (vertex_count h) (format nw vw) (omega arith) (format-small nw vw)) in
+    let are : AreLines (header ∷ behind) = (
+      head_small,
+      AreLines-append (map (net_numbers nw) h.nets) (weight_lines vw h.weights)
+          (net-lines nw (vertex_count h) h.nets few nets) (weights-lines vw h.weights is.weights),
+    ) in
     let kept : kept_from 1 bytes ≡ numbers_kept (1, header) ∷ map numbers_kept (enumerate_from 2 behind) = kept_from-numbers 1 (header ∷ behind) are in
-    let fixes : replicate (vertex_count h) FREE ≡ h.fixes = sym (ext_get_or FREE h.fixes (replicate (vertex_count h) FREE) (is.sound.fixes ∙ sym (length-replicate (vertex_count h) FREE)) (λ v low. is.free v (subst (λ (n : ℕ). v < n) is.sound.fixes low) ∙ sym (get_or-replicate (vertex_count h) v FREE FREE (subst (λ (n : ℕ). v < n) is.sound.fixes low)))) in
-    let same : made_of (vertex_count h) h.nets h.weights ≡ h = ap₂ (λ (o : Objective) (fs : List ℕ). record { weights = h.weights; nets = h.nets; objective = o; fixes = fs }) (sym is.objective) fixes in
+    let fixes : replicate (vertex_count h) FREE ≡ h.fixes = sym (ext_get_or FREE h.fixes (replicate (vertex_count h) FREE)
+    (is.sound.fixes ∙ sym (length-replicate (vertex_count h) FREE)) (λ v low. is.free v (subst (λ (n : ℕ). v < n) is.sound.fixes low) ∙
+    sym (get_or-replicate (vertex_count h) v FREE FREE (subst (λ (n : ℕ). v < n) is.sound.fixes low)))) in
+    let same : made_of (vertex_count h) h.nets h.weights ≡ h = ap₂ (λ (o : Objective) (fs : List ℕ). record {
+      weights = h.weights;
+      nets = h.nets;
+      objective = o;
+      fixes = fs;
+    }) (sym is.objective) fixes in
     ap (λ (ls : List Line). shape_of (record { kept = ls; count = count }) >>= (λ s. body_in s (read_on 1 (record { kept = ls; count = count })))) kept
-    ∙ first (shape_of (record { kept = numbers_kept (1, header) ∷ map numbers_kept (enumerate_from 2 behind); count = count })) (λ s. body_in s (record { kept = map numbers_kept (enumerate_from 2 behind); count = count })) (record { nets = net_count h; vertices = vertex_count h; net_weights = nw; vertex_weights = vw }) (header-read 1 (net_count h) (vertex_count h) nw vw few_nets few)
-    ∙ body-read count 2 nw vw h.nets h.weights few (readable nw (vertex_count h) 0 h.nets nets (let p = bounds.pins in omega arith)) is.weights (none_passes (λ w. not (eqb w 1)) h.weights)
+    ∙ first (shape_of (record { kept = numbers_kept (1, header) ∷ map numbers_kept (enumerate_from 2 behind); count = count }))
+    (λ s. body_in s (record { kept = map numbers_kept (enumerate_from 2 behind); count = count }))
+    (record { nets = net_count h; vertices = vertex_count h; net_weights = nw; vertex_weights = vw }) (header-read 1 (net_count h) (vertex_count h) nw vw
+    few_nets few)
+    ∙ body-read count 2 nw vw h.nets h.weights few (readable nw (vertex_count h) 0 h.nets nets (let p = bounds.pins in omega arith)) is.weights
+    (none_passes (λ w. not (eqb w 1)) h.weights)
     ∙ ap Ok same

@@ -25,7 +25,8 @@ pins-below : (n j : ℕ) → j < n → All (λ v. v < n) (made_net n j).pins
 pins-below n j h =
     let below : All (λ v. v < n) (j ∷ (j + 1) % n ∷ (j * j + 3) % n ∷ []) =
     All-cons (λ v. v < n) j ((j + 1) % n ∷ (j * j + 3) % n ∷ []) h
-    (All-cons (λ v. v < n) ((j + 1) % n) ((j * j + 3) % n ∷ []) (omega arith) (All-cons (λ v. v < n) ((j * j + 3) % n) [] (omega arith) (All-nil (λ v. v < n)))) in
+    (All-cons (λ v. v < n) ((j + 1) % n) ((j * j + 3) % n ∷ []) (omega arith) (All-cons (λ v. v < n) ((j * j + 3) % n) [] (omega arith)
+    (All-nil (λ v. v < n)))) in
     All-set_of (λ v. v < n) (j ∷ (j + 1) % n ∷ (j * j + 3) % n ∷ []) below
 
 made_nets : (n : ℕ) → All (IsNet n) (made n).nets
@@ -34,7 +35,10 @@ made_nets n =
     (λ k d low.
     let few : k < n = subst (λ (m : ℕ). k < m) (length-range_with_len 0 n) low in
     let is : get_or (range_with_len 0 n) k d ≡ k = get_or-range_with_len 0 n k d few ∙ omega arith in
-    subst (λ (j : ℕ). IsNet n (made_net n j)) (sym is) (record { rising = increasing-set_of (k ∷ (k + 1) % n ∷ (k * k + 3) % n ∷ []); pins = pins-below n k few }))
+    subst (λ (j : ℕ). IsNet n (made_net n j)) (sym is) (record {
+      rising = increasing-set_of (k ∷ (k + 1) % n ∷ (k * k + 3) % n ∷ []);
+      pins = pins-below n k few;
+    }))
 
 made_sound : (n : ℕ) → IsHypergraph (made n)
 made_sound n = record {

@@ -42,9 +42,15 @@ net_weight-made-le n i h is = omega (arith, ap total_net_weight is, made-bound (
 
 pub pin_weight-made-le : (n i : ℕ) (h : Hyper) → h ≡ made_first n i → total (λ e. e.weight * length e.pins) h.nets ≤ i * 3
 pin_weight-made-le n i h is =
-    omega (arith, ap (λ (g : Hyper). total (λ e. e.weight * length e.pins) g.nets) is, made-bound (λ e. e.weight * length e.pins) 3 n i (λ j. omega (arith, made-pins n j)))
+    omega (
+      arith,
+      ap (λ (g : Hyper). total (λ e. e.weight * length e.pins) g.nets) is,
+      made-bound (λ e. e.weight * length e.pins) 3 n i
+          (λ j. omega (arith, made-pins n j)),
+    )
 
 -- one more net
 pub made_first-more : (n i : ℕ) → made_first n (i + 1) ≡ record (made_first n i) { nets = (made_first n i).nets ++ made_net n i ∷ [] }
 made_first-more n i =
-    ap (λ (es : List Net). record { weights = replicate n 1; nets = es; objective = Connectivity; fixes = replicate n FREE }) (map-range_with_len_more (made_net n) 0 i i (omega arith))
+    ap (λ (es : List Net). record { weights = replicate n 1; nets = es; objective = Connectivity; fixes = replicate n FREE })
+    (map-range_with_len_more (made_net n) 0 i i (omega arith))

@@ -26,7 +26,8 @@ pub(crate) fn put_numbers<K: Sink>(
 
 // Counts vertices from 1.
 pub(crate) fn put_pins<K: Sink>(pen: &mut Pen, sink: &mut K, pins: &[u32]) -> Result<(), Failed>
-    ensures bytes { Writes (K.got sink.old) (K.got sink.new) pen.old pen.new result (numbers_line (map (λ v. v + 1) pins.now)) }
+    ensures bytes { Writes (K.got sink.old) (K.got sink.new) pen.old pen.new result
+        (numbers_line (map (λ v. v + 1) pins.now)) }
     ensures cause { HasCause (K.faults sink.old) (K.faults sink.new) result }
 {
     'pins: for (i, v) in pins.iter().enumerate() {
@@ -47,7 +48,8 @@ pub(crate) fn put_token<K: Sink>(
     number: u64,
     separator: u8,
 ) -> Result<(), Failed>
-    ensures bytes { Writes (K.got sink.old) (K.got sink.new) pen.old pen.new result (decimal number ++ separator ∷ []) }
+    ensures bytes { Writes (K.got sink.old) (K.got sink.new) pen.old pen.new result (decimal number ++ separator ∷
+        []) }
     ensures cause { HasCause (K.faults sink.old) (K.faults sink.new) result }
 {
     let mut token = [0; TOKEN];

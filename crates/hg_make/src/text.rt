@@ -59,7 +59,8 @@ fn put_header<K: Sink>(
     nets: bool,
     vertices: bool,
 ) -> Result<(), Failed>
-    ensures bytes { Writes (K.got sink.old) (K.got sink.new) pen.old pen.new result (numbers_line (net_count h.now ∷ vertex_count h.now ∷ format nets vertices)) }
+    ensures bytes { Writes (K.got sink.old) (K.got sink.new) pen.old pen.new result
+        (numbers_line (net_count h.now ∷ vertex_count h.now ∷ format nets vertices)) }
     ensures cause { HasCause (K.faults sink.old) (K.faults sink.new) result }
 {
     let m = u64::from(h.nets());
@@ -78,7 +79,8 @@ fn put_nets<K: Sink>(
     h: &FlatHyper,
     weighted: bool,
 ) -> Result<(), Failed>
-    ensures bytes { Writes (K.got sink.old) (K.got sink.new) pen.old pen.new result (flat_map numbers_line (map (net_numbers weighted) h.now.nets)) }
+    ensures bytes { Writes (K.got sink.old) (K.got sink.new) pen.old pen.new result
+        (flat_map numbers_line (map (net_numbers weighted) h.now.nets)) }
     ensures cause { HasCause (K.faults sink.old) (K.faults sink.new) result }
 {
     'nets: for e in 0..h.nets() {
@@ -94,7 +96,8 @@ fn put_net<K: Sink>(
     weight: u64,
     pins: &[u32],
 ) -> Result<(), Failed>
-    ensures bytes { Writes (K.got sink.old) (K.got sink.new) pen.old pen.new result (numbers_line (net_numbers weighted (record { weight = weight; pins = pins.now }))) }
+    ensures bytes { Writes (K.got sink.old) (K.got sink.new) pen.old pen.new result
+        (numbers_line (net_numbers weighted (record { weight = weight; pins = pins.now }))) }
     ensures cause { HasCause (K.faults sink.old) (K.faults sink.new) result }
 {
     if !weighted {
@@ -110,7 +113,8 @@ fn put_weights<K: Sink>(
     h: &FlatHyper,
     weighted: bool,
 ) -> Result<(), Failed>
-    ensures bytes { Writes (K.got sink.old) (K.got sink.new) pen.old pen.new result (flat_map numbers_line (if weighted then map (λ w. w ∷ []) h.now.weights else [])) }
+    ensures bytes { Writes (K.got sink.old) (K.got sink.new) pen.old pen.new result
+        (flat_map numbers_line (if weighted then map (λ w. w ∷ []) h.now.weights else [])) }
     ensures cause { HasCause (K.faults sink.old) (K.faults sink.new) result }
 {
     if !weighted {

@@ -1,5 +1,6 @@
 -- A text cut at its first line feed, and a line cut at its first blank.
-use Rattle.std.proofs.Common.{◌||◌, ◌≡◌, ℕ, zero, suc, ◌+◌, ◌<◌, ◌≤◌, Bool, true, false, cond, List, [], ◌∷◌, length, take, drop, get_or, filter, refl, sym, ◌∙◌, ap, arith, add-one, eqb, inl, inr}
+use Rattle.std.proofs.Common.{◌||◌, ◌≡◌, ℕ, zero, suc, ◌+◌, ◌<◌, ◌≤◌, Bool, true, false, cond, List, [], ◌∷◌, length, take}
+use Rattle.std.proofs.Common.{drop, get_or, filter, refl, sym, ◌∙◌, ap, arith, add-one, eqb, inl, inr}
 use Rattle.std.proofs.lemmas.Bool.{cases_lt, ne_eqb}
 use Rattle.std.proofs.Math.Seq.{drop-cons}
 use Rattle.std.proofs.lemmas.List.{take_all, drop_all}
@@ -11,7 +12,8 @@ use Rattle.hg_text.specs.Cut.{FailsBelow, EndsField, ends_field}
 abbrev pub IsCutting : (ℕ → Bool) → (List ℕ → List (List ℕ)) → Type 0
 IsCutting p F = (x : ℕ) (xs : List ℕ) → F (x ∷ xs) ≡ cond (p x) ([] ∷ F xs) (onto_first x (F xs))
 
-pub cut_at : (p : ℕ → Bool) (F : List ℕ → List (List ℕ)) (step : IsCutting p F) (xs : List ℕ) (i : ℕ) → i < length xs → p (get_or xs i 0) ≡ true → FailsBelow p xs i → F xs ≡ take i xs ∷ F (drop (suc i) xs)
+pub cut_at : (p : ℕ → Bool) (F : List ℕ → List (List ℕ)) (step : IsCutting p F) (xs : List ℕ) (i : ℕ) → i < length xs → p (get_or xs i 0) ≡ true →
+    FailsBelow p xs i → F xs ≡ take i xs ∷ F (drop (suc i) xs)
 cut_at p F step [] i h hit miss = absurd (omega arith)
 cut_at p F step (x ∷ xs) zero h hit miss =
     step x xs ∙ ap (λ (b : Bool). cond b ([] ∷ F xs) (onto_first x (F xs))) hit
@@ -19,7 +21,9 @@ cut_at p F step (x ∷ xs) (suc i) h hit miss =
     step x xs ∙ ap (λ (b : Bool). cond b ([] ∷ F xs) (onto_first x (F xs))) (miss 0 (omega arith))
     ∙ ap (onto_first x) (cut_at p F step xs i (omega arith) hit (λ k l. miss (suc k) (omega arith)))
 
-pub lines_at : (text : List ℕ) (i : ℕ) → i < length text → is_line_feed (get_or text i 0) ≡ true → FailsBelow is_line_feed text i → lines text ≡ take i text ∷ lines (drop (i + 1) text)
+pub lines_at : (text : List ℕ) (i : ℕ) → i < length text → is_line_feed (get_or text i 0) ≡ true → FailsBelow is_line_feed text i →
+    lines text ≡ take i text ∷
+    lines (drop (i + 1) text)
 lines_at text i h hit miss = rw add-one (cut_at is_line_feed lines (λ x xs. refl) text i h hit miss)
 
 lines_last_from : (x : ℕ) (text : List ℕ) → FailsBelow is_line_feed (x ∷ text) (suc (length text)) → lines (x ∷ text) ≡ (x ∷ text) ∷ []
@@ -36,7 +40,8 @@ pub fields_blank : (x : ℕ) (line : List ℕ) → is_blank x ≡ true → field
 fields_blank x line hit =
     ap (λ (b : Bool). filter is_filled (cond b ([] ∷ slice_split is_blank line) (onto_first x (slice_split is_blank line)))) hit
 
-fields_at : (x : ℕ) (line : List ℕ) (j : ℕ) → j < length line → is_blank (get_or line j 0) ≡ true → FailsBelow is_blank (x ∷ line) (suc j) → fields (x ∷ line) ≡ take (suc j) (x ∷ line) ∷ fields (drop (suc j) line)
+fields_at : (x : ℕ) (line : List ℕ) (j : ℕ) → j < length line → is_blank (get_or line j 0) ≡ true → FailsBelow is_blank (x ∷ line) (suc j) →
+    fields (x ∷ line) ≡ take (suc j) (x ∷ line) ∷ fields (drop (suc j) line)
 fields_at x line j h hit miss =
     ap (filter is_filled) (cut_at is_blank (slice_split is_blank) (λ y ys. refl) (x ∷ line) (suc j) (omega arith) hit miss)
 
@@ -53,13 +58,16 @@ ends_blank line i e h =
     sym (ap (λ (b : Bool). b || is_blank (get_or line i 0)) other) ∙ e
 
 -- a line that begins with a field, cut behind it
-fields_cut : (line : List ℕ) (i : ℕ) → 0 < i → i ≤ length line → FailsBelow is_blank line i → (i < length line → is_blank (get_or line i 0) ≡ true) → fields line ≡ take i line ∷ fields (drop i line)
+fields_cut : (line : List ℕ) (i : ℕ) → 0 < i → i ≤ length line → FailsBelow is_blank line i → (i < length line → is_blank (get_or line i 0) ≡ true) →
+    fields line ≡ take i line ∷ fields (drop i line)
 fields_cut [] i low high miss ends = absurd (omega arith)
 fields_cut (x ∷ line) zero low high miss ends = absurd (omega arith)
 fields_cut (x ∷ line) (suc j) low high miss ends =
     elim (cases_lt j (length line)) [
       | inl less ↦ fields_at x line j less (ends (omega arith)) miss
-          ∙ ap (λ (fs : List (List ℕ)). (x ∷ take j line) ∷ fs) (sym (ap fields (drop-cons line j 0 less) ∙ fields_blank (get_or line j 0) (drop (suc j) line) (ends (omega arith))))
+          ∙ ap (λ (fs : List (List ℕ)). (x ∷ take j line) ∷ fs)
+          (sym (ap fields (drop-cons line j 0 less) ∙ fields_blank (get_or line j 0) (drop (suc j) line)
+          (ends (omega arith))))
       | inr more ↦
           (let all : length line ≡ j = omega arith in
           let whole : fields (x ∷ line) ≡ (x ∷ line) ∷ [] = ap (filter is_filled) (split_last (x ∷ line) (λ k l. miss k (omega arith))) in

@@ -1,5 +1,6 @@
 -- The number that a line begins with.
-use Rattle.std.proofs.Common.{◌≡◌, ℕ, ◌<◌, ◌≤◌, ◌^◌, ◌⊎◌, true, false, List, length, take, drop, get_or, Option, Some, None, Err, nat_lt, if◌then◌else◌, sym, ◌∙◌, ap, arith, inl, inr}
+use Rattle.std.proofs.Common.{◌≡◌, ℕ, ◌<◌, ◌≤◌, ◌^◌, ◌⊎◌, true, false, List, length, take, drop, get_or, Option, Some}
+use Rattle.std.proofs.Common.{None, Err, nat_lt, if◌then◌else◌, sym, ◌∙◌, ap, arith, inl, inr}
 use Rattle.std.specs.List.{prefix_len}
 use Rattle.std.specs.Char.{is_ascii_digit}
 use Rattle.std.specs.Option.{ok_or}
@@ -27,7 +28,9 @@ digits_end line count e some ends = record {
 }
 
 -- that field spells the number
-pub spells_digits : (line : List ℕ) (count : ℕ) (value : Option ℕ) → count ≡ prefix_len is_ascii_digit line → EndsField line count → value ≡ (if nat_lt (digits_value 10 (take count line)) (2 ^ 64) then Some (digits_value 10 (take count line)) else None) → SpellsFirst (fields line) (fields (drop count line)) (ok_or value TooBig)
+pub spells_digits : (line : List ℕ) (count : ℕ) (value : Option ℕ) → count ≡ prefix_len is_ascii_digit line → EndsField line count →
+    value ≡ (if nat_lt (digits_value 10 (take count line)) (2 ^ 64) then Some (digits_value 10 (take count line)) else None) → SpellsFirst (fields line)
+    (fields (drop count line)) (ok_or value TooBig)
 spells_digits line count value e end v =
     let size : length (take count line) ≡ count = length-take-le count line end.high in
     let all : prefix_len is_ascii_digit (take count line) ≡ count =
@@ -42,7 +45,8 @@ spells_digits line count value e end v =
     }
 
 -- a field whose digits end before it does spells none
-pub spells_none : (line : List ℕ) (count end : ℕ) → count ≡ prefix_len is_ascii_digit line → EndsField line end → (count ≡ 0) ⊎ (ends_field line count ≡ false) → SpellsFirst (fields line) (fields (drop end line)) (Err NotDigits)
+pub spells_none : (line : List ℕ) (count end : ℕ) → count ≡ prefix_len is_ascii_digit line → EndsField line end →
+    (count ≡ 0) ⊎ (ends_field line count ≡ false) → SpellsFirst (fields line) (fields (drop end line)) (Err NotDigits)
 spells_none line count end e ends early =
     let size : length (take end line) ≡ end = length-take-le end line ends.high in
     let less : count < end = elim early [

@@ -1,5 +1,6 @@
 -- What a cut of a line begins with, where its first field ends, and numbers of 64 bits.
-use Rattle.std.specs.Prelude.{◌^◌, nat_lt, if◌then◌else◌, Option, Some, None, ◌≡◌, ℕ, ◌<◌, ◌≤◌, ◌==◌, ◌||◌, true, false, Bool, List, [], ◌∷◌, length, slice_index}
+use Rattle.std.specs.Prelude.{◌^◌, nat_lt, if◌then◌else◌, Option, Some, None, ◌≡◌, ℕ, ◌<◌, ◌≤◌, ◌==◌, ◌||◌}
+use Rattle.std.specs.Prelude.{true, false, Bool, List, [], ◌∷◌, length, slice_index}
 use Rattle.hg_text.specs.Kept.{is_blank}
 
 -- a line that is empty or begins with a field

@@ -43,7 +43,9 @@ impl<'a> Lines<'a> {
 
     /// The next kept line, or None where none is left.
     pub fn next_kept(&mut self) -> Option<Kept<'a>>
-        ensures kept { MatchOption result ((self.old.kept ≡ []) × (self.new.kept ≡ [])) (λ line. self.old.kept ≡ line ∷ self.new.kept) }
+        ensures kept { MatchOption result ((self.old.kept ≡ []) × (self.new.kept ≡ []))
+            (λ line. self.old.kept ≡ line ∷
+            self.new.kept) }
         ensures filled { IfSome result (λ line. 0 < length line.fields) }
         ensures count { self.new.count ≡ self.old.count }
     {
@@ -123,7 +125,8 @@ impl<'a> Kept<'a> {
 
     /// The next field, or None where none is left. A field isn't empty.
     pub fn next_field(&mut self) -> Option<&'a [u8]>
-        ensures field { MatchOption result ((self.old.fields ≡ []) × (self.new.fields ≡ [])) (λ field. self.old.fields ≡ field.now ∷ self.new.fields) }
+        ensures field { MatchOption result ((self.old.fields ≡ []) × (self.new.fields ≡ []))
+            (λ field. self.old.fields ≡ field.now ∷ self.new.fields) }
         ensures line { self.new.number ≡ self.old.number }
     {
         if self.rest.is_empty() {
@@ -138,7 +141,8 @@ impl<'a> Kept<'a> {
     /// does, and answers what `number` says of it, but reads its bytes once.
     #[inline]
     pub fn next_number(&mut self) -> Option<Result<u64, BadNumber>>
-        ensures spelt { MatchOption result ((self.old.fields ≡ []) × (self.new.fields ≡ [])) (λ value. SpellsFirst self.old.fields self.new.fields value) }
+        ensures spelt { MatchOption result ((self.old.fields ≡ []) × (self.new.fields ≡ []))
+            (λ value. SpellsFirst self.old.fields self.new.fields value) }
         ensures line { self.new.number ≡ self.old.number }
     {
         if self.rest.is_empty() {

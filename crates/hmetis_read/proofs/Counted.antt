@@ -1,10 +1,12 @@
 -- A text that spells a hypergraph has a line for each net and each weighted vertex behind its header, and no more.
-use Rattle.std.proofs.Common.{◌≡◌, ℕ, suc, ◌+◌, ◌-◌, ◌≤◌, ◌⊎◌, Bool, true, false, nat_le, if◌then◌else◌, List, [], ◌∷◌, length, take, drop, replicate, Ok, Err, refl, sym, ◌∙◌, ap, arith, inl, inr}
+use Rattle.std.proofs.Common.{◌≡◌, ℕ, suc, ◌+◌, ◌-◌, ◌≤◌, ◌⊎◌, Bool, true, false, nat_le, if◌then◌else◌, List, [], ◌∷◌}
+use Rattle.std.proofs.Common.{length, take, drop, replicate, Ok, Err, refl, sym, ◌∙◌, ap, arith, inl, inr}
 use Rattle.std.proofs.lemmas.Bool.{leb-true}
 use Rattle.std.proofs.lemmas.List.{length-drop, length-take-le, length-replicate}
 use Rattle.hg_defs.specs.Hypergraph.{Hyper, net_count, vertex_count}
 use Rattle.hg_text.specs.Kept.{Line, Reading, reading}
-use Rattle.hmetis_read.specs.Graph.{Read, ◌>>=◌, each, guarded, header_in, net_in, nets_in, with_pins_before, pin_numbers, vertex_in, first_in, read_on, weights_in, vertex_lines, ended, body_in, first_line, shape_of, graph}
+use Rattle.hmetis_read.specs.Graph.{Read, ◌>>=◌, each, guarded, header_in, net_in, nets_in, with_pins_before, pin_numbers, vertex_in, first_in}
+use Rattle.hmetis_read.specs.Graph.{read_on, weights_in, vertex_lines, ended, body_in, first_line, shape_of, graph}
 use Rattle.hmetis_read.specs.Laws.{HasLines}
 use Rattle.hmetis_read.specs.declared.fault.GraphFault.{GraphFault}
 use Rattle.hmetis_read.specs.declared.header.Shape.{Shape}
@@ -42,7 +44,8 @@ nets_length shape before [] = refl
 nets_length shape before (line ∷ lines) = ap suc (nets_length shape (before + length (pin_numbers shape line)) lines)
 
 -- as many values as lines were wanted, and so many lines there are
-first_ok : {A : Type 0} (count : ℕ) (read : List Line → Read (List A)) (text : Reading) (ys : List A) → ((ls : List Line) (zs : List A) → read ls ≡ Ok zs → length zs ≡ length ls) → first_in count read text ≡ Ok ys → (length ys ≡ count) × (count ≤ length text.kept)
+first_ok : {A : Type 0} (count : ℕ) (read : List Line → Read (List A)) (text : Reading) (ys : List A) → ((ls : List Line) (zs : List A) → read ls ≡ Ok zs →
+    length zs ≡ length ls) → first_in count read text ≡ Ok ys → (length ys ≡ count) × (count ≤ length text.kept)
 first_ok count read text ys sizes e =
     let some = bind_ok (read (take count text.kept)) _ ys e in
     let enough = guarded_ok (nat_le count (length text.kept)) _ some.0 ys some.2 in
@@ -54,9 +57,12 @@ ended_ok [] x y e = (refl, ok_same x y e)
 ended_ok (line ∷ ls) x y e = absurd (err_ok _ y e)
 
 -- the weights of all vertices, and the lines that they take
-weights_ok : (shape : Shape) (text : Reading) (ws : List ℕ) → weights_in shape text ≡ Ok ws → (length ws ≡ shape.vertices) × (vertex_lines shape ≤ length text.kept) × ((vertex_lines shape ≡ 0) ⊎ (vertex_lines shape ≡ shape.vertices))
+weights_ok : (shape : Shape) (text : Reading) (ws : List ℕ) → weights_in shape text ≡ Ok ws → (length ws ≡ shape.vertices) ×
+    (vertex_lines shape ≤ length text.kept) × ((vertex_lines shape ≡ 0) ⊎ (vertex_lines shape ≡ shape.vertices))
 weights_ok shape text ws e = by_cases shape.vertex_weights e where
-  by_cases : (b : Bool) → (if b then first_in shape.vertices (each vertex_in) text else Ok (replicate shape.vertices 1)) ≡ Ok ws → (length ws ≡ shape.vertices) × ((if b then shape.vertices else 0) ≤ length text.kept) × (((if b then shape.vertices else 0) ≡ 0) ⊎ ((if b then shape.vertices else 0) ≡ shape.vertices))
+  by_cases : (b : Bool) → (if b then first_in shape.vertices (each vertex_in) text else Ok (replicate shape.vertices 1)) ≡ Ok ws →
+      (length ws ≡ shape.vertices) × ((if b then shape.vertices else 0) ≤ length text.kept) ×
+      (((if b then shape.vertices else 0) ≡ 0) ⊎ ((if b then shape.vertices else 0) ≡ shape.vertices))
   by_cases true h = let some = first_ok shape.vertices (each vertex_in) text ws (each_length vertex_in) h in (some.0, some.1, inr refl)
   by_cases false h = (ap length (sym (ok_same (replicate shape.vertices 1) ws h)) ∙ length-replicate shape.vertices 1, omega arith, inl refl)
 
@@ -64,7 +70,8 @@ first_line_ok : (count : ℕ) (ls : List Line) (line : Line) → first_line coun
 first_line_ok count [] line e = absurd (err_ok _ line e)
 first_line_ok count (first ∷ ls) line e = omega arith
 
-body_lines : (shape : Shape) (text : Reading) (h : Hyper) → body_in shape text ≡ Ok h → (length text.kept ≡ net_count h) ⊎ (length text.kept ≡ net_count h + vertex_count h)
+body_lines : (shape : Shape) (text : Reading) (h : Hyper) → body_in shape text ≡ Ok h → (length text.kept ≡ net_count h) ⊎
+    (length text.kept ≡ net_count h + vertex_count h)
 body_lines shape text h e =
     let nets = bind_ok (first_in shape.nets (nets_in shape) text) _ h e in
     let weights = bind_ok (weights_in shape (read_on shape.nets text)) _ h nets.2 in
@@ -75,7 +82,8 @@ body_lines shape text h e =
     let all_nets : net_count h ≡ shape.nets = sym (ap (λ (g : Hyper). length g.nets) end.1) ∙ some.0 in
     let all_vertices : vertex_count h ≡ shape.vertices = sym (ap (λ (g : Hyper). length g.weights) end.1) ∙ vertices.0 in
     let rest : length (drop shape.nets text.kept) ≡ length text.kept - shape.nets = length-drop shape.nets text.kept in
-    let last : length (drop (vertex_lines shape) (drop shape.nets text.kept)) ≡ length (drop shape.nets text.kept) - vertex_lines shape = length-drop (vertex_lines shape) (drop shape.nets text.kept) in
+    let last : length (drop (vertex_lines shape) (drop shape.nets text.kept)) ≡ length (drop shape.nets text.kept) - vertex_lines shape = length-drop
+    (vertex_lines shape) (drop shape.nets text.kept) in
     elim vertices.2 [
       | inl none ↦ inl (omega (arith, some.1, end.0, vertices.1))
       | inr full ↦ inr (omega (arith, some.1, end.0, vertices.1))
@@ -85,5 +93,6 @@ pub lines_counted : (bytes : List ℕ) (h : Hyper) → graph bytes ≡ Ok h → 
 lines_counted bytes h e =
     let shape = bind_ok (shape_of (reading bytes)) _ h e in
     let header = bind_ok (first_line (reading bytes).count (reading bytes).kept) header_in shape.0 shape.1 in
-    let one : length (reading bytes).kept ≡ 1 + length (drop 1 (reading bytes).kept) = first_line_ok (reading bytes).count (reading bytes).kept header.0 header.1 in
+    let one : length (reading bytes).kept ≡ 1 + length (drop 1 (reading bytes).kept) = first_line_ok (reading bytes).count (reading bytes).kept header.0
+    header.1 in
     elim (body_lines shape.0 (read_on 1 (reading bytes)) h shape.2) [ inl n ↦ inl (omega arith) | inr n ↦ inr (omega arith) ]

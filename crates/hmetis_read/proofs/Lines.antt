@@ -26,19 +26,23 @@ total_below (w ∷ ws) all =
     omega (arith, total_below ws (All-tail (λ w. w < 2 ^ 32) w ws all), All-head (λ w. w < 2 ^ 32) w ws all)
 
 -- the same, less one of them
-pub total_others : (ws : List ℕ) (v : ℕ) → v < length ws → All (λ w. w < 2 ^ 32) ws → total (λ w. w) ws + (2 ^ 32 - 1) ≤ get_or ws v 0 + (2 ^ 32 - 1) * length ws
+pub total_others : (ws : List ℕ) (v : ℕ) → v < length ws → All (λ w. w < 2 ^ 32) ws → total (λ w. w) ws + (2 ^ 32 - 1) ≤ get_or ws v 0 + (2 ^ 32 - 1) *
+    length
+    ws
 total_others [] v h all = absurd (omega arith)
 total_others (w ∷ ws) zero h all = omega (arith, total_below ws (All-tail (λ w. w < 2 ^ 32) w ws all))
 total_others (w ∷ ws) (suc v) h all =
     omega (arith, total_others ws v (omega arith) (All-tail (λ w. w < 2 ^ 32) w ws all), All-head (λ w. w < 2 ^ 32) w ws all)
 
 -- two changes of the weights are one, and so are two of the nets
-pub weights_twice : (old mid new : Hyper) (ws : List ℕ) → mid ≡ record old { weights = mid.weights } → new ≡ record mid { weights = ws } → new ≡ record old { weights = new.weights }
+pub weights_twice : (old mid new : Hyper) (ws : List ℕ) → mid ≡ record old { weights = mid.weights } → new ≡ record mid { weights = ws } →
+    new ≡ record old { weights = new.weights }
 weights_twice old mid new ws d e =
     e ∙ ap (λ (h : Hyper). record h { weights = ws }) d
     ∙ ap (λ (us : List ℕ). record old { weights = us }) (sym (ap (λ (h : Hyper). h.weights) e))
 
-pub nets_twice : (old mid new : Hyper) (es : List Net) → mid ≡ record old { nets = mid.nets } → new ≡ record mid { nets = es } → new ≡ record old { nets = new.nets }
+pub nets_twice : (old mid new : Hyper) (es : List Net) → mid ≡ record old { nets = mid.nets } → new ≡ record mid { nets = es } →
+    new ≡ record old { nets = new.nets }
 nets_twice old mid new es d e =
     e ∙ ap (λ (h : Hyper). record h { nets = es }) d
     ∙ ap (λ (fs : List Net). record old { nets = fs }) (sym (ap (λ (h : Hyper). h.nets) e))

@@ -1,5 +1,6 @@
 -- What a hypergraph file spells: a hypergraph, or the first fault.
-use Rattle.std.specs.Prelude.{ℕ, ◌+◌, ◌-◌, ◌^◌, Bool, ◌==◌, ◌&&◌, ◌||◌, nat_lt, nat_le, if◌then◌else◌, List, [], ◌∷◌, length, slice_index, slice_index_or, take, drop, map, replicate, Result, Ok, Err}
+use Rattle.std.specs.Prelude.{ℕ, ◌+◌, ◌-◌, ◌^◌, Bool, ◌==◌, ◌&&◌, ◌||◌, nat_lt, nat_le, if◌then◌else◌, List, [], ◌∷◌, length}
+use Rattle.std.specs.Prelude.{slice_index, slice_index_or, take, drop, map, replicate, Result, Ok, Err}
 use Rattle.std.specs.List.{enumerate_from}
 use Rattle.std.specs.Ordering.{nat_cmp}
 use Rattle.hg_defs.specs.declared.objective.TheConstants.{FREE}
@@ -11,7 +12,8 @@ use Rattle.hg_text.specs.declared.numeral.BadNumber.{BadNumber}
 use Rattle.hg_text.specs.declared.numeral.BadNumber.TheVariants.{NotDigits, TooBig}
 use Rattle.hmetis_read.specs.declared.fault.GraphFault.{GraphFault}
 use Rattle.hmetis_read.specs.declared.fault.GraphFault.TheVariants.{Bad, TooLarge}
-use Rattle.hmetis_read.specs.declared.fault.LineKind.TheVariants.{NoHeader, HeaderCount, NotNumber, BadFormat, MissingLine, ExtraLine, PinRange, WeightRange, FieldCount}
+use Rattle.hmetis_read.specs.declared.fault.LineKind.TheVariants.{NoHeader, HeaderCount, NotNumber, BadFormat, MissingLine}
+use Rattle.hmetis_read.specs.declared.fault.LineKind.TheVariants.{ExtraLine, PinRange, WeightRange, FieldCount}
 use Rattle.hmetis_read.specs.declared.header.Shape.{Shape}
 use Rattle.hmetis_read.specs.declared.fault.What.TheVariants.{Nets, Vertices, Pins}
 

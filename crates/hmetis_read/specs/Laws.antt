@@ -38,7 +38,8 @@ cut_off n text = record text { kept = take n text.kept }
 
 -- a fault of the kept line at a place; behind them all, of a line that isn't there
 abbrev pub IsFaultAt : Reading → ℕ → GraphFault → Type 0
-IsFaultAt text n (Bad line kind) = ((n < length text.kept) × (line ≡ (slice_index_or text.kept n no_line).number)) ⊎ ((n ≡ length text.kept) × (line ≡ text.count + 1))
+IsFaultAt text n (Bad line kind) = ((n < length text.kept) × (line ≡ (slice_index_or text.kept n no_line).number)) ⊎
+    ((n ≡ length text.kept) × (line ≡ text.count + 1))
 IsFaultAt text n (TooLarge line what) = (n < length text.kept) × (line ≡ (slice_index_or text.kept n no_line).number)
 IsFaultAt text n NoMemory = ⊥
 

@@ -36,7 +36,8 @@ pub(crate) fn value_at(line: u32, number: Result<u64, BadNumber>) -> Result<u64,
 #[inline]
 pub(crate) fn next_value(line: &mut Kept) -> Result<u64, GraphFault>
     requires { 0 < length line.old.fields }
-    ensures value { (field : List ℕ) × (line.old.fields ≡ field ∷ line.new.fields) × (result ≡ value_in line.old.number (number_of field)) }
+    ensures value { (field : List ℕ) × (line.old.fields ≡ field ∷ line.new.fields) ×
+        (result ≡ value_in line.old.number (number_of field)) }
     ensures line { line.new.number ≡ line.old.number }
 {
     match line.next_number() {

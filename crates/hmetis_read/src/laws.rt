@@ -6,10 +6,12 @@ ghost use Rattle.hmetis_read.specs.Graph.{graph};
 ghost use Rattle.hmetis_read.specs.Laws.{IsAtPlace, IsFirstFault, HasLines};
 
 /// Each text spells a hypergraph or has a first fault, which stands at a kept line or behind the
-/// last line, and before which no line has a fault. Where it spells one, its kept lines are those of the header, the nets and the
+/// last line, and before which no line has a fault. Where it spells one, its kept lines are those of the header, the
+/// nets and the
 /// vertices alone.
 pub fn text_laws()
     ensures placed { (bytes : List ℕ) → IsAtPlace (reading bytes) (graph bytes) }
-    ensures first { (bytes : List ℕ) (fault : GraphFault) → graph bytes ≡ Err fault → IsFirstFault (reading bytes) fault }
+    ensures first { (bytes : List ℕ) (fault : GraphFault) → graph bytes ≡ Err fault → IsFirstFault (reading bytes)
+        fault }
     ensures lines { (bytes : List ℕ) (h : Hyper) → graph bytes ≡ Ok h → HasLines (reading bytes) h }
 {}

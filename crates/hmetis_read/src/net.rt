@@ -1,10 +1,12 @@
-ghost use Rattle.std.specs.Prelude.{◌≡◌, ℕ, ◌+◌, ◌^◌, ◌<◌, ◌≤◌, List, [], ◌∷◌, length, map, IfOk, OnOk, All, Result, MatchResult, Ok, Err, ◌⊎◌};
+ghost use Rattle.std.specs.Prelude.{◌≡◌, ℕ, ◌+◌, ◌^◌, ◌<◌, ◌≤◌, List, [], ◌∷◌, length, map, IfOk, OnOk};
+ghost use Rattle.std.specs.Prelude.{All, Result, MatchResult, Ok, Err, ◌⊎◌};
 ghost use Rattle.std.specs.List.{enumerate_from};
 ghost use Rattle.std.specs.Ordering.{nat_cmp};
 ghost use Rattle.hg_defs.specs.Hypergraph.{Hyper, Net, vertex_count};
 ghost use Rattle.hg_defs.specs.Sorting.{set_of};
 ghost use Rattle.hg_text.specs.Kept.{number_of};
-ghost use Rattle.hmetis_read.specs.Graph.{weight_in, pin_in, pin_numbers, each, first_number, net_in, nets_in, first_in, read_on};
+ghost use Rattle.hmetis_read.specs.Graph.{weight_in, pin_in, pin_numbers, each, first_number};
+ghost use Rattle.hmetis_read.specs.Graph.{net_in, nets_in, first_in, read_on};
 ghost use Rattle.hmetis_read.specs.Reads.{Reads};
 ghost use Rattle.hmetis_read.specs.declared.fault.GraphFault.TheVariants.{NoMemory, Bad};
 ghost use Rattle.hmetis_read.specs.declared.fault.LineKind.TheVariants.{MissingLine};
@@ -75,7 +77,8 @@ fn read_pins(
     pins: &mut Vec<u32>,
 ) -> Result<(), GraphFault>
     requires { before ≤ 2 ^ 25 }
-    ensures pins { Reads result pins.new.items (each (pin_in vertices line.old.number) (enumerate_from before (map number_of line.old.fields))) }
+    ensures pins { Reads result pins.new.items
+        (each (pin_in vertices line.old.number) (enumerate_from before (map number_of line.old.fields))) }
     ensures vertices { All (λ pin. pin < vertices) pins.new.items }
     ensures bound { before + length pins.new.items ≤ 2 ^ 25 }
     ensures count { OnOk result (length pins.new.items ≡ length line.old.fields) }
@@ -98,7 +101,8 @@ fn read_net(
     requires filled { 0 < length line.old.fields }
     requires bound { before ≤ 2 ^ 25 }
     ensures net { MatchResult result
-        (λ weight. net_in shape.now (before, line.old) ≡ Ok (record { weight = weight; pins = set_of nat_cmp pins.new.items }))
+        (λ weight. net_in shape.now (before, line.old) ≡ Ok
+        (record { weight = weight; pins = set_of nat_cmp pins.new.items }))
         (λ fault. (fault ≡ NoMemory) ⊎ (net_in shape.now (before, line.old) ≡ Err fault)) }
     ensures weight { IfOk result (λ weight. weight < 2 ^ 32) }
     ensures vertices { OnOk result (All (λ pin. pin < shape.now.vertices) pins.new.items) }

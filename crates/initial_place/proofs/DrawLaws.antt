@@ -1,5 +1,6 @@
 -- Laws of the words that are drawn, and of the orders by them.
-use Rattle.std.proofs.Common.{◌≡◌, ℕ, zero, suc, ◌+◌, ◌<◌, ◌≤◌, List, [], ◌∷◌, ◌++◌, length, take, drop, map, filter, IsPermutation, IsSorted, true, false, cond, refl, sym, ap, subst, ◌∙◌, arith, slice_index, add-one}
+use Rattle.std.proofs.Common.{◌≡◌, ℕ, zero, suc, ◌+◌, ◌<◌, ◌≤◌, List, [], ◌∷◌, ◌++◌, length, take, drop, map, filter, IsPermutation}
+use Rattle.std.proofs.Common.{IsSorted, true, false, cond, refl, sym, ap, subst, ◌∙◌, arith, slice_index, add-one}
 use Rattle.std.proofs.lemmas.List.{append-nil, map_push, map-id, take_all}
 use Rattle.std.proofs.lemmas.List.Elements.{filter_more}
 use Rattle.std.proofs.lemmas.List.FromFn.{length-range_with_len, get_or-range_with_len}
@@ -62,7 +63,8 @@ draws_more h seed stream v word inside free is =
     ∙ map_push (draw_of drawn) (free_below h v) v
     ∙ ap (λ (w : ℕ). draws_below h seed stream v ++ (w, v) ∷ []) (word_at (vertex_count h) v (generator seed stream) inside ∙ sym is)
 
-pub draws_same : (h : Hyper) (seed stream v : ℕ) → v < vertex_count h → is_free h v ≡ false → draws_below h seed stream (v + 1) ≡ draws_below h seed stream v
+pub draws_same : (h : Hyper) (seed stream v : ℕ) → v < vertex_count h → is_free h v ≡ false → draws_below h seed stream (v + 1) ≡ draws_below h seed stream
+    v
 draws_same h seed stream v inside fixed =
     ap (map (draw_of (words (vertex_count h) (generator seed stream))))
     (free_more h seed stream v inside ∙ ap (λ t. free_below h v ++ cond t (v ∷ []) []) fixed ∙ append-nil (free_below h v))
@@ -87,7 +89,8 @@ drawn_order-lists_free h seed stream =
     let free = filter (is_free h) (vertices h) in
     let drawn = words (vertex_count h) (generator seed stream) in
     subst (λ vs. IsPermutation vs (drawn_order h seed stream)) (map-map (λ (a : ℕ × ℕ). a.1) (draw_of drawn) free ∙ map-id free)
-    (IsPermutation-map (λ (a : ℕ × ℕ). a.1) (draws_of h seed stream) (sorted lower_first (draws_of h seed stream)) (sorted_permutation lower_first (draws_of h seed stream)))
+    (IsPermutation-map (λ (a : ℕ × ℕ). a.1) (draws_of h seed stream) (sorted lower_first (draws_of h seed stream))
+    (sorted_permutation lower_first (draws_of h seed stream)))
 
 -- pairs that were written back through a slice of all of them
 pub written_back : (n : ℕ) (new old : List (ℕ × ℕ)) → length new ≡ n → take n (new ++ drop (length new) old) ≡ new

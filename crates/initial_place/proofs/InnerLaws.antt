@@ -30,7 +30,8 @@ module _ (h inner : Hyper) (e count : ℕ) (here : e < net_count h) (is : IsInne
       }
 
   -- a net of which some pins are inside
-  pub inner_grown : (new : Hyper) (weight given : ℕ) → GrowsBy inner new weight given → weight ≡ (net_of h e).weight → given ≤ length (net_of h e).pins → IsInner h new (e + 1) count
+  pub inner_grown : (new : Hyper) (weight given : ℕ) → GrowsBy inner new weight given → weight ≡ (net_of h e).weight → given ≤ length (net_of h e).pins →
+      IsInner h new (e + 1) count
   inner_grown new weight given grows same few =
       let p = total-take_more (λ (x : Net). length x.pins) h.nets e (record { weight = 0; pins = [] }) here in
       let w = total-take_more (λ (x : Net). x.weight) h.nets e (record { weight = 0; pins = [] }) here in

@@ -1,5 +1,6 @@
 -- Laws of the placement that leads, and of its place among the named placements.
-use Rattle.std.proofs.Common.{◌≡◌, ℕ, ◌+◌, ◌-◌, ◌^◌, ◌<◌, ◌≤◌, ◌⊎◌, inl, inr, List, [], ◌∷◌, ◌++◌, length, take, map, All, Option, Some, None, Result, Ok, Err, IfOk, IfErr, refl, sym, ap, subst, subst₂, ◌∙◌, arith, length-append}
+use Rattle.std.proofs.Common.{◌≡◌, ℕ, ◌+◌, ◌-◌, ◌^◌, ◌<◌, ◌≤◌, ◌⊎◌, inl, inr, List, [], ◌∷◌, ◌++◌, length, take, map, All, Option, Some, None}
+use Rattle.std.proofs.Common.{Result, Ok, Err, IfOk, IfErr, refl, sym, ap, subst, subst₂, ◌∙◌, arith, length-append}
 use Rattle.std.proofs.Math.Seq.{get_or-append_seam}
 use Rattle.std.proofs.lemmas.List.{get_or_append_left, take_more, take_all, get_or-map, length-map}
 use Rattle.std.proofs.lemmas.List.Elements.{All-push}
@@ -62,7 +63,8 @@ module _ (h : Hyper) (k l : ℕ) (ps : List (List ℕ)) (q : List ℕ) where
       at = record {
         within = let w = x.1.within in let n = one_more in omega arith;
         fits = subst (Fits h k l) (sym (before x.0 x.1.within)) x.1.fits;
-        cheapest = λ j inside fits. subst (λ (r : List ℕ). cost h r ≤ cost h (partition_at (ps ++ q ∷ []) j)) (sym (before x.0 x.1.within)) (cheapest j (cases_lt j (length ps)) inside fits);
+        cheapest = λ j inside fits. subst (λ (r : List ℕ). cost h r ≤ cost h (partition_at (ps ++ q ∷ []) j)) (sym (before x.0 x.1.within))
+            (cheapest j (cases_lt j (length ps)) inside fits);
         first = λ j low fits.
             let w = x.1.within in
             let b = before j (omega arith) in
@@ -70,7 +72,8 @@ module _ (h : Hyper) (k l : ℕ) (ps : List (List ℕ)) (q : List ℕ) where
       }
 
   -- the next placement leads where it fits and is cheaper than each that fits
-  now_first : Fits h k l q → ((j : ℕ) → j < length ps → Fits h k l (partition_at ps j) → cost h q < cost h (partition_at ps j)) → first_cheapest h k l (ps ++ q ∷ []) ≡ Some q
+  now_first : Fits h k l q → ((j : ℕ) → j < length ps → Fits h k l (partition_at ps j) → cost h q < cost h (partition_at ps j)) →
+      first_cheapest h k l (ps ++ q ∷ []) ≡ Some q
   now_first fits better = only_cheapest_is_first h k l (ps ++ q ∷ []) (length ps) at ∙ ap (λ (r : List ℕ). Some r) last
     where
       dearer : (j : ℕ) → j < length ps → Fits h k l (partition_at (ps ++ q ∷ []) j) → cost h q < cost h (partition_at (ps ++ q ∷ []) j)
@@ -89,23 +92,28 @@ module _ (h : Hyper) (k l : ℕ) (ps : List (List ℕ)) (q : List ℕ) where
       at = record {
         within = let n = one_more in omega arith;
         fits = subst (Fits h k l) (sym last) fits;
-        cheapest = λ j inside fit. subst (λ (r : List ℕ). cost h r ≤ cost h (partition_at (ps ++ q ∷ []) j)) (sym last) (cheapest j (cases_lt j (length ps)) inside fit);
+        cheapest = λ j inside fit. subst (λ (r : List ℕ). cost h r ≤ cost h (partition_at (ps ++ q ∷ []) j)) (sym last)
+            (cheapest j (cases_lt j (length ps)) inside fit);
         first = λ j low fit. subst (λ (r : List ℕ). cost h r < cost h (partition_at (ps ++ q ∷ []) j)) (sym last) (dearer j low fit);
       }
 
-  pub stays : (leader : Leader) → Leads h k l ps leader → (Fits h k l q → (leader.cost ≤ cost h q) × (cost h q < 2 ^ 57)) → Leads h k l (ps ++ q ∷ []) leader
+  pub stays : (leader : Leader) → Leads h k l ps leader → (Fits h k l q → (leader.cost ≤ cost h q) × (cost h q < 2 ^ 57)) → Leads h k l (ps ++ q ∷ [])
+      leader
   stays leader leads worse = record { first = by leader.blocks leads.first leads.cost; cost = leads.cost }
     where
       by : (best : Option (List ℕ)) → first_cheapest h k l ps ≡ best → leader.cost ≡ leading_cost h best → first_cheapest h k l (ps ++ q ∷ []) ≡ best
       by None e c =
           none_leads h k l (ps ++ q ∷ [])
-          (All-push (λ p. Fits h k l p → ⊥) ps q (none_is_cheapest h k l ps e) (λ fits. let w = worse fits in let a = w.0 in let b = w.1 in absurd (omega arith)))
+          (All-push (λ p. Fits h k l p → ⊥) ps q (none_is_cheapest h k l ps e) (λ fits. let w = worse fits in let a = w.0 in let b = w.1 in
+          absurd (omega arith)))
       by (Some p) e c = still_first p e (λ fits. let w = (worse fits).0 in omega arith)
 
-  pub gives_way : (leader : Leader) → Leads h k l ps leader → Fits h k l q → cost h q < leader.cost → Leads h k l (ps ++ q ∷ []) (record { blocks = Some q; cost = cost h q })
+  pub gives_way : (leader : Leader) → Leads h k l ps leader → Fits h k l q → cost h q < leader.cost → Leads h k l (ps ++ q ∷ [])
+      (record { blocks = Some q; cost = cost h q })
   gives_way leader leads fits less = record { first = now_first fits (by leader.blocks leads.first leads.cost); cost = refl }
     where
-      by : (best : Option (List ℕ)) → first_cheapest h k l ps ≡ best → leader.cost ≡ leading_cost h best → (j : ℕ) → j < length ps → Fits h k l (partition_at ps j) → cost h q < cost h (partition_at ps j)
+      by : (best : Option (List ℕ)) → first_cheapest h k l ps ≡ best → leader.cost ≡ leading_cost h best → (j : ℕ) → j < length ps →
+          Fits h k l (partition_at ps j) → cost h q < cost h (partition_at ps j)
       by None e c j low fit = absurd (none_is_cheapest h k l ps e j [] low fit)
       by (Some p) e c j low fit =
           let x = cheapest_is_first h k l ps p e in
@@ -126,7 +134,8 @@ module _ (h : Hyper) (k seed : ℕ) where
       let n : length (range_with_len 0 8) ≡ 8 = length-range_with_len 0 8 in
       let m = length-map (range_with_len 0 8) place in
       take_more (map place (range_with_len 0 8)) s [] (omega arith)
-      ∙ ap (λ p. drawn_upto s ++ p ∷ []) (get_or-map place (range_with_len 0 8) s 0 [] (omega arith) ∙ ap place (get_or-range_with_len 0 8 s 0 low ∙ omega arith))
+      ∙ ap (λ p. drawn_upto s ++ p ∷ []) (get_or-map place (range_with_len 0 8) s 0 [] (omega arith) ∙
+      ap place (get_or-range_with_len 0 8 s 0 low ∙ omega arith))
 
   pub drawn_all : (s : ℕ) → 8 ≤ s → greedy h k ∷ drawn_upto s ≡ named h k seed
   drawn_all s high =

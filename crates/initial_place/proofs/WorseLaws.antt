@@ -23,7 +23,8 @@ no_worse_after h k l p q r x y = record {
 }
 
 -- the same of an answer
-pub answer_after : (h : Hyper) (k l : ℕ) (p q : List ℕ) (r : Result (List ℕ) NoMemory) → IsNoWorse h k l p q → IfOk r (IsNoWorse h k l q) → IfOk r (IsNoWorse h k l p)
+pub answer_after : (h : Hyper) (k l : ℕ) (p q : List ℕ) (r : Result (List ℕ) NoMemory) → IsNoWorse h k l p q → IfOk r (IsNoWorse h k l q) →
+    IfOk r (IsNoWorse h k l p)
 answer_after h k l p q (Ok s) x y = no_worse_after h k l p q s x y
 answer_after h k l p q (Err e) x y = tt
 
@@ -32,7 +33,8 @@ pub fits_after : (h : Hyper) (k l : ℕ) (ps : List (List ℕ)) (p q : List ℕ)
 fits_after h k l ps p q best worse = let x = cheapest_is_first h k l ps p best in worse.fits (subst (Fits h k l) (sym x.2) x.1.fits)
 
 -- and it costs no more than any of them
-pub no_dearer_after : (h : Hyper) (k l : ℕ) (ps : List (List ℕ)) (p q : List ℕ) → first_cheapest h k l ps ≡ Some p → IsNoWorse h k l p q → IsNoDearer h k l ps q
+pub no_dearer_after : (h : Hyper) (k l : ℕ) (ps : List (List ℕ)) (p q : List ℕ) → first_cheapest h k l ps ≡ Some p → IsNoWorse h k l p q →
+    IsNoDearer h k l ps q
 no_dearer_after h k l ps p q best worse i d low fits =
     let x = cheapest_is_first h k l ps p best in
     let same : get_or ps i d ≡ partition_at ps i = get_or_default ps i d [] low in

@@ -52,7 +52,8 @@ impl Leader {
     ) -> Result<(), NoMemory>
         requires few { k ≤ 256 }
         requires partition { IfOk placed (IsPartition h.now k) }
-        ensures { (l : ℕ) (ps : List (List ℕ)) (q : List ℕ) → Leads h.now k l ps self.old → IsTried h.now k l q placed → OnOk result (Leads h.now k l (ps ++ q ∷ []) self.new) }
+        ensures { (l : ℕ) (ps : List (List ℕ)) (q : List ℕ) → Leads h.now k l ps self.old →
+            IsTried h.now k l q placed → OnOk result (Leads h.now k l (ps ++ q ∷ []) self.new) }
     {
         match placed {
             Ok(blocks) => {

@@ -99,7 +99,12 @@ fn best_of_tries<R: Threads + Sync>(
     requires suits { Suits h.now k }
     requires fixed { IsFixedWithin h.now k }
     requires vertices { 0 < vertex_count h.now }
-    requires frame { frame.now ≡ record { vertices = vertex_count h.now; whole = vertex_count h.now; all = k; blocks = k } }
+    requires frame { frame.now ≡ record {
+      vertices = vertex_count h.now;
+      whole = vertex_count h.now;
+      all = k;
+      blocks = k;
+    } }
     requires rest { rest.now ≡ vertex_count h.now }
     requires tries { tries ≤ 8 }
     requires best { IsPartition h.now k best }
@@ -135,7 +140,12 @@ fn best_of_throws<R: Threads + Sync>(
     requires suits { Suits h.now k }
     requires fixed { IsFixedWithin h.now k }
     requires vertices { 0 < vertex_count h.now }
-    requires frame { frame.now ≡ record { vertices = vertex_count h.now; whole = vertex_count h.now; all = k; blocks = k } }
+    requires frame { frame.now ≡ record {
+      vertices = vertex_count h.now;
+      whole = vertex_count h.now;
+      all = k;
+      blocks = k;
+    } }
     requires rest { rest.now ≡ vertex_count h.now }
     requires best { IsPartition h.now k best }
     ensures { IfOk result (IsNoWorse h.now k limit best) }
@@ -165,7 +175,12 @@ fn best_of_round<R: Threads + Sync>(
     requires suits { Suits h.now k }
     requires fixed { IsFixedWithin h.now k }
     requires vertices { 0 < vertex_count h.now }
-    requires frame { frame.now ≡ record { vertices = vertex_count h.now; whole = vertex_count h.now; all = k; blocks = k } }
+    requires frame { frame.now ≡ record {
+      vertices = vertex_count h.now;
+      whole = vertex_count h.now;
+      all = k;
+      blocks = k;
+    } }
     requires rest { rest.now ≡ vertex_count h.now }
     requires best { IsPartition h.now k best }
     ensures { IfOk result (IsNoWorse h.now k limit best) }

@@ -17,7 +17,8 @@ leads_same f g c d m n l k a b e h u =
     (subst (λ (x : Hyper). LeadsUp g n x l) (sym e)
     (subst (LeadsUp g n d) (sym h) u)))
 
-module _ (base : Hyper) (maps : List (List ℕ)) (ledgers : List (List Merged)) (above : List Hyper) (clusters : List ℕ) (coarse : Hyper) (ledger : List Merged)
+module _ (base : Hyper) (maps : List (List ℕ)) (ledgers : List (List Merged)) (above : List Hyper) (clusters : List ℕ) (coarse : Hyper)
+    (ledger : List Merged)
     (old : IsStacked (record { base = base; maps = maps; ledgers = ledgers }) above) (room : length maps + 1 < 2 ^ 32 - 1)
     (made : coarse ≡ contract (coarsest base maps) clusters (cluster_count clusters)) (leads : LeadsUp (coarsest base maps) clusters coarse ledger) where
   long : length (maps ++ clusters ∷ []) ≡ suc (length maps)
@@ -35,7 +36,8 @@ module _ (base : Hyper) (maps : List (List ℕ)) (ledgers : List (List Merged)) 
     leads = λ i l. leads_at i (cases_lt i (length maps)) l;
   }
     where
-      at : (i : ℕ) (h : Hyper) → (i < length maps) ⊎ (length maps ≤ i) → i < length (maps ++ clusters ∷ []) → get_or (above ++ coarse ∷ []) i h ≡ level base (maps ++ clusters ∷ []) (suc i)
+      at : (i : ℕ) (h : Hyper) → (i < length maps) ⊎ (length maps ≤ i) → i < length (maps ++ clusters ∷ []) → get_or (above ++ coarse ∷ []) i h ≡ level base
+          (maps ++ clusters ∷ []) (suc i)
       at i h (inl k) l =
           let o = old.levels in
           get_or_append_left above (coarse ∷ []) h i (omega arith) ∙ old.at i h k ∙ sym (levels_stay base maps clusters (suc i) (omega arith))
@@ -48,7 +50,8 @@ module _ (base : Hyper) (maps : List (List ℕ)) (ledgers : List (List Merged)) 
       no_ledger = []
 
       leads_at : (i : ℕ) → (i < length maps) ⊎ (length maps ≤ i) → i < length (maps ++ clusters ∷ [])
-          → LeadsUp (level base (maps ++ clusters ∷ []) i) (map_of (maps ++ clusters ∷ []) i) (level base (maps ++ clusters ∷ []) (suc i)) (get_or (ledgers ++ ledger ∷ []) i [])
+          → LeadsUp (level base (maps ++ clusters ∷ []) i) (map_of (maps ++ clusters ∷ []) i) (level base (maps ++ clusters ∷ []) (suc i))
+          (get_or (ledgers ++ ledger ∷ []) i [])
       leads_at i (inl k) l =
           let o = old.ledgers in
           leads_same _ _ _ _ _ _ _ _

@@ -29,7 +29,8 @@ impl Model for LevelStack {
 
     ghost view = { λ s. record { base = s.base; maps = s.maps; ledgers = s.ledgers.items } };
 
-    ghost invariant = { λ s. IsStacked (record { base = s.base; maps = s.maps; ledgers = s.ledgers.items }) s.above.items };
+    ghost invariant = { λ s. IsStacked (record { base = s.base; maps = s.maps; ledgers = s.ledgers.items })
+        s.above.items };
 }
 
 impl LevelStack {
@@ -101,7 +102,8 @@ impl LevelStack {
     pub fn map(&self, i: u32) -> &[u32]
         requires { i < length self.now.maps }
         ensures value { result.now ≡ map_of self.now.maps i }
-        ensures leads { LeadsUp (level self.now.base self.now.maps i) result.now (level self.now.base self.now.maps (suc i)) (ledger_of self.now i) }
+        ensures leads { LeadsUp (level self.now.base self.now.maps i) result.now
+            (level self.now.base self.now.maps (suc i)) (ledger_of self.now i) }
     {
         self.maps.slice()[i as usize].slice()
     }
@@ -110,7 +112,8 @@ impl LevelStack {
     pub fn ledger(&self, i: u32) -> &MergeLedger
         requires { i < length self.now.maps }
         ensures value { result.now ≡ ledger_of self.now i }
-        ensures leads { LeadsUp (level self.now.base self.now.maps i) (map_of self.now.maps i) (level self.now.base self.now.maps (suc i)) result.now }
+        ensures leads { LeadsUp (level self.now.base self.now.maps i) (map_of self.now.maps i)
+            (level self.now.base self.now.maps (suc i)) result.now }
     {
         &self.ledgers[i as usize]
     }

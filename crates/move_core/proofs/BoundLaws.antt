@@ -1,5 +1,6 @@
 -- No word, gain or number of the books passes 64 bits.
-use Rattle.std.proofs.Common.{◌≡◌, ℕ, zero, suc, ◌+◌, ◌-◌, ◌*◌, ◌^◌, ◌<◌, ◌≤◌, inl, inr, Bool, true, false, max, List, [], ◌∷◌, map, length, length-append, get_or, if◌then◌else◌, All, ℤ, pos, ◌+ℤ◌, ◌≤ℤ◌, refl, sym, ap, ◌∙◌, subst, arith}
+use Rattle.std.proofs.Common.{◌≡◌, ℕ, zero, suc, ◌+◌, ◌-◌, ◌*◌, ◌^◌, ◌<◌, ◌≤◌, inl, inr, Bool, true, false, max, List, [], ◌∷◌, map, length}
+use Rattle.std.proofs.Common.{length-append, get_or, if◌then◌else◌, All, ℤ, pos, ◌+ℤ◌, ◌≤ℤ◌, refl, sym, ap, ◌∙◌, subst, arith}
 use Rattle.std.proofs.lemmas.Int.{ints}
 use Rattle.std.proofs.lemmas.Grind.{get_or_default_zero}
 use Rattle.std.proofs.Math.Nat.{mul-le-mul_left}
@@ -10,7 +11,9 @@ use Rattle.hg_defs.specs.declared.moves.Move.{Move}
 use Rattle.hg_defs.specs.Sums.{total, total_z, sum_below}
 use Rattle.hg_defs.specs.Hypergraph.{Hyper, Net, IsWithinLimits, vertex_count, net_count, net_of, weight_of, total_weight}
 use Rattle.hg_defs.specs.Pins.{present}
-use Rattle.hg_defs.proofs.SumLaws.{weight_if, weight_if-le, total-le, total-same, total-append, total-ones, total-by_index, total_at-le, total-take-le, sum_below-total, sum_below-le, sum_below-same, sum_below-swap, sum_below-constant, sum_below-scale, sum_below-add, sum_below-only, sum_below-zero, weight_if-other, weight_in-le, total-scale_right}
+use Rattle.hg_defs.proofs.SumLaws.{weight_if, weight_if-le, total-le, total-same, total-append, total-ones, total-by_index, total_at-le, total-take-le}
+use Rattle.hg_defs.proofs.SumLaws.{sum_below-total, sum_below-le, sum_below-same, sum_below-swap, sum_below-constant, sum_below-scale, sum_below-add}
+use Rattle.hg_defs.proofs.SumLaws.{sum_below-only, sum_below-zero, weight_if-other, weight_in-le, total-scale_right}
 use Rattle.hg_defs.proofs.DistinctLaws.{present-le}
 use Rattle.move_core.specs.declared.account.Account.{Account}
 use Rattle.move_core.specs.declared.account.Owed.TheVariants.{Nothing, Up, Down}
@@ -20,7 +23,8 @@ use Rattle.hg_defs.specs.Incidence.{nets_of}
 use Rattle.move_core.specs.State.{Setup, Readings, times, blank}
 use Rattle.move_core.specs.Events.{moved_vertices}
 use Rattle.move_core.specs.Stages.{number_at, booked_at}
-use Rattle.move_core.specs.Balance.{Claims, Moves, InBalance, IsBetween, IsBookedWithin, carried, drawn, stage_vertices, reserved_weight, arrived, owed_down, weights_of}
+use Rattle.move_core.specs.Balance.{Claims, Moves, InBalance, IsBetween, IsBookedWithin, carried, drawn}
+use Rattle.move_core.specs.Balance.{stage_vertices, reserved_weight, arrived, owed_down, weights_of}
 use Rattle.move_core.proofs.RestLaws.{seed_room}
 use Rattle.move_core.proofs.HeldLaws.{carried_below, carried_once, total-by_times}
 use Rattle.move_core.proofs.NetLaws.{times-nets_of, has_pin, net_at-below}
@@ -96,7 +100,8 @@ module _ (s : Setup) (r : Readings) (accounts : List Account) (b : InBalance s r
   pub next_small : r.next ≤ vertex_count s.graph
   next_small =
       let n = r.next in
-      let a = sum_below-same (λ i. total (λ x. times i (drawn x)) accounts) (λ i. 1) n (λ i l. b.numbers.each i ∙ ap (λ t. if t then 1 else 0) (lt-ltb i n l))
+      let a = sum_below-same (λ i. total (λ x. times i (drawn x)) accounts) (λ i. 1) n (λ i l. b.numbers.each i ∙ ap (λ t. if t then 1 else 0)
+      (lt-ltb i n l))
       in
       let c = sum_below-constant 1 n in
       let d = sum_below-total (λ i x. times i (drawn x)) n accounts in
@@ -194,7 +199,8 @@ vertex_weights-sum h =
     let b = sum_below-swap (λ v e. times v (net_of h e).pins * w e) n m in
     let c = sum_below-le (λ e. sum_below (λ v. times v (net_of h e).pins * w e) n) (λ e. (net_of h e).weight * length (net_of h e).pins) m
     (λ e q.
-    let x = sum_below-same (λ v. times v (net_of h e).pins * w e) (λ v. w e * times v (net_of h e).pins) n (λ v l. turned (times v (net_of h e).pins) (w e)) in
+    let x = sum_below-same (λ v. times v (net_of h e).pins * w e) (λ v. w e * times v (net_of h e).pins) n
+    (λ v l. turned (times v (net_of h e).pins) (w e)) in
     let y = sum_below-scale (w e) (λ v. times v (net_of h e).pins) n in
     let z = listed n (net_of h e).pins in
     let u = mul-le-mul_left (w e) z in

@@ -1,5 +1,6 @@
 -- The books stay in balance over Claim, Unclaim and Seed.
-use Rattle.std.proofs.Common.{◌≡◌, ℕ, ◌+◌, ◌^◌, ◌<◌, ◌≤◌, inl, inr, true, false, List, [], ◌++◌, map, length, get_or, set, nat_eq, All, ℤ, refl, subst, arith}
+use Rattle.std.proofs.Common.{◌≡◌, ℕ, ◌+◌, ◌^◌, ◌<◌, ◌≤◌, inl, inr, true, false, List, [], ◌++◌, map}
+use Rattle.std.proofs.Common.{length, get_or, set, nat_eq, All, ℤ, refl, subst, arith}
 use Rattle.std.proofs.lemmas.Bool.{cases_eq}
 use Rattle.hg_defs.specs.declared.moves.Move.{Move}
 use Rattle.hg_defs.specs.Hypergraph.{vertex_count, net_count}
@@ -10,7 +11,8 @@ use Rattle.move_core.specs.declared.account.Stage.TheVariants.{Idle}
 use Rattle.move_core.specs.declared.events.Word.TheVariants as word
 use Rattle.hg_defs.specs.Incidence.{nets_of}
 use Rattle.move_core.specs.State.{Setup, Readings, times, blank}
-use Rattle.move_core.specs.Balance.{Claims, Rest, InBalance, IsSetup, IsGain, IsMoveFromOpening, IsStageMove, IsInStep, IsOwing, IsBetween, IsBookedWithin, carried, stage_vertices, weights_of}
+use Rattle.move_core.specs.Balance.{Claims, Rest, InBalance, IsSetup, IsGain, IsMoveFromOpening, IsStageMove, IsInStep}
+use Rattle.move_core.specs.Balance.{IsOwing, IsBetween, IsBookedWithin, carried, stage_vertices, weights_of}
 use Rattle.move_core.proofs.Words.{WordsAfter}
 use Rattle.move_core.proofs.TimesLaws.{all_changed, all_at}
 use Rattle.move_core.proofs.ClaimLaws.{claims_kept}

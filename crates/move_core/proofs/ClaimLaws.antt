@@ -1,5 +1,6 @@
 -- The clause on claims, after each event that changes claims or held vertices, and after all others.
-use Rattle.std.proofs.Common.{◌≡◌, ℕ, ◌+◌, ◌<◌, ◌≤◌, ◌≢◌, Bool, true, false, List, length, get_or, set, nat_eq, if◌then◌else◌, All, refl, sym, ap, ◌∙◌, subst, arith, nat_cmp}
+use Rattle.std.proofs.Common.{◌≡◌, ℕ, ◌+◌, ◌<◌, ◌≤◌, ◌≢◌, Bool, true, false, List, length, get_or, set, nat_eq}
+use Rattle.std.proofs.Common.{if◌then◌else◌, All, refl, sym, ap, ◌∙◌, subst, arith, nat_cmp}
 use Rattle.std.specs.BTreeSet.{insert_key}
 use Rattle.std.specs.Set.{remove_key}
 use Rattle.std.proofs.lemmas.Bool.{eqb-true, eqb-false, true≢false}
@@ -10,7 +11,8 @@ use Rattle.move_core.specs.State.{Readings, times, blank}
 use Rattle.move_core.specs.Balance.{Claims}
 use Rattle.move_core.proofs.TimesLaws.{times-insert_key, times-remove_key, All-insert_key, All-remove_key, total_changed, total_at, all_at, all_changed}
 
-module _ (h : Hyper) (r r' : Readings) (accounts : List Account) (i : ℕ) (a a' : Account) (l : i < length accounts) (at : get_or accounts i (blank false) ≡ a)
+module _ (h : Hyper) (r r' : Readings) (accounts : List Account) (i : ℕ) (a a' : Account) (l : i < length accounts)
+    (at : get_or accounts i (blank false) ≡ a)
     (c : Claims h r accounts) where
   pub claims_changed : ((v : ℕ) → v < vertex_count h → r'.claim v + times v a.held ≡ r.claim v + times v a'.held)
       → ((v : ℕ) → v < vertex_count h → r'.claim v ≤ 1) → ((v : ℕ) → v < vertex_count h → is_free h v ≡ false → r'.claim v ≡ 0)

@@ -9,7 +9,8 @@ use Rattle.move_core.specs.Events.{price_at}
 use Rattle.move_core.specs.Balance.{Sum}
 use Rattle.move_core.proofs.TimesLaws.{total_z_changed, pick}
 
-module _ (s : Setup) (r r' : Readings) (accounts : List Account) (i : ℕ) (a a' : Account) (l : i < length accounts) (at : get_or accounts i (blank false) ≡ a)
+module _ (s : Setup) (r r' : Readings) (accounts : List Account) (i : ℕ) (a a' : Account) (l : i < length accounts)
+    (at : get_or accounts i (blank false) ≡ a)
     (c : Sum s r accounts) where
   pub sum_kept : a'.gain ≡ a.gain → ((e : ℕ) → e < net_count s.graph → r'.spread e ≡ r.spread e) → Sum s r' (set accounts i a')
   sum_kept e same = record {

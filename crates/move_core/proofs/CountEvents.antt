@@ -1,5 +1,6 @@
 -- The books stay in balance over Raise and Lower.
-use Rattle.std.proofs.Common.{◌≡◌, ℕ, ◌+◌, ◌-◌, ◌<◌, ◌≤◌, Bool, true, false, List, length, get_or, slice_index, take, set, nat_eq, if◌then◌else◌, ℤ, refl, sym, ap, subst, arith}
+use Rattle.std.proofs.Common.{◌≡◌, ℕ, ◌+◌, ◌-◌, ◌<◌, ◌≤◌, Bool, true, false, List, length, get_or, slice_index, take}
+use Rattle.std.proofs.Common.{set, nat_eq, if◌then◌else◌, ℤ, refl, sym, ap, subst, arith}
 use Rattle.std.proofs.lemmas.Int.{ints}
 use Rattle.std.proofs.lemmas.Bool.{true≢false, eqb-true, eqb-false}
 use Rattle.hg_defs.specs.declared.moves.Move.{Move}
@@ -14,7 +15,8 @@ use Rattle.move_core.specs.declared.account.Stage.TheVariants.{Idle, Moving}
 use Rattle.move_core.specs.declared.events.Word.TheVariants as word
 use Rattle.hg_defs.specs.Incidence.{nets_of}
 use Rattle.move_core.specs.State.{Setup, Readings, times, blank}
-use Rattle.move_core.specs.Balance.{Counts, Spreads, InBalance, IsSetup, IsMoveFromOpening, IsStageMove, IsInStep, IsBetween, IsBookedWithin, lowers, weights_of}
+use Rattle.move_core.specs.Balance.{Counts, Spreads, InBalance, IsSetup, IsMoveFromOpening, IsStageMove}
+use Rattle.move_core.specs.Balance.{IsInStep, IsBetween, IsBookedWithin, lowers, weights_of}
 use Rattle.move_core.proofs.Words.{WordsAfter}
 use Rattle.move_core.proofs.TimesLaws.{all_at}
 use Rattle.move_core.proofs.LoadLaws.{loads_kept}
@@ -63,7 +65,8 @@ module _ (s : Setup) (ok : IsSetup s) (r r' : Readings) (accounts : List Account
         b.moves.stages
 
     booked_before : IsBetween (weights_of s.graph (take raised (nets_of s.graph v))) (weights_of s.graph (take lowered (nets_of s.graph v))) booked
-    booked_before = all_at accounts i (acc (Moving v from to number true raised lowered Nothing booked)) (acc Idle) l at (λ x. IsBookedWithin s.graph x.stage)
+    booked_before = all_at accounts i (acc (Moving v from to number true raised lowered Nothing booked)) (acc Idle) l at
+        (λ x. IsBookedWithin s.graph x.stage)
         b.bounds.stages
 
     -- what a step on the counts leaves alone
@@ -91,7 +94,8 @@ module _ (s : Setup) (ok : IsSetup s) (r r' : Readings) (accounts : List Account
 
     -- Raise
     pub raise_kept : raised ≡ lowered → raised < length (nets_of s.graph v) → WordsAfter s r r' (word.Count (net raised) to) (r.count (net raised) to + 1)
-        → InBalance s r' (set accounts i (acc (Moving v from to number true (raised + 1) lowered (if nat_eq (r.count (net raised) to) 0 then Up else Nothing)
+        → InBalance s r' (set accounts i (acc (Moving v from to number true (raised + 1) lowered
+        (if nat_eq (r.count (net raised) to) 0 then Up else Nothing)
         booked)))
     raise_kept even place w = go (nat_eq (r.count (net raised) to) 0) refl
       where

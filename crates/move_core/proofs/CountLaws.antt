@@ -1,25 +1,29 @@
 -- The clause on counts, after a Raise, after a Lower, and after all other events; no Lower finds 0, and no count
 -- passes the number of pins.
-use Rattle.std.proofs.Common.{◌≡◌, ℕ, ◌+◌, ◌-◌, ◌*◌, ◌<◌, ◌≤◌, ◌≢◌, inl, inr, Bool, true, false, ◌&&◌, List, [], ◌∷◌, map, length, get_or, take, set, nat_eq, if◌then◌else◌, All, refl, sym, ap, ◌∙◌, subst, arith}
+use Rattle.std.proofs.Common.{◌≡◌, ℕ, ◌+◌, ◌-◌, ◌*◌, ◌<◌, ◌≤◌, ◌≢◌, inl, inr, Bool, true, false, ◌&&◌, List, [], ◌∷◌, map, length}
+use Rattle.std.proofs.Common.{get_or, take, set, nat_eq, if◌then◌else◌, All, refl, sym, ap, ◌∙◌, subst, arith}
 use Rattle.std.proofs.lemmas.List.Elements.{All-head, All-tail}
 use Rattle.std.proofs.lemmas.Bool.{cases_eq}
 use Rattle.hg_defs.specs.declared.moves.Move.{Move}
 use Rattle.hg_defs.specs.Sums.{total}
 use Rattle.hg_defs.specs.Hypergraph.{Hyper, IsHypergraph, vertex_count, net_count, net_of}
 use Rattle.hg_defs.specs.Partition.{block_of}
-use Rattle.hg_defs.proofs.SumLaws.{weight_if, weight_if-same, weight_if-other, total-same, total-same_each, total-add, total-append, total-le, total-zero, total-take-le, total-ones}
+use Rattle.hg_defs.proofs.SumLaws.{weight_if, weight_if-same, weight_if-other, total-same, total-same_each, total-add}
+use Rattle.hg_defs.proofs.SumLaws.{total-append, total-le, total-zero, total-take-le, total-ones}
 use Rattle.move_core.specs.declared.account.Account.{Account}
 use Rattle.move_core.specs.declared.account.Stage.{Stage}
 use Rattle.move_core.specs.declared.account.Stage.TheVariants.{Idle, Refused, Granted, Moving}
 use Rattle.hg_defs.specs.Incidence.{nets_of}
 use Rattle.move_core.specs.State.{Setup, Readings, times, blank}
 use Rattle.move_core.specs.Events.{moved_vertices}
-use Rattle.move_core.specs.Balance.{Claims, Moves, Counts, IsMoveFromOpening, IsStageMove, IsInStep, carried, stage_vertices, raises, lowers, stage_raises, stage_lowers}
+use Rattle.move_core.specs.Balance.{Claims, Moves, Counts, IsMoveFromOpening, IsStageMove, IsInStep, carried}
+use Rattle.move_core.specs.Balance.{stage_vertices, raises, lowers, stage_raises, stage_lowers}
 use Rattle.move_core.proofs.TimesLaws.{total_changed, total_unchanged, all_changed, pick_two, times_at, total-weight_if, total_strict}
 use Rattle.move_core.proofs.NetLaws.{times_pin, pin-below, times-nets_of-le}
 use Rattle.move_core.proofs.HeldLaws.{carried_once}
 
-module _ (s : Setup) (r r' : Readings) (accounts : List Account) (i : ℕ) (a a' : Account) (l : i < length accounts) (at : get_or accounts i (blank false) ≡ a)
+module _ (s : Setup) (r r' : Readings) (accounts : List Account) (i : ℕ) (a a' : Account) (l : i < length accounts)
+    (at : get_or accounts i (blank false) ≡ a)
     (c : Counts s r accounts) where
   -- the counts stay, and what was raised and lowered too
   pub counts_kept : ((u e b : ℕ) → e < net_count s.graph → 0 < times u (net_of s.graph e).pins → raises s.graph u e b a' ≡ raises s.graph u e b a)
@@ -46,7 +50,8 @@ module _ (s : Setup) (r r' : Readings) (accounts : List Account) (i : ℕ) (a a'
   pub counts_raised : IsHypergraph s.graph → (v e0 to : ℕ) → e0 < net_count s.graph → 0 < times v (net_of s.graph e0).pins
       → ((u e b : ℕ) → raises s.graph u e b a' ≡ raises s.graph u e b a + weight_if v u (weight_if e0 e (weight_if to b 1)))
       → ((u e : ℕ) → lowers s.graph u e a' ≡ lowers s.graph u e a) → ((e b : ℕ) → e < net_count s.graph → b < s.blocks
-      → r'.count e b ≡ (if nat_eq e0 e && nat_eq to b then r.count e0 to + 1 else r.count e b)) → IsInStep s.graph a'.stage → Counts s r' (set accounts i a')
+      → r'.count e b ≡ (if nat_eq e0 e && nat_eq to b then r.count e0 to + 1 else r.count e b)) → IsInStep s.graph a'.stage →
+      Counts s r' (set accounts i a')
   counts_raised ok v e0 to l0 pin up low word step = record {
     word = λ e b le lb.
         let pins = (net_of s.graph e).pins in
@@ -104,12 +109,14 @@ module _ (s : Setup) (r r' : Readings) (accounts : List Account) (i : ℕ) (a a'
         let d : ℕ = weight_if e0 e 1 in
         let g = total-same_each (λ u. (if nat_eq (block_of s.opening u) b then 1 else 0) + total (raises s.graph u e b) (set accounts i a'))
         (λ u. (if nat_eq (block_of s.opening u) b then 1 else 0) + total (raises s.graph u e b) accounts)
-        (λ u. ap (λ x. (if nat_eq (block_of s.opening u) b then 1 else 0) + x) (total_unchanged accounts i a a' l at (raises s.graph u e b) (up u e b))) pins in
+        (λ u. ap (λ x. (if nat_eq (block_of s.opening u) b then 1 else 0) + x) (total_unchanged accounts i a a' l at (raises s.graph u e b) (up u e b)))
+        pins in
         let f = total-same_each (λ u. if nat_eq (block_of s.opening u) b then total (lowers s.graph u e) (set accounts i a') else 0)
         (λ u. (if nat_eq (block_of s.opening u) b then total (lowers s.graph u e) accounts else 0) + weight_if v u (weight_if from b d))
         (λ u. at_pin u b d (total (lowers s.graph u e) (set accounts i a')) (total (lowers s.graph u e) accounts)
         (let t = total_changed accounts i a a' l at (lowers s.graph u e) in let q = low u e in omega arith)) pins in
-        let h = total-add (λ u. if nat_eq (block_of s.opening u) b then total (lowers s.graph u e) accounts else 0) (λ u. weight_if v u (weight_if from b d))
+        let h = total-add (λ u. if nat_eq (block_of s.opening u) b then total (lowers s.graph u e) accounts else 0)
+        (λ u. weight_if v u (weight_if from b d))
         pins in
         let j = total-weight_if v (weight_if from b d) pins in
         let w = c.word e b le lb in

@@ -1,5 +1,6 @@
 -- Whether an event is enabled, by what the machine can look up.
-use Rattle.std.proofs.Common.{◌≡◌, ◌≢◌, ℕ, ◌<◌, ◌≤◌, inl, inr, true, false, ◌&&◌, List, [], ◌∷◌, map, length, slice_index, nat_eq, All, refl, sym, ap, ◌∙◌, arith}
+use Rattle.std.proofs.Common.{◌≡◌, ◌≢◌, ℕ, ◌<◌, ◌≤◌, inl, inr, true, false, ◌&&◌, List, [], ◌∷◌, map, length}
+use Rattle.std.proofs.Common.{slice_index, nat_eq, All, refl, sym, ap, ◌∙◌, arith}
 use Rattle.std.proofs.lemmas.Bool.{eq-eqb, ne_eqb, cases_lt, lt-ltb}
 use Rattle.std.proofs.lemmas.List.{get_or_past}
 use Rattle.std.proofs.lemmas.List.Elements.{All-nil, All-cons, All-head, All-tail}
@@ -34,7 +35,8 @@ module _ (s : State) (k : IsBooks s) (i v : ℕ) (l : i < length s.accounts) (m 
   named_anew p =
       let a = account s i in
       let done = all_at s.accounts i a a l refl (λ (x : Account). All (λ z. (readings s).name z.vertex ≡ z.to) x.moves) k.balance.names.done in
-      let moves = all_at s.accounts i a a l refl (λ (x : Account). All (λ z. IsMoveFromOpening s.setup z.vertex z.from z.to) x.moves) k.balance.moves.done in
+      let moves = all_at s.accounts i a a l refl (λ (x : Account). All (λ z. IsMoveFromOpening s.setup z.vertex z.from z.to) x.moves)
+      k.balance.moves.done in
       let P : ℕ → Type 0 = λ u. (readings s).name u ≢ block_of s.setup.opening u in
       All_at_times P (moved_vertices a) v (to-map P a.moves (λ j d o e. (moves j d o).other (sym (done j d o) ∙ e))) p
 

@@ -1,5 +1,6 @@
 -- Every enabled event keeps the books in balance, and its word exists.
-use Rattle.std.proofs.Common.{◌≡◌, ℕ, ◌+◌, ◌-◌, ◌^◌, ◌<◌, ◌≤◌, ◌≢◌, inl, inr, Bool, true, false, not, ◌&&◌, List, [], ◌∷◌, ◌++◌, map, length, get_or, slice_index, slice_set, nat_eq, nat_lt, nat_le, if◌then◌else◌, ℤ, refl, sym, ap, ◌∙◌, subst, arith, nat_cmp}
+use Rattle.std.proofs.Common.{◌≡◌, ℕ, ◌+◌, ◌-◌, ◌^◌, ◌<◌, ◌≤◌, ◌≢◌, inl, inr, Bool, true, false, not, ◌&&◌, List, [], ◌∷◌, ◌++◌, map, length, get_or}
+use Rattle.std.proofs.Common.{slice_index, slice_set, nat_eq, nat_lt, nat_le, if◌then◌else◌, ℤ, refl, sym, ap, ◌∙◌, subst, arith, nat_cmp}
 use Rattle.std.proofs.lemmas.Bool.{eqb-true, eqb-false, ltb-true, leb-true, lt-ltb, not-true, and_parts, and_from, cases_lt}
 use Rattle.std.proofs.lemmas.List.{get_or_past, set-get_or}
 use Rattle.std.specs.BTreeSet.{insert_key}
@@ -15,11 +16,13 @@ use Rattle.move_core.specs.declared.account.Owed.TheVariants.{Nothing, Up, Down}
 use Rattle.move_core.specs.declared.account.Stage.{Stage}
 use Rattle.move_core.specs.declared.account.Stage.TheVariants.{Idle, Refused, Granted, Moving}
 use Rattle.move_core.specs.declared.events.Event.{Event}
-use Rattle.move_core.specs.declared.events.Event.TheVariants.{Claim, Unclaim, Reserve, TakeBack, Draw, Name, Raise, Widen, Lower, Narrow, GiveBack, Seed, Peek, Split, Join}
+use Rattle.move_core.specs.declared.events.Event.TheVariants.{Claim, Unclaim, Reserve, TakeBack, Draw, Name, Raise, Widen, Lower}
+use Rattle.move_core.specs.declared.events.Event.TheVariants.{Narrow, GiveBack, Seed, Peek, Split, Join}
 use Rattle.move_core.specs.declared.events.Word.{Word}
 use Rattle.move_core.specs.declared.events.Word.TheVariants as word
 use Rattle.move_core.specs.State.{Setup, Readings, read, account_in, blank, times}
-use Rattle.move_core.specs.Events.{pass_of, word_of, write_of, account_after, may_step, others_agree_for, is_enabled_for, word_for, found_for, write_for, removed_by, removed_for, accounts_after_for, WritesWord, is_word, first_word, joined_with, widen_gain, narrow_gain}
+use Rattle.move_core.specs.Events.{pass_of, word_of, write_of, account_after, may_step, others_agree_for, is_enabled_for, word_for, found_for, write_for}
+use Rattle.move_core.specs.Events.{removed_by, removed_for, accounts_after_for, WritesWord, is_word, first_word, joined_with, widen_gain, narrow_gain}
 use Rattle.move_core.specs.Stages.{vertex_at, is_idle, owes_nothing, owes_up, owes_down}
 use Rattle.move_core.specs.Balance.{InBalance, IsSetup, IsStageMove, IsInStep, IsOwing, stage_vertices, reserved_weight}
 use Rattle.move_core.proofs.Words.{WordsAfter, words_after}
@@ -107,7 +110,8 @@ module _ (g : Setup) (ok : IsSetup g) (r : Readings) (accounts : List Account) (
         let y = weight_if-same to to (weight_of g.graph v) refl in
         omega arith
 
-    leaving_least : (v from : ℕ) → stage_vertices a.stage ≡ v ∷ [] → from ≡ block_of g.opening v → v < vertex_count g.graph → weight_of g.graph v ≤ r.load from
+    leaving_least : (v from : ℕ) → stage_vertices a.stage ≡ v ∷ [] → from ≡ block_of g.opening v → v < vertex_count g.graph → weight_of g.graph v ≤ r.load
+        from
     leaving_least v from e o k =
         let x = load_leaving g r accounts b.claims b.moves b.loads (let n = ok.opening.vertices in omega arith) i a l at from
         (subst (λ z. z < g.blocks) (sym o) (ok.opening.blocks v 0 (let n = ok.opening.vertices in omega arith))) in
@@ -119,7 +123,8 @@ module _ (g : Setup) (ok : IsSetup g) (r : Readings) (accounts : List Account) (
   opening_block : (v c : ℕ) → v < vertex_count g.graph → c ≡ block_of g.opening v → nat_lt c g.blocks ≡ true
   opening_block v c l e = lt-ltb c g.blocks (subst (λ x. x < g.blocks) (sym e) (ok.opening.blocks v 0 (let n = ok.opening.vertices in omega arith)))
 
-  count-is_word : (v j c : ℕ) → j < length (nets_of g.graph v) → nat_lt c g.blocks ≡ true → is_word g (word.Count (slice_index (nets_of g.graph v) j) c) ≡ true
+  count-is_word : (v j c : ℕ) → j < length (nets_of g.graph v) → nat_lt c g.blocks ≡ true → is_word g (word.Count (slice_index (nets_of g.graph v) j) c) ≡
+      true
   count-is_word v j c l h = and_from (nat_lt (slice_index (nets_of g.graph v) j) (net_count g.graph)) (nat_lt c g.blocks)
       (lt-ltb (slice_index (nets_of g.graph v) j) (net_count g.graph) (net_at-below g.graph v j l)) h
 
@@ -136,7 +141,8 @@ module _ (g : Setup) (ok : IsSetup g) (r : Readings) (accounts : List Account) (
           → (r' : Readings) → WordsAfter g r r' (word.Claim v) 1 → (z : Bool) → nat_eq (r.claim v) 0 ≡ z
           → InBalance g r' (slice_set accounts i (if z then staged (insert_key nat_cmp held v)
           moves numbers seeds gain Idle else staged held moves numbers seeds gain Idle))
-      go at vertex free r' w true q = claim_taken g ok r r' accounts i l b held moves numbers seeds gain at v (ltb-true v (vertex_count g.graph) vertex) free
+      go at vertex free r' w true q = claim_taken g ok r r' accounts i l b held moves numbers seeds gain at v (ltb-true v (vertex_count g.graph) vertex)
+          free
           (eqb-true (r.claim v) 0 q) w
       go at vertex free r' w false q = claim_left g ok r r' accounts i l b held moves numbers seeds gain at v (ltb-true v (vertex_count g.graph) vertex)
           (eqb-false (r.claim v) 0 q) w
@@ -297,12 +303,14 @@ module _ (g : Setup) (ok : IsSetup g) (r : Readings) (accounts : List Account) (
       by : (v from to number : ℕ) (named : Bool) (raised lowered : ℕ) (booked : ℤ) → raised ≡ lowered + 1
           → LawAt (Lower i) held moves numbers seeds gain (Moving v from to number named raised lowered Nothing booked)
       by v from to number false raised lowered booked odd at = let none =
-          (step_here i l (staged held moves numbers seeds gain (Moving v from to number false raised lowered Nothing booked)) at).3 refl in absurd (omega arith)
+          (step_here i l (staged held moves numbers seeds gain (Moving v from to number false raised lowered Nothing booked)) at).3 refl in
+          absurd (omega arith)
       by v from to number true raised lowered booked odd at =
           let a = staged held moves numbers seeds gain (Moving v from to number true raised lowered Nothing booked) in
           let most = (step_here i l a at).2 in
           let place : lowered < length (nets_of g.graph v) = omega arith in (
-            count-is_word v lowered from place (opening_block v from (vertex_law i l held moves numbers seeds gain v from to number true raised lowered Nothing
+            count-is_word v lowered from place (opening_block v from (vertex_law i l held moves numbers seeds gain v from to number true raised lowered
+                Nothing
                 booked at) (move_here i l a at).origin),
             lower_found g ok r r accounts i l b held moves numbers seeds gain v from to number raised lowered booked at place,
             λ r' w. lower_kept g ok r r' accounts i l b held moves numbers seeds gain v from to number raised lowered booked at odd place w,
@@ -352,7 +360,8 @@ module _ (g : Setup) (ok : IsSetup g) (r : Readings) (accounts : List Account) (
       let a = account_in accounts (pass_of x) in
       let p = allowed g accounts x h in
       let e = staged_at a p.live in
-      let k = subst (Kept x) (sym e) (law p.place a.held a.moves a.numbers a.seeds a.gain a.stage (subst (λ (z : Account). may_step g x z ≡ true) e p.step) e)
+      let k = subst (Kept x) (sym e) (law p.place a.held a.moves a.numbers a.seeds a.gain a.stage (subst (λ (z : Account). may_step g x z ≡ true) e p.step)
+      e)
       in
       (k.0, k.1, λ r' w. k.2 r' (words_after g (word_of g x a) (write_of g x a (read r (word_of g x a))) r r' w))
 

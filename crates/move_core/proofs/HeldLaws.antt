@@ -1,11 +1,14 @@
 -- What follows from the claims and the moves: no vertex is held twice, and none is carried twice.
-use Rattle.std.proofs.Common.{◌≡◌, ℕ, zero, suc, ◌+◌, ◌*◌, ◌<◌, ◌≤◌, ◌≢◌, false, List, [], ◌∷◌, map, length, length-set, get_or, get_or-set_other, set, All, refl, sym, ap, ◌∙◌, subst, arith}
+use Rattle.std.proofs.Common.{◌≡◌, ℕ, zero, suc, ◌+◌, ◌*◌, ◌<◌, ◌≤◌, ◌≢◌, false, List, [], ◌∷◌, map, length, length-set}
+use Rattle.std.proofs.Common.{get_or, get_or-set_other, set, All, refl, sym, ap, ◌∙◌, subst, arith}
 use Rattle.std.proofs.lemmas.List.Elements.{All-nil, All-head, All-tail, All-cons}
 use Rattle.hg_defs.specs.declared.moves.Move.{Move}
 use Rattle.hg_defs.specs.Sums.{total, sum_below}
 use Rattle.hg_defs.specs.Hypergraph.{vertex_count, weight_of}
 use Rattle.hg_defs.specs.Partition.{block_of, load}
-use Rattle.hg_defs.proofs.SumLaws.{total-le, total-set, total_at-le, total-append, total-same, total-scale_right, sum_below-total, sum_below-le, sum_below-same, sum_below-only, sum_below-add, sum_below-zero, weight_in-by_index, weight_if, weight_if-same, weight_if-other}
+use Rattle.hg_defs.proofs.SumLaws.{total-le, total-set, total_at-le, total-append, total-same}
+use Rattle.hg_defs.proofs.SumLaws.{total-scale_right, sum_below-total, sum_below-le, sum_below-same}
+use Rattle.hg_defs.proofs.SumLaws.{sum_below-only, sum_below-add, sum_below-zero, weight_in-by_index, weight_if, weight_if-same, weight_if-other}
 use Rattle.move_core.specs.declared.account.Account.{Account}
 use Rattle.move_core.specs.State.{Setup, Readings, times, blank}
 use Rattle.move_core.specs.Events.{moved_vertices}
@@ -13,7 +16,8 @@ use Rattle.move_core.specs.Balance.{Claims, Moves, carried, stage_vertices}
 use Rattle.move_core.proofs.TimesLaws.{All_at_times, All_from_times}
 
 -- two different places of a list are within the sum
-pub total_two : (f : Account → ℕ) (accounts : List Account) (i k : ℕ) (d : Account) → f (blank false) ≡ 0 → i < length accounts → k < length accounts → k ≢ i
+pub total_two : (f : Account → ℕ) (accounts : List Account) (i k : ℕ) (d : Account) → f (blank false) ≡ 0 → i < length accounts → k < length accounts →
+    k ≢ i
     → f (get_or accounts i (blank false)) + f (get_or accounts k d) ≤ total f accounts
 total_two f accounts i k d z li lk q =
     let e = total-set f accounts i (blank false) (blank false) li in
@@ -31,7 +35,8 @@ total-by_times g n (x ∷ xs) h =
     let o = sum_below-only (λ v. weight_if x v 1 * g v) n x l (λ j m q. ap (λ z. z * g j) (weight_if-other x j 1 (λ p. q (sym p))) ∙ zero-times (g j)) in
     let one : weight_if x x 1 * g x ≡ g x = ap (λ z. z * g x) (weight_if-same x x 1 refl) ∙ one-times (g x) in
     let a = sum_below-add (λ v. weight_if x v 1 * g v) (λ v. times v xs * g v) n in
-    let b = sum_below-same (λ v. times v (x ∷ xs) * g v) (λ v. weight_if x v 1 * g v + times v xs * g v) n (λ v m. spread (weight_if x v 1) (times v xs) (g v))
+    let b = sum_below-same (λ v. times v (x ∷ xs) * g v) (λ v. weight_if x v 1 * g v + times v xs * g v) n
+    (λ v m. spread (weight_if x v 1) (times v xs) (g v))
     in
     omega arith
   where
@@ -60,7 +65,8 @@ module _ (s : Setup) (r : Readings) (accounts : List Account) (c : Claims s.grap
       from_map a.moves (λ v p. All_at_times (λ u. u < vertex_count s.graph) (carried a) v (carried_below k d l)
       (let e = total-append (λ x. weight_if x v 1) (moved_vertices a) (stage_vertices a.stage) in omega arith))
     where
-      from_map : (ms : List Move) → ((v : ℕ) → 0 < times v (map (λ z. z.vertex) ms) → v < vertex_count s.graph) → All (λ z. z.vertex < vertex_count s.graph) ms
+      from_map : (ms : List Move) → ((v : ℕ) → 0 < times v (map (λ z. z.vertex) ms) → v < vertex_count s.graph) →
+          All (λ z. z.vertex < vertex_count s.graph) ms
       from_map [] h = All-nil (λ (z : Move). z.vertex < vertex_count s.graph)
       from_map (z ∷ zs) h =
           All-cons (λ (z : Move). z.vertex < vertex_count s.graph) z zs

@@ -33,7 +33,8 @@ same_from_write s w r r' q = record {
   claim = λ v l. same (word.Claim v) (lt-ltb v (vertex_count s.graph) l);
   name = λ v l. same (word.Name v) (lt-ltb v (vertex_count s.graph) l);
   load = λ b l. same (word.Load b) (lt-ltb b s.blocks l);
-  count = λ e b l m. same (word.Count e b) (and_from (nat_lt e (net_count s.graph)) (nat_lt b s.blocks) (lt-ltb e (net_count s.graph) l) (lt-ltb b s.blocks m));
+  count = λ e b l m. same (word.Count e b) (and_from (nat_lt e (net_count s.graph)) (nat_lt b s.blocks) (lt-ltb e (net_count s.graph) l)
+      (lt-ltb b s.blocks m));
   spread = λ e l. same (word.Spread e) (lt-ltb e (net_count s.graph) l);
   next = same word.Next refl;
   cursor = same word.Cursor refl;

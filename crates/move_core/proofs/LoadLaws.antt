@@ -1,10 +1,12 @@
 -- The clause on loads, after each event that changes loads, and after all others.
-use Rattle.std.proofs.Common.{◌≡◌, ℕ, zero, suc, ◌+◌, ◌-◌, ◌<◌, ◌≤◌, ◌⊎◌, inl, inr, false, List, [], ◌∷◌, ◌++◌, length, get_or, set, nat_eq, if◌then◌else◌, All, ap, ◌∙◌, arith}
+use Rattle.std.proofs.Common.{◌≡◌, ℕ, zero, suc, ◌+◌, ◌-◌, ◌<◌, ◌≤◌, ◌⊎◌, inl, inr, false, List, [], ◌∷◌, ◌++◌}
+use Rattle.std.proofs.Common.{length, get_or, set, nat_eq, if◌then◌else◌, All, ap, ◌∙◌, arith}
 use Rattle.hg_defs.specs.declared.moves.Move.{Move}
 use Rattle.hg_defs.specs.Sums.{total}
 use Rattle.hg_defs.specs.Hypergraph.{Hyper, vertex_count, weight_of}
 use Rattle.hg_defs.specs.Partition.{block_of, load}
-use Rattle.hg_defs.proofs.SumLaws.{weight_if, weight_if-same, weight_if-other, total-map, total-same, total-same_each, total-add, total-append, total-le, total_push}
+use Rattle.hg_defs.proofs.SumLaws.{weight_if, weight_if-same, weight_if-other, total-map, total-same}
+use Rattle.hg_defs.proofs.SumLaws.{total-same_each, total-add, total-append, total-le, total_push}
 use Rattle.move_core.specs.declared.account.Account.{Account}
 use Rattle.move_core.specs.declared.account.Stage.{Stage}
 use Rattle.move_core.specs.declared.account.Stage.TheVariants.{Idle, Refused, Granted, Moving}
@@ -33,7 +35,8 @@ module _ (s : Setup) (r : Readings) (accounts : List Account) (c : Claims s.grap
   carried_of b a = total (λ v. weight_if (block_of s.opening v) b (weight_of s.graph v)) (carried a)
 
   departed_carried : (b k : ℕ) (d : Account) → k < length accounts → departed s.graph b (get_or accounts k d).moves
-      + total (λ v. weight_if (block_of s.opening v) b (weight_of s.graph v)) (stage_vertices (get_or accounts k d).stage) ≡ carried_of b (get_or accounts k d)
+      + total (λ v. weight_if (block_of s.opening v) b (weight_of s.graph v)) (stage_vertices (get_or accounts k d).stage) ≡ carried_of b
+      (get_or accounts k d)
   unfolding carried_of
   departed_carried b k d l =
       let a = get_or accounts k d in
@@ -89,7 +92,8 @@ granted_within s r accounts w b l =
     let y = total-add (λ (a : Account). granted_weight s.graph b a.stage + arrived s.graph b a.moves) (λ a. refused_weight s.graph b a.stage) accounts in
     omega arith
 
-module _ (s : Setup) (r r' : Readings) (accounts : List Account) (i : ℕ) (a a' : Account) (l : i < length accounts) (at : get_or accounts i (blank false) ≡ a)
+module _ (s : Setup) (r r' : Readings) (accounts : List Account) (i : ℕ) (a a' : Account) (l : i < length accounts)
+    (at : get_or accounts i (blank false) ≡ a)
     (w : Loads s r accounts) where
   pub loads_changed : ((b : ℕ) → b < s.blocks → (r'.load b + departed s.graph b a'.moves) + (reserved_weight s.graph b a.stage + arrived s.graph b a.moves)
       ≡ (r.load b + departed s.graph b a.moves) + (reserved_weight s.graph b a'.stage + arrived s.graph b a'.moves))

@@ -1,5 +1,6 @@
 -- The books stay in balance over GiveBack.
-use Rattle.std.proofs.Common.{◌≡◌, ℕ, ◌-◌, ◌<◌, ◌≤◌, inl, inr, true, false, List, [], ◌∷◌, ◌++◌, map, length, length-append, get_or, set, nat_eq, if◌then◌else◌, All, ℤ, refl, sym, ap, ◌∙◌, subst, arith, nat_lt, Bool}
+use Rattle.std.proofs.Common.{◌≡◌, ℕ, ◌-◌, ◌<◌, ◌≤◌, inl, inr, true, false, List, [], ◌∷◌, ◌++◌, map, length, length-append, get_or}
+use Rattle.std.proofs.Common.{set, nat_eq, if◌then◌else◌, All, ℤ, refl, sym, ap, ◌∙◌, subst, arith, nat_lt, Bool}
 use Rattle.std.proofs.lemmas.Int.{ints}
 use Rattle.std.proofs.lemmas.Bool.{cases_eq}
 use Rattle.hg_defs.specs.declared.moves.Move.{Move}
@@ -148,13 +149,15 @@ module _ (s : Setup) (ok : IsSetup s) (r r' : Readings) (accounts : List Account
               moves (m ∷ [])
               (all_at accounts i a a' l at (λ x. All (λ z. IsBetween (weights_of s.graph (nets_of s.graph z.vertex))
               (weights_of s.graph (nets_of s.graph z.vertex)) z.booked) x.moves) b.bounds.done)
-              (All-cons (λ (z : Move). IsBetween (weights_of s.graph (nets_of s.graph z.vertex)) (weights_of s.graph (nets_of s.graph z.vertex)) z.booked) m []
+              (All-cons (λ (z : Move). IsBetween (weights_of s.graph (nets_of s.graph z.vertex)) (weights_of s.graph (nets_of s.graph z.vertex)) z.booked)
+              m []
               (let x = ap (weights_of s.graph) all_raised in
               let y = ap (weights_of s.graph) all_lowered in
               let low = within.low in
               let high = within.high in
               record { low = omega (arith, ints); high = omega (arith, ints) })
-              (All-nil (λ (z : Move). IsBetween (weights_of s.graph (nets_of s.graph z.vertex)) (weights_of s.graph (nets_of s.graph z.vertex)) z.booked))));
+              (All-nil (λ (z : Move). IsBetween (weights_of s.graph (nets_of s.graph z.vertex)) (weights_of s.graph (nets_of s.graph z.vertex))
+              z.booked))));
           stages = all_changed accounts i a a' l at (λ x. IsBookedWithin s.graph x.stage) b.bounds.stages tt;
         };
         workers = workers_done accounts i a a' l at b.workers refl m refl refl;
@@ -171,7 +174,8 @@ module _ (s : Setup) (ok : IsSetup s) (r r' : Readings) (accounts : List Account
       }
     where
       raised_once : (v u e to c : ℕ) → e < net_count s.graph → 0 < times u (net_of s.graph e).pins
-          → (if nat_eq v u then (if nat_eq to c then times e (nets_of s.graph v) else 0) else 0) ≡ (if nat_eq v u then (if nat_eq to c then 1 else 0) else 0)
+          → (if nat_eq v u then (if nat_eq to c then times e (nets_of s.graph v) else 0) else 0) ≡
+          (if nat_eq v u then (if nat_eq to c then 1 else 0) else 0)
       raised_once v u e to c k pin =
           elim (cases_eq v u) [
             | inl q ↦ ap (λ z. if nat_eq v u then (if nat_eq to c then z else 0) else 0)

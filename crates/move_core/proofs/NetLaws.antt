@@ -1,10 +1,12 @@
 -- The nets of a vertex: each of its nets once, in rising number.
-use Rattle.std.proofs.Common.{◌≡◌, ℕ, ◌+◌, ◌<◌, ◌≤◌, inl, inr, Bool, true, false, if◌then◌else◌, nat_lt, [], filter, length, slice_index, take, refl, sym, ap, ◌∙◌, subst, arith}
+use Rattle.std.proofs.Common.{◌≡◌, ℕ, ◌+◌, ◌<◌, ◌≤◌, inl, inr, Bool, true, false, if◌then◌else◌, nat_lt, [], filter}
+use Rattle.std.proofs.Common.{length, slice_index, take, refl, sym, ap, ◌∙◌, subst, arith}
 use Rattle.std.specs.List.{range_with_len}
 use Rattle.std.proofs.lemmas.List.Elements.{filter_agree}
 use Rattle.std.proofs.lemmas.Bool.{ltb-true, lt-ltb, cases_lt}
 use Rattle.hg_defs.specs.Hypergraph.{Hyper, IsHypergraph, vertex_count, net_count, net_of}
-use Rattle.hg_defs.proofs.SumLaws.{total-filter, total-range, sum_below-only, sum_below-zero, weight_if, weight_if-same, weight_if-other, total-take_more, total_more-le}
+use Rattle.hg_defs.proofs.SumLaws.{total-filter, total-range, sum_below-only, sum_below-zero, weight_if}
+use Rattle.hg_defs.proofs.SumLaws.{weight_if-same, weight_if-other, total-take_more, total_more-le}
 use Rattle.hg_defs.proofs.DistinctLaws.{member_times, times_of-once, Contains-from_times}
 use Rattle.hg_defs.specs.Incidence.{is_on, nets_of}
 use Rattle.move_core.specs.State.{times}
@@ -12,7 +14,8 @@ use Rattle.move_core.proofs.TimesLaws.{All_at_times}
 
 -- the nets of a vertex, told by how often it stands among the pins
 pub on_by_times : (h : Hyper) (v : ℕ) → nets_of h v ≡ filter (λ e. nat_lt 0 (times v (net_of h e).pins)) (range_with_len 0 (net_count h))
-on_by_times h v = filter_agree (is_on h v) (λ e. nat_lt 0 (times v (net_of h e).pins)) (λ e. member_times (net_of h e).pins v) (range_with_len 0 (net_count h))
+on_by_times h v = filter_agree (is_on h v) (λ e. nat_lt 0 (times v (net_of h e).pins)) (λ e. member_times (net_of h e).pins v)
+    (range_with_len 0 (net_count h))
 
 -- 1 where a net has the vertex as a pin
 abbrev pub has_pin : Hyper → ℕ → ℕ → ℕ

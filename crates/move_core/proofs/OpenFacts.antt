@@ -1,5 +1,7 @@
 -- One step of each loop that opens the books.
-use Rattle.std.proofs.Common.{◌≡◌, ℕ, ◌+◌, ◌*◌, ◌/◌, ◌%◌, ◌<◌, ◌≤◌, ◌⊎◌, inl, inr, Bool, true, false, if◌then◌else◌, nat_eq, nat_lt, List, [], ◌∷◌, ◌++◌, map, filter, length, get_or, get_or-set_same, get_or-set_other, set, slice_index, take, All, refl, sym, ap, ◌∙◌, arith}
+use Rattle.std.proofs.Common.{◌≡◌, ℕ, ◌+◌, ◌*◌, ◌/◌, ◌%◌, ◌<◌, ◌≤◌, ◌⊎◌, inl, inr, Bool, true, false}
+use Rattle.std.proofs.Common.{if◌then◌else◌, nat_eq, nat_lt, List, [], ◌∷◌, ◌++◌, map}
+use Rattle.std.proofs.Common.{filter, length, get_or, get_or-set_same, get_or-set_other, set, slice_index, take, All, refl, sym, ap, ◌∙◌, arith}
 use Rattle.std.specs.List.{range_with_len, flat_map}
 use Rattle.std.proofs.lemmas.Bool.{cases_eq, cases_lt, lt-ltb, le-ltb, eq-eqb, ne_eqb}
 use Rattle.std.proofs.lemmas.Nat.{same_from_place}
@@ -11,7 +13,8 @@ use Rattle.move_core.proofs.OpenLaws.{length-opened_counts, opened-count}
 use Rattle.hg_defs.specs.Hypergraph.{Hyper, net_count, net_of}
 use Rattle.hg_defs.specs.Partition.{block_of, weight_in, load, Fits}
 use Rattle.hg_defs.specs.Pins.{pins_in}
-use Rattle.hg_defs.proofs.SumLaws.{weight_in-take_more, weight_if, weight_if-same, weight_if-other, weight_if-le, total-le, total-ones, total-take_more, total_more-le}
+use Rattle.hg_defs.proofs.SumLaws.{weight_in-take_more, weight_if, weight_if-same, weight_if-other, weight_if-le}
+use Rattle.hg_defs.proofs.SumLaws.{total-le, total-ones, total-take_more, total_more-le}
 use Rattle.move_core.proofs.NetLaws.{on_by_times}
 use Rattle.move_core.proofs.WriteLaws.{place-below}
 use Rattle.hg_defs.specs.Incidence.{nets_of}
@@ -115,7 +118,8 @@ pins_with_more h p e f b =
           elim (cases_lt f e) [
             | inl l ↦
                 ap (λ t. if t then pins_in p (net_of h f).pins b else (if nat_eq f e then pins_in p (net_of h e).pins b else 0)) (lt-ltb f e l)
-                ∙ sym (ap (λ t. if t then pins_in p (net_of h f).pins b else (if nat_eq f (e + 1) then pins_in p [] b else 0)) (lt-ltb f (e + 1) (omega arith)))
+                ∙ sym (ap (λ t. if t then pins_in p (net_of h f).pins b else (if nat_eq f (e + 1) then pins_in p [] b else 0))
+                (lt-ltb f (e + 1) (omega arith)))
             | inr m ↦
                 let k : e + 1 ≤ f = grind arith in
                 ap (λ t. if t then pins_in p (net_of h f).pins b else (if nat_eq f e then pins_in p (net_of h e).pins b else 0)) (le-ltb f e m)
@@ -146,7 +150,8 @@ pub pins_with_all : (h : Hyper) (p : List ℕ) (e f b : ℕ) → f < e → pins_
 pins_with_all h p e f b l = ap (λ t. if t then pins_in p (net_of h f).pins b else (if nat_eq f e then pins_in p [] b else 0)) (lt-ltb f e l)
 
 -- one pin more
-pub counts_more : (h : Hyper) (p counts : List ℕ) (e m k j v x : ℕ) (pins : List ℕ) → length counts ≡ m * k → e < m → j < length pins → v ≡ slice_index pins j
+pub counts_more : (h : Hyper) (p counts : List ℕ) (e m k j v x : ℕ) (pins : List ℕ) → length counts ≡ m * k → e < m → j < length pins →
+    v ≡ slice_index pins j
     → block_of p v < k → ((f b : ℕ) → f < m → b < k → get_or counts (count_place k f b) 0 ≡ pins_with h p e (take j pins) f b)
     → x ≡ get_or counts (count_place k e (block_of p v)) 0 + 1 → (f b : ℕ) → f < m → b < k
     → get_or (set counts (count_place k e (block_of p v)) x) (count_place k f b) 0 ≡ pins_with h p e (take (j + 1) pins) f b
@@ -265,6 +270,7 @@ opened_from s passes h opening claims names loads counts spreads accounts e1 e2 
     ∙ ap (λ z. opened_with s.blocks s.limit s.graph s.opening (opened s passes).claims z loads counts spreads accounts) e4
     ∙ ap (λ z. opened_with s.blocks s.limit s.graph s.opening (opened s passes).claims s.opening z counts spreads accounts) e5
     ∙ ap (λ z. opened_with s.blocks s.limit s.graph s.opening (opened s passes).claims s.opening (opened s passes).loads z spreads accounts) e6
-    ∙ ap (λ z. opened_with s.blocks s.limit s.graph s.opening (opened s passes).claims s.opening (opened s passes).loads (opened s passes).counts z accounts) e7
+    ∙ ap (λ z. opened_with s.blocks s.limit s.graph s.opening (opened s passes).claims s.opening (opened s passes).loads (opened s passes).counts z
+    accounts) e7
     ∙ ap (λ z. opened_with s.blocks s.limit s.graph s.opening (opened s passes).claims s.opening (opened s passes).loads (opened s passes).counts
     (opened s passes).spreads z) e8

@@ -1,5 +1,6 @@
 -- The books of a round at its opening are in balance.
-use Rattle.std.proofs.Common.{◌≡◌, ℕ, ◌+◌, ◌-◌, ◌*◌, ◌^◌, ◌<◌, ◌≤◌, inl, inr, Bool, true, false, List, [], ◌∷◌, map, length, length-append, take, get_or, replicate, slice_index, nat_eq, nat_lt, if◌then◌else◌, All, pos, refl, sym, ap, ◌∙◌, subst, arith}
+use Rattle.std.proofs.Common.{◌≡◌, ℕ, ◌+◌, ◌-◌, ◌*◌, ◌^◌, ◌<◌, ◌≤◌, inl, inr, Bool, true, false, List, [], ◌∷◌, map, length, length-append, take, get_or}
+use Rattle.std.proofs.Common.{replicate, slice_index, nat_eq, nat_lt, if◌then◌else◌, All, pos, refl, sym, ap, ◌∙◌, subst, arith}
 use Rattle.std.specs.List.{range_with_len, flat_map}
 use Rattle.std.proofs.lemmas.Int.{ints}
 use Rattle.std.proofs.lemmas.Bool.{true≢false, le-ltb, cases_lt}
@@ -19,7 +20,9 @@ use Rattle.move_core.specs.declared.account.Account.{Account}
 use Rattle.hg_defs.specs.Incidence.{nets_of}
 use Rattle.move_core.specs.State.{Setup, Readings, account_in, readings, blank, times, opened, opening_pins, IsOpening, present_below}
 use Rattle.move_core.specs.Events.{price_at}
-use Rattle.move_core.specs.Balance.{InBalance, IsSetup, IsShaped, IsBooks, IsGain, IsNamed, IsInStep, IsMoveFromOpening, IsStageMove, IsOwing, IsBetween, IsBookedWithin, carried, drawn, raises, lowers, departed, arrived, reserved_weight, owed_up, owed_down, weights_of, moves_before}
+use Rattle.move_core.specs.Balance.{InBalance, IsSetup, IsShaped, IsBooks, IsGain, IsNamed, IsInStep, IsMoveFromOpening}
+use Rattle.move_core.specs.Balance.{IsStageMove, IsOwing, IsBetween, IsBookedWithin, carried, drawn, raises, lowers, departed}
+use Rattle.move_core.specs.Balance.{arrived, reserved_weight, owed_up, owed_down, weights_of, moves_before}
 use Rattle.move_core.proofs.RestLaws.{seed_room}
 use Rattle.move_core.proofs.WorkerLaws.{workers_blank}
 

@@ -1,5 +1,6 @@
 -- The moves of all passes in the order of their numbers: what is summed over them, and where each stands.
-use Rattle.std.proofs.Common.{◌≡◌, ℕ, zero, suc, ◌+◌, ◌-◌, ◌<◌, ◌≤◌, inl, inr, Bool, true, false, List, [], ◌∷◌, ◌++◌, length, take, get_or, nat_eq, nat_lt, if◌then◌else◌, All, Contains, pos, refl, sym, ap, ◌∙◌, subst, arith}
+use Rattle.std.proofs.Common.{◌≡◌, ℕ, zero, suc, ◌+◌, ◌-◌, ◌<◌, ◌≤◌, inl, inr, Bool, true, false, List, [], ◌∷◌, ◌++◌, length, take, get_or}
+use Rattle.std.proofs.Common.{nat_eq, nat_lt, if◌then◌else◌, All, Contains, pos, refl, sym, ap, ◌∙◌, subst, arith}
 use Rattle.std.specs.List.{range_with_len, flat_map}
 use Rattle.std.proofs.lemmas.Bool.{eq-eqb, ltb-true, lt-ltb, le-ltb, cases_eq, cases_lt}
 use Rattle.std.proofs.lemmas.List.{ext_get_or, take_all, take-append-le}
@@ -8,7 +9,8 @@ use Rattle.std.proofs.lemmas.List.FromFn.{length-range_with_len, get_or-range_wi
 use Rattle.std.proofs.lemmas.List.Elements.{All-nil, All-head, All-tail, All-cons, All-append, Contains-get_or, Contains-append_left, Contains-append_right}
 use Rattle.hg_defs.specs.declared.moves.Move.{Move}
 use Rattle.hg_defs.specs.Sums.{total, sum_below}
-use Rattle.hg_defs.proofs.SumLaws.{weight_if, weight_if-other, total-append, total-same, total-ones, total-range, sum_below-total, sum_below-add, sum_below-same, sum_below-constant, sum_below-weight_if, sum_below-zero}
+use Rattle.hg_defs.proofs.SumLaws.{weight_if, weight_if-other, total-append, total-same, total-ones, total-range, sum_below-total}
+use Rattle.hg_defs.proofs.SumLaws.{sum_below-add, sum_below-same, sum_below-constant, sum_below-weight_if, sum_below-zero}
 use Rattle.move_core.specs.declared.account.Account.{Account}
 use Rattle.move_core.specs.State.{times, blank}
 use Rattle.move_core.specs.Balance.{numbered_by}
@@ -22,7 +24,8 @@ total-flat_map f g (x ∷ xs) = let e = total-append f (g x) (flat_map g xs) in 
 
 All-flat_map : {A B : Type 0} (P : B → Type 0) (g : A → List B) (xs : List A) → All (λ x. All P (g x)) xs → All P (flat_map g xs)
 All-flat_map P g [] h = All-nil P
-All-flat_map P g (x ∷ xs) h = All-append P (g x) (flat_map g xs) (All-head (λ y. All P (g y)) x xs h) (All-flat_map P g xs (All-tail (λ y. All P (g y)) x xs h))
+All-flat_map P g (x ∷ xs) h = All-append P (g x) (flat_map g xs) (All-head (λ y. All P (g y)) x xs h)
+    (All-flat_map P g xs (All-tail (λ y. All P (g y)) x xs h))
 
 Contains-flat_map : {A B : Type 0} (g : A → List B) (xs : List A) (k : ℕ) (d : A) (y : B) → k < length xs → Contains (g (get_or xs k d)) y
     → Contains (flat_map g xs) y
@@ -106,7 +109,8 @@ length-numbered n (x ∷ ns) (m ∷ ms) e = by (nat_eq x n) (length-numbered n n
     by true r = omega arith
     by false r = omega arith
 
-Contains-numbered : (test : ℕ → Bool) (ns : List ℕ) (ms : List Move) (k : ℕ) (d : Move) → length ns ≡ length ms → k < length ms → test (get_or ns k 0) ≡ true
+Contains-numbered : (test : ℕ → Bool) (ns : List ℕ) (ms : List Move) (k : ℕ) (d : Move) → length ns ≡ length ms → k < length ms →
+    test (get_or ns k 0) ≡ true
     → Contains (numbered_by test ns ms) (get_or ms k d)
 Contains-numbered test [] ms k d e l h = absurd (omega arith)
 Contains-numbered test (n ∷ ns) [] k d e l h = absurd (omega arith)
@@ -136,7 +140,8 @@ total-in_order f accounts j =
     let g : ℕ → Account → List Move = λ n a. numbered_by (λ x. nat_eq x n) a.numbers a.moves in
     let a = total-flat_map f (λ n. flat_map (g n) accounts) (range_with_len 0 j) in
     let b = total-range (λ n. total f (flat_map (g n) accounts)) j in
-    let c = sum_below-same (λ n. total f (flat_map (g n) accounts)) (λ n. total (λ x. total f (g n x)) accounts) j (λ n l. total-flat_map f (g n) accounts) in
+    let c = sum_below-same (λ n. total f (flat_map (g n) accounts)) (λ n. total (λ x. total f (g n x)) accounts) j
+    (λ n l. total-flat_map f (g n) accounts) in
     let d = sum_below-total (λ n x. total f (g n x)) j accounts in
     let e = total-same (λ x. sum_below (λ n. total f (g n x)) j) (λ x. total f (numbered_by (λ y. nat_lt y j) x.numbers x.moves)) accounts
     (λ k y l. numbers_below f j (get_or accounts k y).numbers (get_or accounts k y).moves) in

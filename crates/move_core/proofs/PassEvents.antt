@@ -1,5 +1,6 @@
 -- The books stay in balance over Split and Join.
-use Rattle.std.proofs.Common.{◌≡◌, ℕ, ◌+◌, ◌*◌, ◌^◌, ◌<◌, ◌≤◌, ◌≢◌, inl, inr, Bool, true, false, List, [], ◌∷◌, ◌++◌, map, length, length-append, get_or, set, nat_eq, nat_lt, if◌then◌else◌, All, ℤ, pos, ◌+ℤ◌, refl, sym, ap, ◌∙◌, arith}
+use Rattle.std.proofs.Common.{◌≡◌, ℕ, ◌+◌, ◌*◌, ◌^◌, ◌<◌, ◌≤◌, ◌≢◌, inl, inr, Bool, true, false, List, [], ◌∷◌, ◌++◌, map, length, length-append}
+use Rattle.std.proofs.Common.{get_or, set, nat_eq, nat_lt, if◌then◌else◌, All, ℤ, pos, ◌+ℤ◌, refl, sym, ap, ◌∙◌, arith}
 use Rattle.std.proofs.lemmas.Int.{ints}
 use Rattle.std.proofs.lemmas.Bool.{true≢false}
 use Rattle.hg_defs.specs.declared.moves.Move.{Move}
@@ -11,7 +12,8 @@ use Rattle.move_core.specs.declared.account.Account.{Account}
 use Rattle.move_core.specs.declared.account.Stage.TheVariants.{Idle}
 use Rattle.hg_defs.specs.Incidence.{nets_of}
 use Rattle.move_core.specs.State.{Setup, Readings, account_in, times, blank}
-use Rattle.move_core.specs.Balance.{InBalance, IsGain, IsMoveFromOpening, IsStageMove, IsInStep, IsOwing, IsBetween, IsBookedWithin, carried, drawn, lowers, reserved_weight, refused_weight, weights_of}
+use Rattle.move_core.specs.Balance.{InBalance, IsGain, IsMoveFromOpening, IsStageMove, IsInStep, IsOwing, IsBetween, IsBookedWithin}
+use Rattle.move_core.specs.Balance.{carried, drawn, lowers, reserved_weight, refused_weight, weights_of}
 use Rattle.move_core.proofs.TimesLaws.{all_at}
 use Rattle.move_core.proofs.StageEvents.{staged}
 use Rattle.std.proofs.Common.{get_or-set_other, length-set, max}
@@ -265,7 +267,8 @@ module _ (s : Setup) (r : Readings) (accounts : List Account) (i j : ℕ) (li : 
     counts = record {
       word = λ e c k q.
           let pins = (net_of s.graph e).pins in
-          let f = total-same_each (λ u. if nat_eq (block_of s.opening u) c then total (lowers s.graph u e) (set (set accounts i both) j (blank false)) else 0)
+          let f = total-same_each (λ u. if nat_eq (block_of s.opening u) c then total (lowers s.graph u e)
+          (set (set accounts i both) j (blank false)) else 0)
           (λ u. if nat_eq (block_of s.opening u) c then total (lowers s.graph u e) accounts else 0)
           (λ u. ap (λ x. if nat_eq (block_of s.opening u) c then x else 0) (same (lowers s.graph u e) refl (let x = moved_both u in omega arith))) pins in
           let g = total-same_each (λ u. (if nat_eq (block_of s.opening u) c then 1 else 0)
@@ -352,9 +355,11 @@ module _ (s : Setup) (r : Readings) (accounts : List Account) (i j : ℕ) (li : 
           a.moves) b.bounds.done
           (All-append (λ (m : Move). IsBetween (weights_of s.graph (nets_of s.graph m.vertex)) (weights_of s.graph (nets_of s.graph m.vertex)) m.booked)
           moves moves'
-          (first (λ a. All (λ m. IsBetween (weights_of s.graph (nets_of s.graph m.vertex)) (weights_of s.graph (nets_of s.graph m.vertex)) m.booked) a.moves)
+          (first (λ a. All (λ m. IsBetween (weights_of s.graph (nets_of s.graph m.vertex)) (weights_of s.graph (nets_of s.graph m.vertex)) m.booked)
+          a.moves)
           b.bounds.done)
-          (second (λ a. All (λ m. IsBetween (weights_of s.graph (nets_of s.graph m.vertex)) (weights_of s.graph (nets_of s.graph m.vertex)) m.booked) a.moves)
+          (second (λ a. All (λ m. IsBetween (weights_of s.graph (nets_of s.graph m.vertex)) (weights_of s.graph (nets_of s.graph m.vertex)) m.booked)
+          a.moves)
           b.bounds.done))
           (All-nil (λ (m : Move). IsBetween (weights_of s.graph (nets_of s.graph m.vertex)) (weights_of s.graph (nets_of s.graph m.vertex)) m.booked));
       stages = all_both (λ a. IsBookedWithin s.graph a.stage) b.bounds.stages tt tt;

@@ -1,5 +1,6 @@
 -- What a pass reads back of what it did, and that every word is far from 2^64.
-use Rattle.std.proofs.Common.{◌≡◌, ℕ, ◌*◌, ◌^◌, ◌<◌, ◌≤◌, inl, inr, Bool, true, false, pos, List, [], length, get_or, nat_eq, nat_lt, if◌then◌else◌, All, refl, sym, ap, ◌∙◌, subst, arith}
+use Rattle.std.proofs.Common.{◌≡◌, ℕ, ◌*◌, ◌^◌, ◌<◌, ◌≤◌, inl, inr, Bool, true, false, pos, List, [], length, get_or}
+use Rattle.std.proofs.Common.{nat_eq, nat_lt, if◌then◌else◌, All, refl, sym, ap, ◌∙◌, subst, arith}
 use Rattle.std.proofs.lemmas.Bool.{ltb-true, and_parts, cases_lt, cases_eq}
 use Rattle.std.proofs.lemmas.List.{get_or_past}
 use Rattle.std.proofs.lemmas.List.Elements.{All-nil}
@@ -12,7 +13,8 @@ use Rattle.move_core.specs.declared.account.Account.{Account}
 use Rattle.move_core.specs.declared.account.Stage.{Stage}
 use Rattle.move_core.specs.declared.account.Stage.TheVariants.{Idle, Refused, Granted, Moving}
 use Rattle.move_core.specs.declared.events.Event.{Event}
-use Rattle.move_core.specs.declared.events.Event.TheVariants.{Claim, Unclaim, Reserve, TakeBack, Draw, Name, Raise, Widen, Lower, Narrow, GiveBack, Seed, Peek, Split, Join}
+use Rattle.move_core.specs.declared.events.Event.TheVariants.{Claim, Unclaim, Reserve, TakeBack, Draw, Name, Raise, Widen, Lower}
+use Rattle.move_core.specs.declared.events.Event.TheVariants.{Narrow, GiveBack, Seed, Peek, Split, Join}
 use Rattle.move_core.specs.declared.events.Word.{Word}
 use Rattle.move_core.specs.declared.events.Word.TheVariants as word
 use Rattle.move_core.specs.State.{Setup, Readings, account_in, blank, times, read}
@@ -109,7 +111,8 @@ module _ (g : Setup) (r : Readings) (accounts : List Account) (b : InBalance g r
       omega arith) in
       omega arith
 
-  pub unmoved_back : (i v : ℕ) → is_holding (account_in accounts i) v ≡ true → times v (renamed (account_in accounts i)) ≡ 0 → r.name v ≡ block_of g.opening v
+  pub unmoved_back : (i v : ℕ) → is_holding (account_in accounts i) v ≡ true → times v (renamed (account_in accounts i)) ≡ 0 →
+      r.name v ≡ block_of g.opening v
   unmoved_back i v h z = b.names.others v (held_below i v h) (renamed_once i v h z)
 
   module _ (ok : IsSetup g) where

@@ -1,5 +1,7 @@
 -- Where every pass is between two moves: the words tell the partition to which the moves lead, and it fits.
-use Rattle.std.proofs.Common.{◌≡◌, ◌≢◌, ℕ, suc, ◌+◌, ◌-◌, ◌*◌, ◌<◌, ◌≤◌, ◌⊎◌, inl, inr, Bool, true, false, List, [], ◌∷◌, ◌++◌, map, length, take, get_or, slice_set, length-set, get_or-set_other, nat_eq, nat_lt, if◌then◌else◌, All, AllPairs, Contains, pos, ◌-ℤ◌, refl, sym, ap, ◌∙◌, subst, arith}
+use Rattle.std.proofs.Common.{◌≡◌, ◌≢◌, ℕ, suc, ◌+◌, ◌-◌, ◌*◌, ◌<◌, ◌≤◌, ◌⊎◌, inl, inr, Bool, true, false, List, [], ◌∷◌, ◌++◌, map}
+use Rattle.std.proofs.Common.{length, take, get_or, slice_set, length-set, get_or-set_other, nat_eq, nat_lt, if◌then◌else◌, All}
+use Rattle.std.proofs.Common.{AllPairs, Contains, pos, ◌-ℤ◌, refl, sym, ap, ◌∙◌, subst, arith}
 use Rattle.std.proofs.lemmas.Int.{ints}
 use Rattle.std.proofs.lemmas.Bool.{eqb-true, lt-ltb, le-ltb, cases_eq, cases_lt}
 use Rattle.std.proofs.lemmas.List.Elements.{All-head, All-tail, All-contains, All-take, Contains-get_or}
@@ -13,7 +15,9 @@ use Rattle.hg_defs.specs.Partition.{block_of, load, IsPartition, Fits}
 use Rattle.hg_defs.specs.Pins.{pins_in, present}
 use Rattle.hg_defs.specs.Cost.{cost, net_cost, connectivity, price}
 use Rattle.hg_defs.specs.Replay.{replay}
-use Rattle.hg_defs.proofs.SumLaws.{weight_if, weight_if-same, weight_if-other, weight_if-le, total-append, total-map, total-same, total-same_each, total-swap, total-zero, total-take-le, total-add, total_at-le, total-by_index, sum_below-same, weight_in-set}
+use Rattle.hg_defs.proofs.SumLaws.{weight_if, weight_if-same, weight_if-other, weight_if-le, total-append}
+use Rattle.hg_defs.proofs.SumLaws.{total-map, total-same, total-same_each, total-swap}
+use Rattle.hg_defs.proofs.SumLaws.{total-zero, total-take-le, total-add, total_at-le, total-by_index, sum_below-same, weight_in-set}
 use Rattle.hg_defs.proofs.DistinctLaws.{pins_in-set, connectivity-sum}
 use Rattle.hg_defs.proofs.ReplayLaws.{length-replay, replay-blocks, replay-apart, replay-once}
 use Rattle.move_core.specs.declared.account.Account.{Account}
@@ -22,7 +26,8 @@ use Rattle.move_core.specs.declared.account.Stage.TheVariants.{Idle}
 use Rattle.move_core.specs.State.{Setup, Readings, times}
 use Rattle.move_core.specs.Stages.{number_at, move_at}
 use Rattle.move_core.specs.Events.{moved_vertices, price_at}
-use Rattle.move_core.specs.Balance.{drawn, numbered_by, moves_before, arrived, departed, reserved_weight, raises, lowers, stage_raises, stage_lowers, stage_vertices, owed_up, owed_down, named_at, renamed}
+use Rattle.move_core.specs.Balance.{drawn, numbered_by, moves_before, arrived, departed, reserved_weight, raises, lowers}
+use Rattle.move_core.specs.Balance.{stage_raises, stage_lowers, stage_vertices, owed_up, owed_down, named_at, renamed}
 use Rattle.move_core.specs.AtRest.{IsAtRest, IsRoundMove, AreInOrder, Tells, moves_in_order, closing}
 use Rattle.move_core.proofs.StageCases.{on_idle}
 use Rattle.move_core.proofs.TimesLaws.{All_from_times, total-weight_if}
@@ -146,7 +151,8 @@ module _ (g : Setup) (r : Readings) (accounts : List Account) (rest : IsAtRest g
   pub round_moves : All (IsRoundMove g (length accounts)) ms
   round_moves = All-in_order (IsRoundMove g (length accounts)) accounts r.next each
     where
-      free : (k : ℕ) (d : Account) → k < length accounts → (v : ℕ) → v < vertex_count g.graph → 0 < times v (moved_vertices (get_or accounts k d)) → (z : Bool)
+      free : (k : ℕ) (d : Account) → k < length accounts → (v : ℕ) → v < vertex_count g.graph → 0 < times v (moved_vertices (get_or accounts k d)) →
+          (z : Bool)
           → is_free g.graph v ≡ z → is_free g.graph v ≡ true
       free k d l v q t true e = e
       free k d l v q t false e =
@@ -256,7 +262,8 @@ module _ (g : Setup) (r : Readings) (accounts : List Account) (rest : IsAtRest g
             let done = All-in_order (λ m. r.name m.vertex ≡ m.to) accounts r.next rest.balance.names.done in
             subst (λ u. r.name u ≡ block_of q u) x.2
             (All-contains (λ (m : Move). r.name m.vertex ≡ m.to) ms x.0 done x.1
-            ∙ sym (replay-once g.opening ms x.0 moved_apart (λ k d o. let w = (round_moves k d o).vertex in let e = rest.setup.opening.vertices in omega arith)
+            ∙ sym (replay-once g.opening ms x.0 moved_apart (λ k d o. let w = (round_moves k d o).vertex in let e = rest.setup.opening.vertices in
+            omega arith)
             x.1))
         | inr x ↦
             let none = total-zero (λ (m : Move). weight_if m.vertex v 1) ms (λ k d o. weight_if-other (get_or ms k d).vertex v 1 (x k d o)) in
@@ -291,7 +298,8 @@ module _ (g : Setup) (r : Readings) (accounts : List Account) (rest : IsAtRest g
       let a = total-same_each (λ u. total (λ (x : Account). total (λ m. weight_if m.vertex u (y m)) x.moves) accounts)
       (λ u. total (λ m. weight_if m.vertex u (y m)) ms) (λ u. sym (total_all (λ m. weight_if m.vertex u (y m)))) pins in
       let b = total-swap (λ u m. weight_if m.vertex u (y m)) pins ms in
-      let c = total-same_each (λ m. total (λ u. weight_if m.vertex u (y m)) pins) (λ m. times m.vertex pins * y m) (λ m. total-weight_if m.vertex (y m) pins)
+      let c = total-same_each (λ m. total (λ u. weight_if m.vertex u (y m)) pins) (λ m. times m.vertex pins * y m)
+      (λ m. total-weight_if m.vertex (y m) pins)
       ms in
       omega arith
 
@@ -321,7 +329,8 @@ module _ (g : Setup) (r : Readings) (accounts : List Account) (rest : IsAtRest g
           ≡ weight_if (block_of g.opening u) b (times u (moved_vertices a))) accounts
       from_there u k d l =
           let a = get_or accounts k d in
-          let same = total-same (λ (m : Move). weight_if m.vertex u (weight_if m.from b 1)) (λ m. weight_if m.vertex u (weight_if (block_of g.opening u) b 1))
+          let same = total-same (λ (m : Move). weight_if m.vertex u (weight_if m.from b 1))
+          (λ m. weight_if m.vertex u (weight_if (block_of g.opening u) b 1))
           a.moves
           (λ i m o.
           elim (cases_eq (get_or a.moves i m).vertex u) [

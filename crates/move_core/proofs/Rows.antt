@@ -123,7 +123,8 @@ refusals-found = refl
 refusals-loads : (run_of (opened (loose_setup (3 ∷ 1 ∷ 1 ∷ 1 ∷ []) (0 ∷ 0 ∷ 1 ∷ 1 ∷ [])) 2) refusals).loads ≡ 4 ∷ 3 ∷ []
 refusals-loads = refl
 
-refusals-stages : map (λ a. a.stage) (run_of (opened (loose_setup (3 ∷ 1 ∷ 1 ∷ 1 ∷ []) (0 ∷ 0 ∷ 1 ∷ 1 ∷ [])) 2) refusals).accounts ≡ Idle ∷ Granted 1 0 1 2 ∷ []
+refusals-stages : map (λ a. a.stage) (run_of (opened (loose_setup (3 ∷ 1 ∷ 1 ∷ 1 ∷ []) (0 ∷ 0 ∷ 1 ∷ 1 ∷ [])) 2) refusals).accounts ≡ Idle ∷
+    Granted 1 0 1 2 ∷ []
 refusals-stages = refl
 
 -- ---- three passes on one net

@@ -1,5 +1,6 @@
 -- The books stay in balance over Widen and Narrow.
-use Rattle.std.proofs.Common.{◌≡◌, ℕ, zero, suc, ◌+◌, ◌-◌, ◌*◌, ◌<◌, ◌≤◌, inl, inr, Bool, false, List, length, get_or, slice_index, take, set, ℤ, ◌+ℤ◌, refl, ap, ◌∙◌, arith, nat_lt, sym}
+use Rattle.std.proofs.Common.{◌≡◌, ℕ, zero, suc, ◌+◌, ◌-◌, ◌*◌, ◌<◌, ◌≤◌, inl, inr, Bool, false, List, length, get_or}
+use Rattle.std.proofs.Common.{slice_index, take, set, ℤ, ◌+ℤ◌, refl, ap, ◌∙◌, arith, nat_lt, sym}
 use Rattle.std.proofs.lemmas.Int.{ints}
 use Rattle.std.proofs.lemmas.Bool.{cases_lt}
 use Rattle.hg_defs.specs.declared.moves.Move.{Move}

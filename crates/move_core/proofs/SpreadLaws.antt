@@ -1,5 +1,6 @@
 -- The clause on spreads, after a Raise, a Lower, a Widen and a Narrow, and after all other events.
-use Rattle.std.proofs.Common.{◌≡◌, ℕ, ◌+◌, ◌-◌, ◌<◌, ◌≤◌, ◌≢◌, inl, inr, false, ◌&&◌, List, length, get_or, set, nat_eq, if◌then◌else◌, refl, sym, ap, ◌∙◌, arith}
+use Rattle.std.proofs.Common.{◌≡◌, ℕ, ◌+◌, ◌-◌, ◌<◌, ◌≤◌, ◌≢◌, inl, inr, false, ◌&&◌, List, length, get_or}
+use Rattle.std.proofs.Common.{set, nat_eq, if◌then◌else◌, refl, sym, ap, ◌∙◌, arith}
 use Rattle.std.proofs.lemmas.Bool.{cases_eq}
 use Rattle.hg_defs.specs.Hypergraph.{Hyper, net_count}
 use Rattle.hg_defs.specs.Pins.{present}
@@ -42,7 +43,8 @@ module _ (f g : ℕ → ℕ) (k b : ℕ) (l : b < k) (same : (j : ℕ) → j < k
         | inr z ↦ let x = present-positive (f b) (omega arith) in let y = weight_if-other (g b) 1 1 z in omega arith
       ]
 
-module _ (s : Setup) (r r' : Readings) (accounts : List Account) (i : ℕ) (a a' : Account) (l : i < length accounts) (at : get_or accounts i (blank false) ≡ a)
+module _ (s : Setup) (r r' : Readings) (accounts : List Account) (i : ℕ) (a a' : Account) (l : i < length accounts)
+    (at : get_or accounts i (blank false) ≡ a)
     (c : Spreads s r accounts) where
   -- the spreads, the counts and what is owed stay
   pub spreads_kept : ((e : ℕ) → owed_up s.graph e a'.stage ≡ owed_up s.graph e a.stage)
@@ -88,7 +90,11 @@ module _ (s : Setup) (r r' : Readings) (accounts : List Account) (i : ℕ) (a a'
           | inr x ↦
               let y = weight_if-other e0 e (weight_if (r.count e0 to) 0 1) x in
               let p = sum_below-same (λ b. present (r'.count e b)) (λ b. present (r.count e b)) s.blocks
-              (λ b lb. ap present (elim (pick_two e0 e to b (r.count e0 to + 1) (r.count e b)) [ inl t ↦ absurd (x t.0) | inr t ↦ count e b le lb ∙ t.1 ])) in
+              (λ b lb. ap present (elim (pick_two e0 e to b (r.count e0 to + 1) (r.count e b)) [
+                | inl t ↦ absurd (x t.0)
+                | inr t ↦ count e b le lb ∙
+                    t.1
+              ])) in
               omega arith
         ];
     owed = all_changed accounts i a a' l at (λ x. IsOwing x.stage) c.owed own;
@@ -123,7 +129,11 @@ module _ (s : Setup) (r r' : Readings) (accounts : List Account) (i : ℕ) (a a'
           | inr x ↦
               let y = weight_if-other e0 e (weight_if (r.count e0 from) 1 1) x in
               let p = sum_below-same (λ b. present (r'.count e b)) (λ b. present (r.count e b)) s.blocks
-              (λ b lb. ap present (elim (pick_two e0 e from b (r.count e0 from - 1) (r.count e b)) [ inl t ↦ absurd (x t.0) | inr t ↦ count e b le lb ∙ t.1 ]))
+              (λ b lb. ap present (elim (pick_two e0 e from b (r.count e0 from - 1) (r.count e b)) [
+                | inl t ↦ absurd (x t.0)
+                | inr t ↦ count e b le lb ∙
+                    t.1
+              ]))
               in
               omega arith
         ];

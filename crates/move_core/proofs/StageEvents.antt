@@ -1,5 +1,6 @@
 -- The books stay in balance over Reserve, TakeBack, Draw and Name.
-use Rattle.std.proofs.Common.{◌≡◌, ℕ, ◌+◌, ◌-◌, ◌<◌, ◌≤◌, ◌≢◌, inl, inr, Bool, true, false, List, [], ◌∷◌, ◌++◌, map, length, get_or, take, set, nat_eq, if◌then◌else◌, All, ℤ, pos, ◌+ℤ◌, refl, sym, ap, ◌∙◌, subst, arith, nat_lt}
+use Rattle.std.proofs.Common.{◌≡◌, ℕ, ◌+◌, ◌-◌, ◌<◌, ◌≤◌, ◌≢◌, inl, inr, Bool, true, false, List, [], ◌∷◌, ◌++◌, map, length, get_or, take}
+use Rattle.std.proofs.Common.{set, nat_eq, if◌then◌else◌, All, ℤ, pos, ◌+ℤ◌, refl, sym, ap, ◌∙◌, subst, arith, nat_lt}
 use Rattle.std.proofs.lemmas.Int.{ints}
 use Rattle.std.proofs.lemmas.Bool.{true≢false, cases_eq}
 use Rattle.hg_defs.specs.declared.moves.Move.{Move}
@@ -16,7 +17,9 @@ use Rattle.move_core.specs.declared.events.Word.TheVariants as word
 use Rattle.hg_defs.specs.Incidence.{nets_of}
 use Rattle.move_core.specs.State.{Setup, Readings, times, blank}
 use Rattle.move_core.specs.Stages.{number_at, move_at}
-use Rattle.move_core.specs.Balance.{Loads, Names, Counts, Numbers, Sum, Spreads, Prefixes, InBalance, IsSetup, IsGain, IsMoveFromOpening, IsStageMove, IsInStep, IsOwing, IsBetween, IsBookedWithin, numbered_by, carried, stage_vertices, owed_up, owed_down, weights_of}
+use Rattle.move_core.specs.Balance.{Loads, Names, Counts, Numbers, Sum, Spreads, Prefixes, InBalance, IsSetup}
+use Rattle.move_core.specs.Balance.{IsGain, IsMoveFromOpening, IsStageMove, IsInStep}
+use Rattle.move_core.specs.Balance.{IsOwing, IsBetween, IsBookedWithin, numbered_by, carried, stage_vertices, owed_up, owed_down, weights_of}
 use Rattle.move_core.specs.Stages.{booked_at}
 use Rattle.move_core.proofs.Words.{WordsAfter}
 use Rattle.move_core.proofs.TimesLaws.{all_changed, all_at}
@@ -126,7 +129,8 @@ module _ (s : Setup) (ok : IsSetup s) (r r' : Readings) (accounts : List Account
           stages = all_changed accounts i (acc stage) a' l at (λ x. IsStageMove s x.stage) b.moves.stages move;
         };
         numbers = numbers';
-        gains = all_changed accounts i (acc stage) a' l at IsGain b.gains (let e = all_at accounts i (acc stage) a' l at IsGain b.gains in omega (arith, ints));
+        gains = all_changed accounts i (acc stage) a' l at IsGain b.gains (let e = all_at accounts i (acc stage) a' l at IsGain b.gains in
+            omega (arith, ints));
         sum = sum;
         rest = rest_kept r r' accounts i (acc stage) a' l at b.rest refl refl refl cursor;
         spreads = spreads;
@@ -165,7 +169,8 @@ module _ (s : Setup) (ok : IsSetup s) (r r' : Readings) (accounts : List Account
   reserve_granted at v to p z lt q room w =
       let stage' = Granted v (block_of s.opening v) to (r.load to) in
       before_move Idle stage' at to (r.load to + weight_of s.graph v) w
-      (loads_added s r r' accounts i (acc Idle) (acc stage') l at b.loads to (weight_of s.graph v) refl (λ c k. omega arith) w.load (inl (room, λ c k. refl)))
+      (loads_added s r r' accounts i (acc Idle) (acc stage') l at b.loads to (weight_of s.graph v) refl (λ c k. omega arith) w.load
+      (inl (room, λ c k. refl)))
       (names_kept s r r' accounts b.claims b.moves b.names i (acc Idle) (acc stage') l at w.name (λ u. refl) (λ d n. (d, tt)))
       (counts_kept s r r' accounts i (acc Idle) (acc stage') l at b.counts (λ u e c k o. refl) (λ u e k o. refl) w.count tt)
       (spreads_kept s r r' accounts i (acc Idle) (acc stage') l at b.spreads (λ e. refl) (λ e. refl) w.spread w.count tt)
@@ -179,7 +184,8 @@ module _ (s : Setup) (ok : IsSetup s) (r r' : Readings) (accounts : List Account
   reserve_refused at v to p z lt q w =
       let stage' = Refused v to (r.load to) in
       before_move Idle stage' at to (r.load to + weight_of s.graph v) w
-      (loads_added s r r' accounts i (acc Idle) (acc stage') l at b.loads to (weight_of s.graph v) refl (λ c k. omega arith) w.load (inr (λ c k. omega arith)))
+      (loads_added s r r' accounts i (acc Idle) (acc stage') l at b.loads to (weight_of s.graph v) refl (λ c k. omega arith) w.load
+      (inr (λ c k. omega arith)))
       (names_kept s r r' accounts b.claims b.moves b.names i (acc Idle) (acc stage') l at w.name (λ u. refl) (λ d n. (d, tt)))
       (counts_kept s r r' accounts i (acc Idle) (acc stage') l at b.counts (λ u e c k o. refl) (λ u e k o. refl) w.count tt)
       (spreads_kept s r r' accounts i (acc Idle) (acc stage') l at b.spreads (λ e. refl) (λ e. refl) w.spread w.count tt)
@@ -236,7 +242,8 @@ module _ (s : Setup) (ok : IsSetup s) (r r' : Readings) (accounts : List Account
       (lengths_at stage at) in
       stage_to stage stage' gain at w.claim w.cursor refl (moves_at stage at) (here (IsStageMove s) stage at b.moves.stages)
       (record { low = omega (arith, ints); high = omega (arith, ints) }) loads
-      (names_kept s r r' accounts b.claims b.moves b.names i (acc stage) (acc stage') l at w.name (λ u. refl) (λ d n. (d, λ q. absurd (true≢false (sym q)))))
+      (names_kept s r r' accounts b.claims b.moves b.names i (acc stage) (acc stage') l at w.name (λ u. refl)
+      (λ d n. (d, λ q. absurd (true≢false (sym q)))))
       (counts_kept s r r' accounts i (acc stage) (acc stage') l at b.counts
       (λ u e c k o. ap (λ z. total (λ (m : Move). if nat_eq m.vertex u then (if nat_eq m.to c then 1 else 0) else 0) moves + z)
       (nothing_raised s.graph v u e to c))
@@ -245,7 +252,8 @@ module _ (s : Setup) (ok : IsSetup s) (r r' : Readings) (accounts : List Account
       drawn
       (sum_kept s r r' accounts i (acc stage) (acc stage') l at b.sum refl w.spread)
       (spreads_kept s r r' accounts i (acc stage) (acc stage') l at b.spreads (λ e. refl) (λ e. refl) w.spread w.count tt)
-      (prefixes_drawn s accounts i (acc stage) (acc stage') l at b.prefixes r' r.next (record { vertex = v; from = from; to = to; worker = 0; booked = pos 0 })
+      (prefixes_drawn s accounts i (acc stage) (acc stage') l at b.prefixes r' r.next
+      (record { vertex = v; from = from; to = to; worker = 0; booked = pos 0 })
       (lengths_at stage at) refl refl refl refl refl refl w.next loads drawn)
 
   -- Name

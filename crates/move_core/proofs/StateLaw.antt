@@ -56,7 +56,8 @@ written_after s accounts word.Next y = refl
 written_after s accounts word.Cursor y = refl
 
 -- what a step reads, and what it leaves, from a state t that is s
-pub found_is : (s t : State) (x : Event) (w : Word) (found : ℕ) → t ≡ s → w ≡ word_for s.setup s.accounts x → found ≡ read (readings t) w → found ≡ found_of s x
+pub found_is : (s t : State) (x : Event) (w : Word) (found : ℕ) → t ≡ s → w ≡ word_for s.setup s.accounts x → found ≡ read (readings t) w →
+    found ≡ found_of s x
 found_is s t x w found e f q = q ∙ ap (λ z. read (readings z) w) e ∙ ap (read (readings s)) f
 
 abbrev with_accounts : State → List Account → State

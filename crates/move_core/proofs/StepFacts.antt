@@ -1,5 +1,6 @@
 -- What a step of the machine needs to know of the books: that its places are there, and that no number passes its type.
-use Rattle.std.proofs.Common.{◌≡◌, ℕ, ◌+◌, ◌^◌, ◌<◌, ◌≤◌, true, false, Bool, List, [], ◌∷◌, to_z, of_z, length, get_or, get_or-set_same, length-set, slice_set, ℤ, pos, ◌+ℤ◌, refl, sym, ap, ◌∙◌, subst, arith}
+use Rattle.std.proofs.Common.{◌≡◌, ℕ, ◌+◌, ◌^◌, ◌<◌, ◌≤◌, true, false, Bool, List, [], ◌∷◌, to_z, of_z, length, get_or}
+use Rattle.std.proofs.Common.{get_or-set_same, length-set, slice_set, ℤ, pos, ◌+ℤ◌, refl, sym, ap, ◌∙◌, subst, arith}
 use Rattle.std.proofs.lemmas.Int.{ints, to_z-of_z}
 use Rattle.std.specs.Int.{w64}
 use Rattle.std.specs.Prelude.{FitsSigned}
@@ -62,7 +63,8 @@ module _ (s : State) (k : IsBooks s) where
   may_at x h = (allowed s.setup s.accounts x h).step
 
   pub other_below : (i j : ℕ) → is_enabled s (Join i j) ≡ true → j < length s.accounts
-  other_below i j h = live_below s.accounts j (and_parts (account s j).live (is_idle (account s j).stage) (allowed s.setup s.accounts (Join i j) h).others).0
+  other_below i j h = live_below s.accounts j (and_parts (account s j).live (is_idle (account s j).stage)
+      (allowed s.setup s.accounts (Join i j) h).others).0
 
   -- the parts of a stage that isn't idle
   module _ (i : ℕ) (l : i < length s.accounts) where
@@ -90,7 +92,8 @@ module _ (s : State) (k : IsBooks s) where
     booked_here = booked_small s.setup (readings s) s.accounts k.setup.bounds k.balance i (blank false) l
 
   pub take_back_vertex : (i : ℕ) → is_enabled s (TakeBack i) ≡ true → vertex_at (account s i).stage < vertex_count s.setup.graph
-  take_back_vertex i h = vertex_here i (pass_below (TakeBack i) h) (on_reserved (λ stage. is_idle stage ≡ false) (λ v to seen. refl) (λ v from to seen. refl)
+  take_back_vertex i h = vertex_here i (pass_below (TakeBack i) h) (on_reserved (λ stage. is_idle stage ≡ false) (λ v to seen. refl)
+      (λ v from to seen. refl)
       (account s i).stage (may_at (TakeBack i) h))
 
   pub give_back_vertex : (i : ℕ) → is_enabled s (GiveBack i) ≡ true → vertex_at (account s i).stage < vertex_count s.setup.graph
@@ -120,9 +123,11 @@ module _ (s : State) (k : IsBooks s) where
       let t = state_after s x in
       let kt = event_keeps s k x h in
       let l = pass_below x h in
-      let here : (account t (pass_of x)) ≡ a' = ap (λ z. get_or z (pass_of x) (blank false)) e ∙ get_or-set_same s.accounts (pass_of x) a' (blank false) l in
+      let here : (account t (pass_of x)) ≡ a' = ap (λ z. get_or z (pass_of x) (blank false)) e ∙ get_or-set_same s.accounts (pass_of x) a' (blank false)
+      l in
       let l' : pass_of x < length t.accounts = subst (λ z. pass_of x < length z) (sym e) (let n = length-set s.accounts (pass_of x) a' in omega arith) in (
-        subst (λ (z : Account). IsGainSmall z.gain) here (gain_small t.setup (readings t) t.accounts kt.setup.bounds kt.balance (pass_of x) (blank false) l'),
+        subst (λ (z : Account). IsGainSmall z.gain) here (gain_small t.setup (readings t) t.accounts kt.setup.bounds kt.balance (pass_of x) (blank false)
+            l'),
         subst (λ (z : Account). IsGainSmall (booked_at z.stage)) here (booked_small t.setup (readings t) t.accounts kt.setup.bounds kt.balance (pass_of x)
             (blank false) l'),
       )
@@ -136,7 +141,11 @@ module _ (s : State) (k : IsBooks s) where
       (account s (pass_of x)).stage) × IsGainSmall (booked_at (account s (pass_of x)).stage +ℤ gain_after s.setup x (found_of s x)
       (account s (pass_of x)).stage)
   gain_fits (Widen i) h = let b = after_gain (Widen i) h _ refl in (b.0, subst IsGainSmall (moving-booked _ (account s i).stage _ (may_at (Widen i) h)) b.1)
-  gain_fits (Narrow i) h = let b = after_gain (Narrow i) h _ refl in (b.0, subst IsGainSmall (moving-booked _ (account s i).stage _ (may_at (Narrow i) h)) b.1)
+  gain_fits (Narrow i) h = let b = after_gain (Narrow i) h _ refl in (
+    b.0,
+    subst IsGainSmall (moving-booked _ (account s i).stage _ (may_at (Narrow i) h))
+        b.1,
+  )
   gain_fits x h = (as_before _ (gain_here (pass_of x) (pass_below x h)), as_before _ (booked_here (pass_of x) (pass_below x h)))
 
   -- what it books is the difference of two small numbers

@@ -1,5 +1,7 @@
 -- How often a number stands in a list: after an insertion, after a removal, and in all accounts after a change of one.
-use Rattle.std.proofs.Common.{◌≡◌, ℕ, zero, suc, ◌+◌, ◌*◌, ◌<◌, ◌≤◌, ◌⊎◌, inl, inr, Bool, true, false, ◌&&◌, cond, if◌then◌else◌, nat_eq, List, [], ◌∷◌, length, length-set, get_or, get_or-set_same, get_or-set_other, set, ℤ, ◌+ℤ◌, All, refl, sym, ap, ◌∙◌, subst, arith, nat_cmp}
+use Rattle.std.proofs.Common.{◌≡◌, ℕ, zero, suc, ◌+◌, ◌*◌, ◌<◌, ◌≤◌, ◌⊎◌, inl, inr, Bool, true, false, ◌&&◌}
+use Rattle.std.proofs.Common.{cond, if◌then◌else◌, nat_eq, List, [], ◌∷◌, length}
+use Rattle.std.proofs.Common.{length-set, get_or, get_or-set_same, get_or-set_other, set, ℤ, ◌+ℤ◌, All, refl, sym, ap, ◌∙◌, subst, arith, nat_cmp}
 use Rattle.std.specs.BTreeSet.{insert_key}
 use Rattle.std.specs.Set.{remove_key}
 use Rattle.std.specs.Ordering.{match_ordering}
@@ -180,7 +182,8 @@ times_at xs k d l =
     omega arith
 
 -- a sum that is the smaller at each element, and by one at an element that stands in the list
-pub total_strict : (f g : ℕ → ℕ) (xs : List ℕ) (v : ℕ) → ((u : ℕ) → 0 < times u xs → f u ≤ g u) → 0 < times v xs → f v + 1 ≤ g v → total f xs + 1 ≤ total g xs
+pub total_strict : (f g : ℕ → ℕ) (xs : List ℕ) (v : ℕ) → ((u : ℕ) → 0 < times u xs → f u ≤ g u) → 0 < times v xs → f v + 1 ≤ g v →
+    total f xs + 1 ≤ total g xs
 total_strict f g [] v h p q = absurd (omega arith)
 total_strict f g (x ∷ xs) v h p q =
     elim (cases_eq x v) [

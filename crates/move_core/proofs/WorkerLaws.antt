@@ -1,5 +1,6 @@
 -- The clause on workers: where the moves stay, where one is done, and after a Split and a Join.
-use Rattle.std.proofs.Common.{◌≡◌, ℕ, zero, suc, ◌-◌, ◌<◌, ◌≤◌, ◌≢◌, inl, inr, true, false, List, [], ◌∷◌, ◌++◌, length, length-append, length-set, get_or, get_or-set_same, get_or-set_other, set, All, refl, sym, ap, ◌∙◌, subst, arith}
+use Rattle.std.proofs.Common.{◌≡◌, ℕ, zero, suc, ◌-◌, ◌<◌, ◌≤◌, ◌≢◌, inl, inr, true, false, List, [], ◌∷◌, ◌++◌, length, length-append}
+use Rattle.std.proofs.Common.{length-set, get_or, get_or-set_same, get_or-set_other, set, All, refl, sym, ap, ◌∙◌, subst, arith}
 use Rattle.std.proofs.lemmas.Bool.{true≢false, cases_eq, cases_lt}
 use Rattle.std.proofs.lemmas.List.{get_or_append_left, get_or-append_right, get_or_past}
 use Rattle.std.proofs.lemmas.List.Elements.{All-nil, All-cons, All-append}
@@ -105,8 +106,10 @@ workers_split accounts c = from_own (accounts ++ blank true ∷ []) each
     each j =
         elim (cases_lt j (length accounts)) [
           | inl l ↦
-              subst (λ (z : Account). AreOwn (accounts ++ blank true ∷ []) j z.moves) (sym (get_or_append_left accounts (blank true ∷ []) (blank false) j l))
-              (own_same accounts (accounts ++ blank true ∷ []) j (account_in accounts j).moves (let n = length-append accounts (blank true ∷ []) in omega arith)
+              subst (λ (z : Account). AreOwn (accounts ++ blank true ∷ []) j z.moves)
+              (sym (get_or_append_left accounts (blank true ∷ []) (blank false) j l))
+              (own_same accounts (accounts ++ blank true ∷ []) j (account_in accounts j).moves (let n = length-append accounts (blank true ∷ []) in
+              omega arith)
               (λ w q h. sym (ap (λ (z : Account). z.live) (get_or_append_left accounts (blank true ∷ []) (blank false) w q)) ∙ h)
               (own_of accounts c j))
           | inr m ↦
@@ -125,7 +128,8 @@ joined accounts i j both = set (set accounts i both) j (blank false)
 
 -- Join
 pub workers_joined : (accounts : List Account) (i j : ℕ) (both : Account) → i < length accounts → j < length accounts → i ≢ j
-    → (account_in accounts i).live ≡ true → (account_in accounts j).live ≡ true → both.moves ≡ (account_in accounts i).moves ++ (account_in accounts j).moves
+    → (account_in accounts i).live ≡ true → (account_in accounts j).live ≡ true → both.moves ≡ (account_in accounts i).moves ++
+    (account_in accounts j).moves
     → Workers accounts → Workers (joined accounts i j both)
 workers_joined accounts i j both li lj apart on on' e c = from_own (joined accounts i j both) each
   where

@@ -1,5 +1,6 @@
 -- Where every pass is between two moves: the gain of a pass is what its own moves booked, and a Join leaves the order.
-use Rattle.std.proofs.Common.{◌≡◌, ◌≢◌, ℕ, ◌-◌, ◌<◌, inl, inr, Bool, true, false, List, [], ◌∷◌, length, length-append, length-set, get_or, get_or-set_same, get_or-set_other, set, nat_eq, nat_lt, if◌then◌else◌, All, ℤ, pos, ◌+ℤ◌, refl, sym, ap, ◌∙◌, arith}
+use Rattle.std.proofs.Common.{◌≡◌, ◌≢◌, ℕ, ◌-◌, ◌<◌, inl, inr, Bool, true, false, List, [], ◌∷◌, length, length-append, length-set, get_or, get_or-set_same}
+use Rattle.std.proofs.Common.{get_or-set_other, set, nat_eq, nat_lt, if◌then◌else◌, All, ℤ, pos, ◌+ℤ◌, refl, sym, ap, ◌∙◌, arith}
 use Rattle.std.specs.List.{range_with_len, flat_map}
 use Rattle.std.proofs.lemmas.Int.{ints}
 use Rattle.std.proofs.lemmas.Bool.{ltb-true, ne_eqb, eq-eqb, and_parts, cases_eq, cases_lt}
@@ -68,7 +69,8 @@ module _ (g : Setup) (r : Readings) (accounts : List Account) (rest : IsAtRest g
       let z : booked_at a.stage ≡ pos 0 = ap booked_at (idle_here g r accounts rest k d l) in
       omega (arith, ints)
 
-  pub gains_of_workers : AreLive accounts → (i : ℕ) → i < length accounts → (account_in accounts i).gain ≡ booked_by_worker i (moves_in_order accounts r.next)
+  pub gains_of_workers : AreLive accounts → (i : ℕ) → i < length accounts → (account_in accounts i).gain ≡ booked_by_worker i
+      (moves_in_order accounts r.next)
   gains_of_workers live i l =
       let by : Account → ℤ = λ a. booked_by_worker i a.moves in
       let all = total_z_all (λ m. if nat_eq m.worker i then m.booked else pos 0) in

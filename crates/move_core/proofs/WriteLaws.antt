@@ -1,5 +1,6 @@
 -- A number written into a word of a state: what the words read, and that none is lost.
-use Rattle.std.proofs.Common.{◌≡◌, ◌≢◌, ℕ, ◌*◌, ◌<◌, true, List, length, length-set, get_or-set_same, get_or-set_other, slice_index, slice_set, nat_lt, refl, ap, ◌∙◌, arith}
+use Rattle.std.proofs.Common.{◌≡◌, ◌≢◌, ℕ, ◌*◌, ◌<◌, true, List, length, length-set, get_or-set_same}
+use Rattle.std.proofs.Common.{get_or-set_other, slice_index, slice_set, nat_lt, refl, ap, ◌∙◌, arith}
 use Rattle.std.proofs.lemmas.Bool.{ltb-true, and_parts}
 use Rattle.std.proofs.lemmas.Nat.{same_from_place, mul-add-lt}
 use Rattle.hg_defs.specs.Hypergraph.{vertex_count, net_count}

@@ -1,5 +1,6 @@
 -- The events of a round: the word of each, where it is enabled, what it writes, and what becomes of the account.
-use Rattle.std.specs.Prelude.{◌≡◌, ◌≢◌, ℕ, ◌+◌, ◌-◌, ◌*◌, ◌^◌, List, [], ◌∷◌, ◌++◌, length, map, ℤ, pos, ◌+ℤ◌, ◌-ℤ◌, Bool, true, false, not, ◌&&◌, nat_eq, nat_lt, nat_le, slice_index, slice_set, if◌then◌else◌}
+use Rattle.std.specs.Prelude.{◌≡◌, ◌≢◌, ℕ, ◌+◌, ◌-◌, ◌*◌, ◌^◌, List, [], ◌∷◌, ◌++◌, length, map, ℤ, pos, ◌+ℤ◌, ◌-ℤ◌, Bool, true}
+use Rattle.std.specs.Prelude.{false, not, ◌&&◌, nat_eq, nat_lt, nat_le, slice_index, slice_set, if◌then◌else◌}
 use Rattle.std.specs.Ordering.{nat_cmp}
 use Rattle.std.specs.BTreeSet.{insert_key}
 use Rattle.std.specs.Set.{remove_key}
@@ -10,10 +11,12 @@ use Rattle.move_core.specs.declared.account.Account.{Account}
 use Rattle.move_core.specs.declared.account.Stage.{Stage}
 use Rattle.move_core.specs.declared.account.Stage.TheVariants.{Idle, Refused, Granted}
 use Rattle.move_core.specs.declared.events.Event.{Event}
-use Rattle.move_core.specs.declared.events.Event.TheVariants.{Claim, Unclaim, Reserve, TakeBack, Draw, Name, Raise, Widen, Lower, Narrow, GiveBack, Seed, Peek, Split, Join}
+use Rattle.move_core.specs.declared.events.Event.TheVariants.{Claim, Unclaim, Reserve, TakeBack, Draw, Name, Raise, Widen, Lower}
+use Rattle.move_core.specs.declared.events.Event.TheVariants.{Narrow, GiveBack, Seed, Peek, Split, Join}
 use Rattle.move_core.specs.declared.events.Word.{Word}
 use Rattle.move_core.specs.declared.events.Word.TheVariants as word
-use Rattle.move_core.specs.Stages.{vertex_at, to_at, from_at, raised_at, lowered_at, is_idle, is_reserved, is_granted, owes_nothing, owes_up, owes_down, is_moving, drawn_stage, named_stage, raised_stage, lowered_stage, booked_stage, move_at, number_at}
+use Rattle.move_core.specs.Stages.{vertex_at, to_at, from_at, raised_at, lowered_at, is_idle, is_reserved, is_granted, owes_nothing, owes_up, owes_down}
+use Rattle.move_core.specs.Stages.{is_moving, drawn_stage, named_stage, raised_stage, lowered_stage, booked_stage, move_at, number_at}
 use Rattle.hg_defs.specs.Incidence.{nets_of}
 use Rattle.move_core.specs.State.{Setup, Readings, State, times, blank, account_in, read, readings, written}
 

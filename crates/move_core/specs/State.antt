@@ -1,5 +1,6 @@
 -- The state of a round: what it is over, its words, and the accounts of its passes.
-use Rattle.std.specs.Prelude.{◌≡◌, ◌<◌, ℕ, ◌+◌, ◌*◌, List, [], map, replicate, pos, Bool, true, false, nat_eq, slice_index, slice_index_or, slice_set, if◌then◌else◌}
+use Rattle.std.specs.Prelude.{◌≡◌, ◌<◌, ℕ, ◌+◌, ◌*◌, List, [], map, replicate, pos, Bool, true, false, nat_eq}
+use Rattle.std.specs.Prelude.{slice_index, slice_index_or, slice_set, if◌then◌else◌}
 use Rattle.std.specs.List.{range_with_len, flat_map}
 use Rattle.hg_defs.specs.Sums.{total, sum_below}
 use Rattle.hg_defs.specs.Hypergraph.{Hyper, vertex_count, net_count, net_of}

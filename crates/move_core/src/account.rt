@@ -1,6 +1,8 @@
 ghost use Rattle.std.specs.Prelude.{◌≡◌, ◌+◌, ◌^◌, ◌<◌, ◌+ℤ◌, ◌&&◌, not, nat_eq, FitsSigned};
 ghost use Rattle.std.specs.Int.{w64};
-ghost use Rattle.move_core.specs.Stages.{vertex_at, from_at, to_at, raised_at, lowered_at, booked_at, is_idle, is_reserved, is_granted, is_moving, owes_nothing, owes_up, owes_down, drawn_stage, named_stage, raised_stage, lowered_stage, booked_stage};
+ghost use Rattle.move_core.specs.Stages.{vertex_at, from_at, to_at, raised_at, lowered_at, booked_at, is_idle};
+ghost use Rattle.move_core.specs.Stages.{is_reserved, is_granted, is_moving, owes_nothing, owes_up, owes_down};
+ghost use Rattle.move_core.specs.Stages.{drawn_stage, named_stage, raised_stage, lowered_stage, booked_stage};
 
 use hg_defs::Move;
 use std::collections::LinkedList;
@@ -189,7 +191,8 @@ impl Stage {
     }
 
     pub(crate) fn is_lowering(self) -> bool
-        ensures { result ≡ is_moving (λ named raised lowered owed. owes_nothing owed && nat_eq raised (lowered + 1)) self }
+        ensures { result ≡ is_moving (λ named raised lowered owed. owes_nothing owed && nat_eq raised (lowered + 1))
+            self }
     {
         match self {
             Stage::Moving {

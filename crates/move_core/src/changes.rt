@@ -1,6 +1,7 @@
 ghost use Rattle.std.specs.Prelude.{◌≡◌, ◌<◌, ◌+◌, ◌^◌, ℕ, OnOk, OnErr, true, slice_set, nat_le, if◌then◌else◌};
 ghost use Rattle.move_core.specs.State.{account};
-ghost use Rattle.move_core.specs.Events.{is_enabled, found_of, word_for, accounts_after, account_after, stage_after, gain_after, pass_of};
+ghost use Rattle.move_core.specs.Events.{is_enabled, found_of, word_for, accounts_after};
+ghost use Rattle.move_core.specs.Events.{account_after, stage_after, gain_after, pass_of};
 ghost use Rattle.move_core.specs.Balance.{IsBooks};
 
 use crate::account::Stage;
@@ -13,7 +14,8 @@ use hg_base::{FlatHyper, NoMemory};
 /// Where a pass stands that found a load and added the weight of its vertex.
 fn reservation(vertex: u32, from: u32, to: u32, seen: u64, weight: u64, limit: u64) -> Stage
     requires { seen + weight < 2 ^ 64 }
-    ensures { result ≡ (if nat_le (seen + weight) limit then Stage.Granted vertex from to seen else Stage.Refused vertex to seen) }
+    ensures { result ≡ (if nat_le (seen + weight) limit then Stage.Granted vertex from to seen else Stage.Refused
+        vertex to seen) }
 {
     if seen + weight <= limit {
         Stage::Granted {
@@ -70,7 +72,8 @@ impl Ledger {
     fn join(&mut self, pass: u32, other: u32) -> Result<(), NoMemory>
         requires balance { IsBooks self.old }
         requires enabled { is_enabled self.old (Event.Join pass other) ≡ true }
-        ensures ok { OnOk result (self.new ≡ record self.old { accounts = accounts_after self.old (Event.Join pass other) 0 }) }
+        ensures ok { OnOk result (self.new ≡ record self.old
+            { accounts = accounts_after self.old (Event.Join pass other) 0 }) }
         ensures err { OnErr result (self.new ≡ self.old) }
     {
         let joined = self.pass(pass).joined(self.alloc, self.pass(other))?;
@@ -93,7 +96,10 @@ impl Ledger {
         requires enabled { is_enabled self.old event ≡ true }
         requires word { word ≡ word_for self.old.setup self.old.accounts event }
         requires found { found ≡ found_of self.old event }
-        ensures ok { OnOk result (self.new ≡ record self.old { accounts = slice_set self.old.accounts (pass_of event) (account_after self.old.setup event found (account self.old (pass_of event))) }) }
+        ensures ok { OnOk result (self.new ≡ record self.old {
+          accounts = slice_set self.old.accounts (pass_of event)
+              (account_after self.old.setup event found (account self.old (pass_of event)));
+        }) }
         ensures err { OnErr result (self.new ≡ self.old) }
     {
         let next = self.next_stage(h, event, found);

@@ -50,7 +50,8 @@ pub(crate) fn loads_of(
 /// For each net, its number of pins in each block.
 fn counts_of(alloc: Global, h: &FlatHyper, p: &[u32], k: u32) -> Result<Vec<u64>, NoMemory>
     requires { IsPartition h.now k p.now }
-    ensures { IfOk result (λ counts. counts.items ≡ flat_map (λ e. map (pins_in p.now (net_of h.now e).pins) (range_with_len 0 k)) (range_with_len 0 (net_count h.now))) }
+    ensures { IfOk result (λ counts. counts.items ≡ flat_map (λ e. map (pins_in p.now (net_of h.now e).pins)
+        (range_with_len 0 k)) (range_with_len 0 (net_count h.now))) }
 {
     let mut counts = vec![in alloc; 0u64; h.nets() as usize * k as usize]?;
     for e in 0..h.nets() {
@@ -65,7 +66,8 @@ fn counts_of(alloc: Global, h: &FlatHyper, p: &[u32], k: u32) -> Result<Vec<u64>
 /// For each net, 64 more than its number of blocks with pins, read off the counts.
 fn spreads_of(alloc: Global, nets: u32, k: u32, counts: &[u64]) -> Result<Vec<u64>, NoMemory>
     requires { length counts.now ≡ nets * k }
-    ensures { IfOk result (λ spreads. spreads.items ≡ map (λ e. 64 + present_below (λ b. slice_index counts.now (count_place k e b)) k) (range_with_len 0 nets)) }
+    ensures { IfOk result (λ spreads. spreads.items ≡ map
+        (λ e. 64 + present_below (λ b. slice_index counts.now (count_place k e b)) k) (range_with_len 0 nets)) }
 {
     let mut spreads = Vec::with_capacity(alloc, nets as usize)?;
     for e in 0..nets {

@@ -2,7 +2,8 @@ ghost use Rattle.std.specs.Prelude.{◌≡◌, ◌+◌, ◌^◌, ◌<◌, ◌+�
 ghost use Rattle.std.specs.Int.{w64};
 ghost use Rattle.move_core.specs.Stages.{booked_at};
 ghost use Rattle.move_core.specs.State.{blank};
-ghost use Rattle.move_core.specs.Events.{claimed, unclaimed, changed, booked, given_back, seeded, joined_with, is_holding};
+ghost use Rattle.move_core.specs.Events.{claimed, unclaimed, changed, booked, given_back};
+ghost use Rattle.move_core.specs.Events.{seeded, joined_with, is_holding};
 
 use crate::account::{Owed, Stage};
 use crate::events::Event;

@@ -1,4 +1,5 @@
-ghost use Rattle.std.specs.Prelude.{◌≡◌, ◌<◌, ◌≤◌, ◌^◌, ℕ, OnOk, IfOk, IfErr, true, false, length, take, slice_index_or};
+ghost use Rattle.std.specs.Prelude.{◌≡◌, ◌<◌, ◌≤◌, ◌^◌, ℕ, OnOk, IfOk, IfErr, true, false};
+ghost use Rattle.std.specs.Prelude.{length, take, slice_index_or};
 ghost use Rattle.move_core.specs.Events.{is_enabled};
 ghost use Rattle.move_core.specs.Run.{run_of, all_enabled, IsStoppedBy, IsLeftAt};
 ghost use Rattle.hg_defs.specs.Hypergraph.{IsFixedWithin};

@@ -4,7 +4,8 @@ use Rattle.atomic_table.specs.Table.{Me, Allows}
 use Rattle.atomic_table.specs.Seated.{TableId}
 use Rattle.move_core.specs.declared.account.Account.{Account}
 use Rattle.move_core.specs.declared.events.Event.{Event}
-use Rattle.move_core.specs.declared.events.Event.TheVariants.{Claim, Unclaim, Reserve, TakeBack, Draw, Name, Raise, Widen, Lower, Narrow, GiveBack, Seed, Peek, Split, Join}
+use Rattle.move_core.specs.declared.events.Event.TheVariants.{Claim, Unclaim, Reserve, TakeBack, Draw, Name, Raise, Widen, Lower}
+use Rattle.move_core.specs.declared.events.Event.TheVariants.{Narrow, GiveBack, Seed, Peek, Split, Join}
 use Rattle.move_core.specs.State.{Setup}
 use Rattle.move_core.specs.Events.{word_of, write_of}
 use Rattle.move_core.proofs.StageCases.{no}
@@ -17,7 +18,8 @@ use Rattle.move_table.specs.Steps.{IsReady, acted, step_amount, overwritten, is_
 use Rattle.move_table.proofs.StepLaws.{is_alone, allows, IsRight}
 use Rattle.move_table.proofs.RightLaws.{adding, taking, adds, subtracts, stores, swaps, loads}
 
-alone_by : (test : Event → Bool) → ((i : ℕ) → test (Split i) ≡ false) → ((i j : ℕ) → test (Join i j) ≡ false) → (x : Event) → test x ≡ true → is_alone x ≡ true
+alone_by : (test : Event → Bool) → ((i : ℕ) → test (Split i) ≡ false) → ((i j : ℕ) → test (Join i j) ≡ false) → (x : Event) → test x ≡ true →
+    is_alone x ≡ true
 alone_by test s j (Claim i v) h = refl
 alone_by test s j (Unclaim i v) h = refl
 alone_by test s j (Reserve i v to) h = refl
@@ -65,12 +67,15 @@ module _ (table : TableId) (t : Terms) (slots id : ℕ) (me : Me (Unit {0}) View
   pub add_allows : (amount : ℕ) → is_added x ≡ true → amount ≡ step_amount g x a → Allows (AllStanding t) slots id me i (adding amount) Tells
   add_allows amount h e =
       allows table t slots id me x i (adding amount) (alone_by is_added (λ i. refl) (λ i j. refl) x h) ready
-      (λ words views k at small. subst (λ z. IsRight me.0 x (adding z) words) (sym e) (adds words views id me.0 ready.live k at x h ready.number ready.may small))
+      (λ words views k at small. subst (λ z. IsRight me.0 x (adding z) words) (sym e) (adds words views id me.0 ready.live k at x h ready.number ready.may
+      small))
 
   pub subtract_allows : (amount : ℕ) → is_subtracted x ≡ true → amount ≡ step_amount g x a → Allows (AllStanding t) slots id me i (taking amount) Tells
   subtract_allows amount h e =
       allows table t slots id me x i (taking amount) (alone_by is_subtracted (λ i. refl) (λ i j. refl) x h) ready
-      (λ words views k at small. subst (λ z. IsRight me.0 x (taking z) words) (sym e) (subtracts words views id me.0 ready.live k at x h ready.number ready.may small))
+      (λ words views k at small. subst (λ z. IsRight me.0 x (taking z) words) (sym e) (subtracts words views id me.0 ready.live k at x h ready.number
+      ready.may
+      small))
 
   pub swap_allows : (new : ℕ) → is_swapped x ≡ true → new ≡ 1 → Allows (AllStanding t) slots id me i (λ n. new) Tells
   swap_allows new h e =
@@ -83,10 +88,13 @@ module _ (table : TableId) (t : Terms) (slots id : ℕ) (me : Me (Unit {0}) View
       (λ words views k at small. loads words views id me.0 ready.live k at x h ready.number ready.may)
 
   -- a store doesn't tell what it found, which is known nevertheless
-  pub store_allows : (new : ℕ) → is_stored x ≡ true → new ≡ write_of g x a 0 → Allows (AllStanding t) slots id me i (λ n. new) (λ n after. (after ≡ (acted x (overwritten g x a) me.0, me.1)) × IsKnownFound g x a (overwritten g x a))
+  pub store_allows : (new : ℕ) → is_stored x ≡ true → new ≡ write_of g x a 0 → Allows (AllStanding t) slots id me i (λ n. new)
+      (λ n after. (after ≡ (acted x (overwritten g x a) me.0, me.1)) × IsKnownFound g x a (overwritten g x a))
   store_allows new h e = λ s k deep at small.
       let q = allows table t slots id me x i (λ n. new) (alone_by is_stored (λ i. refl) (λ i j. refl) x h) ready
-      (λ words views k at small. subst (λ z. IsRight me.0 x (λ n. z) words) (sym e) (stores words views id me.0 ready.live k at x h ready.number ready.may)) s k deep at small in
+      (λ words views k at small. subst (λ z. IsRight me.0 x (λ n. z) words) (sym e) (stores words views id me.0 ready.live k at x h ready.number
+      ready.may)) s
+      k deep at small in
       let told = q.4.1 in
       let f = found_overwritten g x a _ h told.found in
       (q.0, q.1, q.2, q.3, (q.4.0 ∙ ap (λ n. (acted x n me.0, me.1)) f, subst (IsKnownFound g x a) f told))

@@ -12,7 +12,8 @@ setup_of_terms t k =
     let p = k.parted in
     record { graph = p.sound; bounds = p.bounds; blocks = let f = p.few in omega arith; opening = p.partition; fits = k.fits }
 
-pub begins : (t : Terms) (words : List ℕ) → IsTerms t → length words ≡ word_count (terms_setup t) → IsOpening (terms_setup t) (table_readings (terms_setup t) words) → IsStanding t words (first_view t ∷ [])
+pub begins : (t : Terms) (words : List ℕ) → IsTerms t → length words ≡ word_count (terms_setup t) → IsOpening (terms_setup t)
+    (table_readings (terms_setup t) words) → IsStanding t words (first_view t ∷ [])
 begins t words ok wide opening = record {
   over = ok;
   wide = wide;
@@ -23,5 +24,12 @@ begins t words ok wide opening = record {
 }
   where
     each : (i : ℕ) → i < 1 → IsViewAt t (first_view t ∷ []) i (get_or (first_view t ∷ []) i spent_view)
-    each zero l = record { terms = λ h. refl; number = λ h. refl; stands = λ h. omega arith; first = λ n. absurd (n refl); makes = λ h. let s = ok.some in omega arith }
+    each zero l = record {
+      terms = λ h. refl;
+      number = λ h. refl;
+      stands = λ h. omega arith;
+      first = λ n. absurd (n refl);
+      makes = λ h. let s = ok.some in
+          omega arith;
+    }
     each (suc i) l = absurd (omega arith)

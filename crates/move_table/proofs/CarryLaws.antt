@@ -1,5 +1,6 @@
 -- One net of a move: the steps that raise it and lower it, and the stages between them.
-use Rattle.std.proofs.Common.{◌≡◌, ◌≢◌, ℕ, ◌+◌, ◌-◌, ◌<◌, true, false, List, length, slice_index, nat_eq, nat_lt, if◌then◌else◌, ℤ, pos, ◌+ℤ◌, FitsSigned, refl, sym, ap, ◌∙◌, subst, arith}
+use Rattle.std.proofs.Common.{◌≡◌, ◌≢◌, ℕ, ◌+◌, ◌-◌, ◌<◌, true, false, List, length, slice_index, nat_eq, nat_lt}
+use Rattle.std.proofs.Common.{if◌then◌else◌, ℤ, pos, ◌+ℤ◌, FitsSigned, refl, sym, ap, ◌∙◌, subst, arith}
 use Rattle.std.specs.Int.{w64}
 use Rattle.std.proofs.lemmas.Int.{ints}
 use Rattle.std.proofs.lemmas.Bool.{eq-eqb, ne_eqb, lt-ltb, and_from}
@@ -43,7 +44,11 @@ on_the_way grant number raised lowered owed booked = Moving grant.vertex grant.f
 
 -- what a pass adds where it books nothing
 pub keeps_none : (v : View) → KeepsFit v (pos 0)
-keeps_none v = record { move = λ h. subst (FitsSigned w64) (sym (none (booked_at v.account.stage))) h; all = λ h. subst (FitsSigned w64) (sym (none v.account.gain)) h }
+keeps_none v = record {
+  move = λ h. subst (FitsSigned w64) (sym (none (booked_at v.account.stage))) h;
+  all = λ h. subst (FitsSigned w64)
+      (sym (none v.account.gain)) h;
+}
   where
     none : (x : ℤ) → x +ℤ pos 0 ≡ x
     none x = omega (arith, ints)
@@ -71,22 +76,30 @@ module _ (t : Terms) (i : ℕ) (grant : Grant) (e : ℕ) (ok : IsGrantOf t grant
     raise_may : may_step g (Raise i) v.account ≡ true
     raise_may =
         subst (λ s. may_step g (Raise i) (record v.account { stage = s }) ≡ true) (sym at.stage)
-        (and_from (nat_eq (at.place + 0) at.place) (nat_lt (at.place + 0) (length nets)) (eq-eqb (at.place + 0) at.place (plus_none at.place)) (lt-ltb (at.place + 0) (length nets) (let w = at.within in omega arith)))
+        (and_from (nat_eq (at.place + 0) at.place) (nat_lt (at.place + 0) (length nets)) (eq-eqb (at.place + 0) at.place (plus_none at.place))
+        (lt-ltb (at.place + 0) (length nets) (let w = at.within in omega arith)))
 
     pub raise_ready : (table : TableId) (w : ℕ) → table.words ≡ word_count g → w ≡ counts_place g e grant.to → IsReady table t v (Raise i) w
     raise_ready table w wide place =
-        ready table t v (Raise i) w wide m.terms m.live (sym m.number) raise_may (subst (Exists g) (sym raise_word) (below, ok.to)) (place ∙ ap (word_place g) (sym raise_word))
+        ready table t v (Raise i) w wide m.terms m.live (sym m.number) raise_may (subst (Exists g) (sym raise_word) (below, ok.to))
+        (place ∙ ap (word_place g) (sym raise_word))
 
     -- the number that the step tells is the field of the count
-    raise_count : (n : ℕ) → number_in (terms_setup v.terms) (word_of (terms_setup v.terms) (Raise i) v.account) n ≡ field n (net_bits t.part.hyper e) (field_place g e grant.to)
-    raise_count n = at_terms v m (λ z. number_in (terms_setup z) (word_of (terms_setup z) (Raise i) v.account) n ≡ field n (net_bits t.part.hyper e) (field_place g e grant.to)) (ap (λ z. number_in g z n) raise_word)
+    raise_count : (n : ℕ) → number_in (terms_setup v.terms) (word_of (terms_setup v.terms) (Raise i) v.account) n ≡ field n (net_bits t.part.hyper e)
+        (field_place g e grant.to)
+    raise_count n = at_terms v m (λ z. number_in (terms_setup z) (word_of (terms_setup z) (Raise i) v.account) n ≡ field n (net_bits t.part.hyper e)
+        (field_place g e grant.to)) (ap (λ z. number_in g z n) raise_word)
 
     module _ (n : ℕ) (u : View) (is : u ≡ acted (Raise i) (number_in (terms_setup v.terms) (word_of (terms_setup v.terms) (Raise i) v.account) n) v) where
       abbrev count : ℕ
       count = number_in (terms_setup v.terms) (word_of (terms_setup v.terms) (Raise i) v.account) n
 
       pub raised_mover : IsMover t i u
-      raised_mover = record { terms = ap (λ (z : View). z.terms) is ∙ m.terms; live = ap (λ (z : View). z.account.live) is ∙ m.live; number = ap (λ (z : View). z.number) is ∙ m.number }
+      raised_mover = record {
+        terms = ap (λ (z : View). z.terms) is ∙ m.terms;
+        live = ap (λ (z : View). z.account.live) is ∙ m.live;
+        number = ap (λ (z : View). z.number) is ∙ m.number;
+      }
 
       raised_at_stage : u.account.stage ≡ on_the_way grant at.number (at.place + 0 + 1) at.place (if nat_eq count 0 then Up else Nothing) at.booked
       raised_at_stage = ap (λ (z : View). z.account.stage) is ∙ ap (raised_stage count) at.stage
@@ -120,31 +133,42 @@ module _ (t : Terms) (i : ℕ) (grant : Grant) (e : ℕ) (ok : IsGrantOf t grant
 
         pub widen_ready : (table : TableId) (w : ℕ) → table.words ≡ word_count g → w ≡ net_place g e → IsReady table t u (Widen i) w
         widen_ready table w wide place =
-            ready table t u (Widen i) w wide raised_mover.terms raised_mover.live (sym raised_mover.number) widen_may (subst (Exists g) (sym widen_word) below) (place ∙ ap (word_place g) (sym widen_word))
+            ready table t u (Widen i) w wide raised_mover.terms raised_mover.live (sym raised_mover.number) widen_may
+            (subst (Exists g) (sym widen_word) below)
+            (place ∙ ap (word_place g) (sym widen_word))
 
-        module _ (s : ℕ) (after : View) (then_is : after ≡ acted (Widen i) (number_in (terms_setup u.terms) (word_of (terms_setup u.terms) (Widen i) u.account) s) u) where
+        module _ (s : ℕ) (after : View) (then_is : after ≡ acted (Widen i)
+            (number_in (terms_setup u.terms) (word_of (terms_setup u.terms) (Widen i) u.account)
+            s) u) where
           abbrev spread : ℕ
           spread = number_in (terms_setup u.terms) (word_of (terms_setup u.terms) (Widen i) u.account) s
 
           pub spread_is : spread ≡ s
-          spread_is = at_terms u raised_mover (λ z. number_in (terms_setup z) (word_of (terms_setup z) (Widen i) u.account) s ≡ s) (ap (λ z. number_in g z s) widen_word)
+          spread_is = at_terms u raised_mover (λ z. number_in (terms_setup z) (word_of (terms_setup z) (Widen i) u.account) s ≡ s)
+              (ap (λ z. number_in g z s) widen_word)
 
-          pub raised_widened : (gain : ℤ) → gain ≡ widen_gain t.part.hyper e s → IsKnownFound (terms_setup u.terms) (Widen i) u.account spread → IsRaised g i e v after gain
+          pub raised_widened : (gain : ℤ) → gain ≡ widen_gain t.part.hyper e s → IsKnownFound (terms_setup u.terms) (Widen i) u.account spread →
+              IsRaised g i e v after gain
           raised_widened gain told known =
               let booked : IsBookable u.account (widen_gain t.part.hyper e s) =
               subst (λ z. IsBookable u.account (widen_gain t.part.hyper e z)) spread_is
               (subst (λ z. IsBookable u.account (widen_gain t.part.hyper z spread)) widen_net
-              (subst (λ z. IsBookable u.account (widen_gain z.part.hyper (stage_net (terms_setup z) u.account.stage (raised_at u.account.stage - 1)) spread)) raised_mover.terms known.found)) in
+              (subst (λ z. IsBookable u.account (widen_gain z.part.hyper (stage_net (terms_setup z) u.account.stage (raised_at u.account.stage - 1))
+              spread))
+              raised_mover.terms known.found)) in
               let same_gain : u.account.gain ≡ v.account.gain = ap (λ (z : View). z.account.gain) is in
               let same_booked : booked_at u.account.stage ≡ booked_at v.account.stage = ap booked_at widen_stage ∙ sym (ap booked_at at.stage) in
               record {
                 count = count;
                 spread = spread;
-                leads = then_is ∙ ap (acted (Widen i) spread) is ∙ ap (λ b. if b then acted (Widen i) spread (acted (Raise i) count v) else acted (Raise i) count v) (sym on);
+                leads = then_is ∙ ap (acted (Widen i) spread) is ∙ ap (λ b. if b then acted (Widen i) spread (acted (Raise i) count v) else acted (Raise i)
+                    count v) (sym on);
                 gains = told ∙ ap (widen_gain t.part.hyper e) (sym spread_is) ∙ ap (λ b. if b then widen_gain g.graph e spread else pos 0) (sym on);
                 fits = record {
-                  move = λ h. subst (λ x. FitsSigned w64 (booked_at v.account.stage +ℤ x)) (sym told) (subst (λ x. FitsSigned w64 (x +ℤ widen_gain t.part.hyper e s)) same_booked booked.move);
-                  all = λ h. subst (λ x. FitsSigned w64 (v.account.gain +ℤ x)) (sym told) (subst (λ x. FitsSigned w64 (x +ℤ widen_gain t.part.hyper e s)) same_gain booked.all);
+                  move = λ h. subst (λ x. FitsSigned w64 (booked_at v.account.stage +ℤ x)) (sym told)
+                      (subst (λ x. FitsSigned w64 (x +ℤ widen_gain t.part.hyper e s)) same_booked booked.move);
+                  all = λ h. subst (λ x. FitsSigned w64 (v.account.gain +ℤ x)) (sym told) (subst (λ x. FitsSigned w64 (x +ℤ widen_gain t.part.hyper e s))
+                      same_gain booked.all);
                 };
               }
 
@@ -163,18 +187,25 @@ module _ (t : Terms) (i : ℕ) (grant : Grant) (e : ℕ) (ok : IsGrantOf t grant
 
     pub lower_ready : (table : TableId) (w : ℕ) → table.words ≡ word_count g → w ≡ counts_place g e grant.from → IsReady table t v (Lower i) w
     lower_ready table w wide place =
-        ready table t v (Lower i) w wide m.terms m.live (sym m.number) lower_may (subst (Exists g) (sym lower_word) (below, ok.block)) (place ∙ ap (word_place g) (sym lower_word))
+        ready table t v (Lower i) w wide m.terms m.live (sym m.number) lower_may (subst (Exists g) (sym lower_word) (below, ok.block))
+        (place ∙ ap (word_place g) (sym lower_word))
 
     -- the number that the step tells is the field of the pins
-    lower_count : (n : ℕ) → number_in (terms_setup v.terms) (word_of (terms_setup v.terms) (Lower i) v.account) n ≡ field n (net_bits t.part.hyper e) (field_place g e grant.from)
-    lower_count n = at_terms v m (λ z. number_in (terms_setup z) (word_of (terms_setup z) (Lower i) v.account) n ≡ field n (net_bits t.part.hyper e) (field_place g e grant.from)) (ap (λ z. number_in g z n) lower_word)
+    lower_count : (n : ℕ) → number_in (terms_setup v.terms) (word_of (terms_setup v.terms) (Lower i) v.account) n ≡ field n (net_bits t.part.hyper e)
+        (field_place g e grant.from)
+    lower_count n = at_terms v m (λ z. number_in (terms_setup z) (word_of (terms_setup z) (Lower i) v.account) n ≡ field n (net_bits t.part.hyper e)
+        (field_place g e grant.from)) (ap (λ z. number_in g z n) lower_word)
 
     module _ (n : ℕ) (u : View) (is : u ≡ acted (Lower i) (number_in (terms_setup v.terms) (word_of (terms_setup v.terms) (Lower i) v.account) n) v) where
       abbrev pins : ℕ
       pins = number_in (terms_setup v.terms) (word_of (terms_setup v.terms) (Lower i) v.account) n
 
       pub lowered_mover : IsMover t i u
-      lowered_mover = record { terms = ap (λ (z : View). z.terms) is ∙ m.terms; live = ap (λ (z : View). z.account.live) is ∙ m.live; number = ap (λ (z : View). z.number) is ∙ m.number }
+      lowered_mover = record {
+        terms = ap (λ (z : View). z.terms) is ∙ m.terms;
+        live = ap (λ (z : View). z.account.live) is ∙ m.live;
+        number = ap (λ (z : View). z.number) is ∙ m.number;
+      }
 
       lowered_at_stage : u.account.stage ≡ on_the_way grant at.number (at.place + 1) (at.place + 1) (if nat_eq pins 1 then Down else Nothing) at.booked
       lowered_at_stage = ap (λ (z : View). z.account.stage) is ∙ ap (lowered_stage pins) at.stage
@@ -208,30 +239,40 @@ module _ (t : Terms) (i : ℕ) (grant : Grant) (e : ℕ) (ok : IsGrantOf t grant
 
         pub narrow_ready : (table : TableId) (w : ℕ) → table.words ≡ word_count g → w ≡ net_place g e → IsReady table t u (Narrow i) w
         narrow_ready table w wide place =
-            ready table t u (Narrow i) w wide lowered_mover.terms lowered_mover.live (sym lowered_mover.number) narrow_may (subst (Exists g) (sym narrow_word) below) (place ∙ ap (word_place g) (sym narrow_word))
+            ready table t u (Narrow i) w wide lowered_mover.terms lowered_mover.live (sym lowered_mover.number) narrow_may
+            (subst (Exists g) (sym narrow_word) below) (place ∙ ap (word_place g) (sym narrow_word))
 
-        module _ (s : ℕ) (after : View) (then_is : after ≡ acted (Narrow i) (number_in (terms_setup u.terms) (word_of (terms_setup u.terms) (Narrow i) u.account) s) u) where
+        module _ (s : ℕ) (after : View) (then_is : after ≡ acted (Narrow i)
+            (number_in (terms_setup u.terms) (word_of (terms_setup u.terms) (Narrow i) u.account) s) u) where
           abbrev seen : ℕ
           seen = number_in (terms_setup u.terms) (word_of (terms_setup u.terms) (Narrow i) u.account) s
 
           pub narrowed_is : seen ≡ s
-          narrowed_is = at_terms u lowered_mover (λ z. number_in (terms_setup z) (word_of (terms_setup z) (Narrow i) u.account) s ≡ s) (ap (λ z. number_in g z s) narrow_word)
+          narrowed_is = at_terms u lowered_mover (λ z. number_in (terms_setup z) (word_of (terms_setup z) (Narrow i) u.account) s ≡ s)
+              (ap (λ z. number_in g z s) narrow_word)
 
-          pub lowered_narrowed : (gain : ℤ) → gain ≡ narrow_gain t.part.hyper e s → IsKnownFound (terms_setup u.terms) (Narrow i) u.account seen → IsLowered g i e v after gain
+          pub lowered_narrowed : (gain : ℤ) → gain ≡ narrow_gain t.part.hyper e s → IsKnownFound (terms_setup u.terms) (Narrow i) u.account seen →
+              IsLowered g i e v after gain
           lowered_narrowed gain told known =
               let booked : IsBookable u.account (narrow_gain t.part.hyper e s) =
               subst (λ z. IsBookable u.account (narrow_gain t.part.hyper e z)) narrowed_is
               (subst (λ z. IsBookable u.account (narrow_gain t.part.hyper z seen)) narrow_net
-              (subst (λ z. IsBookable u.account (narrow_gain z.part.hyper (stage_net (terms_setup z) u.account.stage (lowered_at u.account.stage - 1)) seen)) lowered_mover.terms known.found)) in
+              (subst (λ z. IsBookable u.account (narrow_gain z.part.hyper (stage_net (terms_setup z) u.account.stage (lowered_at u.account.stage - 1))
+              seen))
+              lowered_mover.terms known.found)) in
               let same_gain : u.account.gain ≡ v.account.gain = ap (λ (z : View). z.account.gain) is in
               let same_booked : booked_at u.account.stage ≡ booked_at v.account.stage = ap booked_at narrow_stage ∙ sym (ap booked_at at.stage) in
               record {
                 count = pins;
                 spread = seen;
-                leads = then_is ∙ ap (acted (Narrow i) seen) is ∙ ap (λ b. if b then acted (Narrow i) seen (acted (Lower i) pins v) else acted (Lower i) pins v) (sym last);
+                leads = then_is ∙ ap (acted (Narrow i) seen) is ∙ ap (λ b. if b then acted (Narrow i) seen (acted (Lower i) pins v) else acted (Lower i)
+                    pins
+                    v) (sym last);
                 gains = told ∙ ap (narrow_gain t.part.hyper e) (sym narrowed_is) ∙ ap (λ b. if b then narrow_gain g.graph e seen else pos 0) (sym last);
                 fits = record {
-                  move = λ h. subst (λ x. FitsSigned w64 (booked_at v.account.stage +ℤ x)) (sym told) (subst (λ x. FitsSigned w64 (x +ℤ narrow_gain t.part.hyper e s)) same_booked booked.move);
-                  all = λ h. subst (λ x. FitsSigned w64 (v.account.gain +ℤ x)) (sym told) (subst (λ x. FitsSigned w64 (x +ℤ narrow_gain t.part.hyper e s)) same_gain booked.all);
+                  move = λ h. subst (λ x. FitsSigned w64 (booked_at v.account.stage +ℤ x)) (sym told)
+                      (subst (λ x. FitsSigned w64 (x +ℤ narrow_gain t.part.hyper e s)) same_booked booked.move);
+                  all = λ h. subst (λ x. FitsSigned w64 (v.account.gain +ℤ x)) (sym told) (subst (λ x. FitsSigned w64 (x +ℤ narrow_gain t.part.hyper e s))
+                      same_gain booked.all);
                 };
               }

@@ -1,5 +1,6 @@
 -- What the last state of a table tells, once one pass has taken all others over.
-use Rattle.std.proofs.Common.{◌≡◌, ◌≢◌, ℕ, ◌+◌, ◌<◌, ◌≤◌, inl, inr, Bool, true, false, List, length, length-set, get_or, get_or-set_other, set, slice_index, slice_index_or, nat_eq, nat_lt, if◌then◌else◌, All, AllPairs, ℤ, pos, ◌-ℤ◌, refl, sym, ap, ◌∙◌, subst, arith}
+use Rattle.std.proofs.Common.{◌≡◌, ◌≢◌, ℕ, ◌+◌, ◌<◌, ◌≤◌, inl, inr, Bool, true, false, List, length, length-set, get_or, get_or-set_other, set, slice_index}
+use Rattle.std.proofs.Common.{slice_index_or, nat_eq, nat_lt, if◌then◌else◌, All, AllPairs, ℤ, pos, ◌-ℤ◌, refl, sym, ap, ◌∙◌, subst, arith}
 use Rattle.std.proofs.lemmas.Int.{ints}
 use Rattle.std.proofs.lemmas.Bool.{cases_eq, cases_lt, le-ltb}
 use Rattle.std.proofs.lemmas.List.{length-map, get_or-map}
@@ -32,7 +33,8 @@ use Rattle.move_table.proofs.SeatLaws.{setup_of_standing}
 use Rattle.move_table.proofs.GatherLaws.{same_default}
 
 -- no pass has a place beside one that stands for all
-module _ (t : Terms) (words : List ℕ) (views : List View) (id : ℕ) (v : View) (k : IsStanding t words views) (at : get_elem? views id ≡ some v) (rest : IsResting v) (all : v.stands + v.may ≡ t.workers) where
+module _ (t : Terms) (words : List ℕ) (views : List View) (id : ℕ) (v : View) (k : IsStanding t words views) (at : get_elem? views id ≡ some v)
+    (rest : IsResting v) (all : v.stands + v.may ≡ t.workers) where
   abbrev g : Setup
   g = terms_setup t
 
@@ -56,7 +58,8 @@ module _ (t : Terms) (words : List ℕ) (views : List View) (id : ℕ) (v : View
       let h : f (get_or views id spent_view) ≡ f v = ap f (at_get views id v spent_view at) in
       let w = length-set views id spent_view in
       let p = total_at-le f (set views id spent_view) j spent_view (omega arith) in
-      let q : f (get_or (set views id spent_view) j spent_view) ≡ f (get_or views j spent_view) = ap f (get_or-set_other views id j spent_view spent_view n) in
+      let q : f (get_or (set views id spent_view) j spent_view) ≡ f (get_or views j spent_view) =
+      ap f (get_or-set_other views id j spent_view spent_view n) in
       let s = k.shares in
       omega arith
 
@@ -70,7 +73,8 @@ module _ (t : Terms) (words : List ℕ) (views : List View) (id : ℕ) (v : View
       let same : get_or accounts j d ≡ z.account = get_or-map (λ (y : View). y.account) views j spent_view d m in
       dead z.account.live refl (λ h. let o = e.stands h in absurd (omega arith)) (λ h. k.balance.rest.ended j d l (ap (λ (a : Account). a.live) same ∙ h))
     where
-      dead : (b : Bool) → (get_or views j spent_view).account.live ≡ b → ((get_or views j spent_view).account.live ≡ true → get_or accounts j d ≡ blank false) → ((get_or views j spent_view).account.live ≡ false → get_or accounts j d ≡ blank false) → get_or accounts j d ≡ blank false
+      dead : (b : Bool) → (get_or views j spent_view).account.live ≡ b → ((get_or views j spent_view).account.live ≡ true → get_or accounts j d ≡ blank
+          false) → ((get_or views j spent_view).account.live ≡ false → get_or accounts j d ≡ blank false) → get_or accounts j d ≡ blank false
       dead true q on off = on q
       dead false q on off = off q
 
@@ -80,7 +84,8 @@ module _ (t : Terms) (words : List ℕ) (views : List View) (id : ℕ) (v : View
     balance = k.balance;
     idle = λ j d l.
         elim (cases_eq j id) [
-          | inl e ↦ subst (λ (a : Account). is_idle a.stage ≡ true) (sym (ap (λ i. get_or accounts i d) e ∙ same_default accounts id d (blank false) below ∙ here)) rest.idle
+          | inl e ↦ subst (λ (a : Account). is_idle a.stage ≡ true) (sym (ap (λ i. get_or accounts i d) e ∙ same_default accounts id d (blank false) below ∙
+              here)) rest.idle
           | inr n ↦ subst (λ (a : Account). is_idle a.stage ≡ true) (sym (others_blank j d l n)) refl
         ];
   }
@@ -89,13 +94,15 @@ module _ (t : Terms) (words : List ℕ) (views : List View) (id : ℕ) (v : View
   only : (f : Account → ℕ) → f (blank false) ≡ 0 → total f accounts ≡ f v.account
   only f z =
       let c = total_changed accounts id v.account (blank false) below here f in
-      let o = total-zero f (set accounts id (blank false)) (all_changed_others accounts id v.account (blank false) below here (λ a. f a ≡ 0) (λ j d l n. ap f (others_blank j d l n) ∙ z) z) in
+      let o = total-zero f (set accounts id (blank false)) (all_changed_others accounts id v.account (blank false) below here (λ a. f a ≡ 0)
+      (λ j d l n. ap f (others_blank j d l n) ∙ z) z) in
       omega arith
 
   only_z : (f : Account → ℤ) → f (blank false) ≡ pos 0 → total_z f accounts ≡ f v.account
   only_z f z =
       let c = total_z_changed accounts id v.account (blank false) below here f in
-      let o = total_z-zero f (set accounts id (blank false)) (all_changed_others accounts id v.account (blank false) below here (λ a. f a ≡ pos 0) (λ j d l n. ap f (others_blank j d l n) ∙ z) z) in
+      let o = total_z-zero f (set accounts id (blank false)) (all_changed_others accounts id v.account (blank false) below here (λ a. f a ≡ pos 0)
+      (λ j d l n. ap f (others_blank j d l n) ∙ z) z) in
       omega (arith, ints)
 
   abbrev ms : List Move
@@ -143,8 +150,12 @@ module _ (t : Terms) (words : List ℕ) (views : List View) (id : ℕ) (v : View
       count = let n = count in let a = laid.all in omega arith;
       places = λ j d l.
           elim (cases_eq j id) [
-            | inl e ↦ subst (λ (a : Account). (i : ℕ) (m : Move) → i < length a.moves → slice_index_or out (slice_index a.numbers i) m ≡ slice_index_or a.moves i m) (sym (ap (λ i. get_or accounts i d) e ∙ same_default accounts id d (blank false) below ∙ here)) laid.places
-            | inr n ↦ subst (λ (a : Account). (i : ℕ) (m : Move) → i < length a.moves → slice_index_or out (slice_index a.numbers i) m ≡ slice_index_or a.moves i m) (sym (others_blank j d l n)) (λ i m q. absurd (omega arith))
+            | inl e ↦ subst (λ (a : Account). (i : ℕ) (m : Move) → i < length a.moves → slice_index_or out (slice_index a.numbers i) m ≡ slice_index_or
+                a.moves
+                i m) (sym (ap (λ i. get_or accounts i d) e ∙ same_default accounts id d (blank false) below ∙ here)) laid.places
+            | inr n ↦ subst (λ (a : Account). (i : ℕ) (m : Move) → i < length a.moves → slice_index_or out (slice_index a.numbers i) m ≡ slice_index_or
+                a.moves
+                i m) (sym (others_blank j d l n)) (λ i m q. absurd (omega arith))
           ];
     }
 

@@ -1,5 +1,6 @@
 -- What a round is closed with.
-use Rattle.std.proofs.Common.{◌≡◌, ◌≢◌, ℕ, zero, suc, ◌+◌, ◌<◌, List, [], ◌∷◌, ◌++◌, map, length, take, slice_index, slice_index_or, All, ℤ, pos, length-append, nat_eq, if◌then◌else◌, refl, sym, ap, ◌∙◌, subst, arith}
+use Rattle.std.proofs.Common.{◌≡◌, ◌≢◌, ℕ, zero, suc, ◌+◌, ◌<◌, List, [], ◌∷◌, ◌++◌, map, length, take, slice_index, slice_index_or, All}
+use Rattle.std.proofs.Common.{ℤ, pos, length-append, nat_eq, if◌then◌else◌, refl, sym, ap, ◌∙◌, subst, arith}
 use Rattle.std.proofs.lemmas.List.{length-map, get_or-map}
 use mathlib.Core.Option.{some}
 use lib.ListN.{get_elem?}
@@ -20,7 +21,8 @@ use Rattle.move_table.specs.Steps.{IsResting}
 use Rattle.move_table.specs.Calls.{RacedPass}
 use Rattle.move_table.specs.Closing.{IsKeptPass, all_moves, all_numbers, all_gains, AreByNumber, IsRacedEnd, IsEnded, united_all}
 use Rattle.move_table.proofs.CloseLaws.{number_once, number_below, apart, each_move, fits_after, saved_by, booked_by_all}
-use Rattle.move_table.proofs.GatherLaws.{apart_from_times, placed_left, placed_right, AreNumbered, united_moves-total_z, united_numbers-times, united_gain, united_placed, united_length, AreBooked, booked_here}
+use Rattle.move_table.proofs.GatherLaws.{apart_from_times, placed_left, placed_right, AreNumbered, united_moves-total_z}
+use Rattle.move_table.proofs.GatherLaws.{united_numbers-times, united_gain, united_placed, united_length, AreBooked, booked_here}
 
 -- the passes are kept, and have the numbers from 0 on
 pub record AreKept (ps : List RacedPass) : Type 0 where
@@ -39,7 +41,9 @@ are_booked ps h j d l =
     none : (x : ℕ) → x ≡ 0 + x
     none x = omega arith
 
-module _ (t : Terms) (words : List ℕ) (views : List View) (id : ℕ) (p : RacedPass) (ps : List RacedPass) (k : IsStanding t words views) (at : get_elem? views id ≡ some (united_all p.view ps)) (rest : IsResting (united_all p.view ps)) (whole : (united_all p.view ps).stands + (united_all p.view ps).may ≡ t.workers) (wide : length (p ∷ ps) ≡ t.workers) (kept : AreKept (p ∷ ps)) where
+module _ (t : Terms) (words : List ℕ) (views : List View) (id : ℕ) (p : RacedPass) (ps : List RacedPass) (k : IsStanding t words views)
+    (at : get_elem? views id ≡ some (united_all p.view ps)) (rest : IsResting (united_all p.view ps))
+    (whole : (united_all p.view ps).stands + (united_all p.view ps).may ≡ t.workers) (wide : length (p ∷ ps) ≡ t.workers) (kept : AreKept (p ∷ ps)) where
   abbrev u : View
   u = united_all p.view ps
 
@@ -95,7 +99,8 @@ module _ (t : Terms) (words : List ℕ) (views : List View) (id : ℕ) (p : Race
     pub done_apart : (i j : ℕ) (d : Done) → i < length done → j < length done → i ≢ j → (slice_index_or done i d).number ≢ (slice_index_or done j d).number
     done_apart i j d l m n e =
         let w = numbers_length in
-        apart_from_times numbers (λ x. let a = same_times x in let o = number_once t words views id u k at rest whole x in omega arith) i j (omega arith) (omega arith) n
+        apart_from_times numbers (λ x. let a = same_times x in let o = number_once t words views id u k at rest whole x in omega arith) i j (omega arith)
+        (omega arith) n
         (number_is i d l ∙ e ∙ sym (number_is j d m))
 
     module _ (out : List Move) (laid : AreByNumber (map (λ (d : Done). d.number) done) (map (λ (d : Done). d.action) done) out) where
@@ -126,14 +131,20 @@ module _ (t : Terms) (words : List ℕ) (views : List View) (id : ℕ) (p : Race
       pub all_placed : All (λ m. m.to < t.part.k) out
       all_placed i d l = (each_move t words views id u k at rest whole out laid_united i d l).to
 
-      pub ended : IsRacedEnd (record { opening = t.part.blocks; part = record t.part { blocks = replay t.part.blocks out }; moves = out; gains = all_gains (p ∷ ps) })
+      pub ended : IsRacedEnd (record {
+        opening = t.part.blocks;
+        part = record t.part { blocks = replay t.part.blocks out };
+        moves = out;
+        gains = all_gains (p ∷ ps);
+      })
       ended =
           let n = length-map (p ∷ ps) (λ (z : RacedPass). z.view.account.gain) in
           let gains : length (all_gains (p ∷ ps)) ≡ t.workers = n ∙ wide in
           record {
             raced = record {
               once = apart t words views id u k at rest whole out laid_united;
-              each = subst (λ w. All (IsMove t.part.hyper t.part.k w t.part.blocks) out) (sym gains) (each_move t words views id u k at rest whole out laid_united);
+              each = subst (λ w. All (IsMove t.part.hyper t.part.k w t.part.blocks) out) (sym gains) (each_move t words views id u k at rest whole out
+                  laid_united);
               booked = gains_booked;
             };
             whole = k.over.parted.partition;
@@ -177,9 +188,15 @@ pub record IsLaidOut (t : Terms) (passes : List RacedPass) (out : List Move) : T
   pub laid : AreByNumber (all_numbers passes) (all_moves passes) out
   pub vertices : All (λ m. m.vertex < vertex_count t.part.hyper) out
   pub blocks : All (λ m. m.to < t.part.k) out
-  pub ends : IsRacedEnd (record { opening = t.part.blocks; part = record t.part { blocks = replay t.part.blocks out }; moves = out; gains = all_gains passes })
+  pub ends : IsRacedEnd (record {
+    opening = t.part.blocks;
+    part = record t.part { blocks = replay t.part.blocks out };
+    moves = out;
+    gains = all_gains passes;
+  })
 
-pub is_laid_out : (t : Terms) (passes : List RacedPass) (done : List Done) (out : List Move) → IsGathered t passes done → AreByNumber (map (λ (d : Done). d.number) done) (map (λ (d : Done). d.action) done) out → IsLaidOut t passes out
+pub is_laid_out : (t : Terms) (passes : List RacedPass) (done : List Done) (out : List Move) → IsGathered t passes done →
+    AreByNumber (map (λ (d : Done). d.number) done) (map (λ (d : Done). d.action) done) out → IsLaidOut t passes out
 is_laid_out t [] done out g laid = let w = g.wide in let o = g.ended.standing.over.some in absurd (omega arith)
 is_laid_out t (p ∷ ps) done out g laid =
     let e = g.ended in
@@ -196,21 +213,33 @@ is_laid_out t (p ∷ ps) done out g laid =
     }
 
 -- what the steps of a close tell
-pub gathered_of : (t key : Terms) (passes ps : List RacedPass) (done items : List Done) → IsEnded key passes → key ≡ t → ps ≡ passes → items ≡ done → length passes ≡ t.workers → ((i : ℕ) (p : RacedPass) → i < length passes → (slice_index_or passes i p).view.number ≡ i) → ((i : ℕ) (p : RacedPass) → i < length ps → IsKeptPass (slice_index_or ps i p)) → map (λ (d : Done). d.number) done ≡ all_numbers ps → map (λ (d : Done). d.action) done ≡ all_moves ps → IsGathered t passes items
+pub gathered_of : (t key : Terms) (passes ps : List RacedPass) (done items : List Done) → IsEnded key passes → key ≡ t → ps ≡ passes → items ≡ done →
+    length passes ≡ t.workers → ((i : ℕ) (p : RacedPass) → i < length passes → (slice_index_or passes i p).view.number ≡ i) →
+    ((i : ℕ) (p : RacedPass) → i < length ps → IsKeptPass (slice_index_or ps i p)) → map (λ (d : Done). d.number) done ≡ all_numbers ps →
+    map (λ (d : Done). d.action) done ≡ all_moves ps → IsGathered t passes items
 gathered_of t key passes ps done items e k s i w n kept numbers moves = record {
   ended = subst (λ z. IsEnded z passes) k e;
   wide = w;
-  kept = record { kept = subst (λ (zs : List RacedPass). (i : ℕ) (p : RacedPass) → i < length zs → IsKeptPass (slice_index_or zs i p)) s kept; numbers = n };
+  kept = record {
+    kept = subst (λ (zs : List RacedPass). (i : ℕ) (p : RacedPass) → i < length zs → IsKeptPass (slice_index_or zs i p)) s kept;
+    numbers = n;
+  };
   numbers = ap (map (λ (d : Done). d.number)) i ∙ numbers ∙ ap all_numbers s;
   moves = ap (map (λ (d : Done). d.action)) i ∙ moves ∙ ap all_moves s;
 }
 
-pub ended_as : (t : Terms) (passes : List RacedPass) (out : List Move) (opening : List ℕ) (part : Parted) (moves : List Move) (gains : List ℤ) → IsRacedEnd (record { opening = t.part.blocks; part = record t.part { blocks = replay t.part.blocks out }; moves = out; gains = all_gains passes }) → opening ≡ t.part.blocks → part ≡ record t.part { blocks = replay t.part.blocks out } → moves ≡ out → gains ≡ all_gains passes → IsRacedEnd (record { opening = opening; part = part; moves = moves; gains = gains })
+pub ended_as : (t : Terms) (passes : List RacedPass) (out : List Move) (opening : List ℕ) (part : Parted) (moves : List Move) (gains : List ℤ) →
+    IsRacedEnd (record { opening = t.part.blocks; part = record t.part { blocks = replay t.part.blocks out }; moves = out; gains = all_gains passes }) →
+    opening ≡ t.part.blocks → part ≡ record t.part { blocks = replay t.part.blocks out } → moves ≡ out → gains ≡ all_gains passes →
+    IsRacedEnd (record { opening = opening; part = part; moves = moves; gains = gains })
 ended_as t passes out opening part moves gains e o p m g =
     subst (λ x. IsRacedEnd (record { opening = x; part = part; moves = moves; gains = gains })) (sym o)
     (subst (λ x. IsRacedEnd (record { opening = t.part.blocks; part = x; moves = moves; gains = gains })) (sym p)
-    (subst (λ x. IsRacedEnd (record { opening = t.part.blocks; part = record t.part { blocks = replay t.part.blocks out }; moves = x; gains = gains })) (sym m)
-    (subst (λ x. IsRacedEnd (record { opening = t.part.blocks; part = record t.part { blocks = replay t.part.blocks out }; moves = out; gains = x })) (sym g) e)))
+    (subst (λ x. IsRacedEnd (record { opening = t.part.blocks; part = record t.part { blocks = replay t.part.blocks out }; moves = x; gains = gains }))
+    (sym m)
+    (subst (λ x. IsRacedEnd (record { opening = t.part.blocks; part = record t.part { blocks = replay t.part.blocks out }; moves = out; gains = x }))
+    (sym g)
+    e)))
 
 -- what was written is what is read back
 pub written_back : {A : Type 0} (n : ℕ) (xs ys : List A) → n ≡ length xs → take n (xs ++ ys) ≡ xs

@@ -1,9 +1,11 @@
 -- The words at the opening: names, loads, and the counts and spread of each net.
-use Rattle.std.proofs.Common.{◌≡◌, ℕ, ◌+◌, ◌*◌, ◌/◌, ◌%◌, ◌^◌, ◌<◌, ◌≤◌, inl, inr, List, [], length, take, set, get_or, slice_index, length-set, get_or-set_same, get_or-set_other, nat_eq, if◌then◌else◌, refl, sym, ap, ◌∙◌, subst, arith}
+use Rattle.std.proofs.Common.{◌≡◌, ℕ, ◌+◌, ◌*◌, ◌/◌, ◌%◌, ◌^◌, ◌<◌, ◌≤◌, inl, inr, List, [], length, take, set, get_or, slice_index, length-set}
+use Rattle.std.proofs.Common.{get_or-set_same, get_or-set_other, nat_eq, if◌then◌else◌, refl, sym, ap, ◌∙◌, subst, arith}
 use Rattle.std.proofs.lemmas.Bool.{cases_eq, cases_lt, lt-ltb}
 use Rattle.hg_defs.specs.Partition.{block_of}
 use Rattle.hg_defs.specs.Pins.{pins_in, present}
-use Rattle.hg_defs.proofs.SumLaws.{weight_if, weight_if-same, weight_if-other, total-take_more, sum_below-change, sum_below-zero, sum_below-le, sum_below-add, sum_below-constant, sum_below-le_more, total-le, total-ones, weight_if-le}
+use Rattle.hg_defs.proofs.SumLaws.{weight_if, weight_if-same, weight_if-other, total-take_more, sum_below-change, sum_below-zero, sum_below-le}
+use Rattle.hg_defs.proofs.SumLaws.{sum_below-add, sum_below-constant, sum_below-le_more, total-le, total-ones, weight_if-le}
 use Rattle.hg_defs.proofs.DistinctLaws.{present-le}
 use Rattle.std.proofs.Math.Nat.{zero-div, zero-mod}
 use Rattle.hg_defs.specs.Hypergraph.{net_of, net_count}
@@ -24,18 +26,24 @@ present_some : (n : ℕ) → present (n + 1) ≡ 1
 present_some n = ap (λ b. if b then 1 else 0) (lt-ltb 0 (n + 1) (omega arith))
 
 -- one pin more in a block: a block more where it had none
-pub present_more : (f g : ℕ → ℕ) (k b : ℕ) → b < k → ((c : ℕ) → c < k → g c ≡ f c + weight_if c b 1) → present_below g k ≡ present_below f k + weight_if (f b) 0 1
+pub present_more : (f g : ℕ → ℕ) (k b : ℕ) → b < k → ((c : ℕ) → c < k → g c ≡ f c + weight_if c b 1) → present_below g k ≡ present_below f k + weight_if
+    (f b)
+    0 1
 present_more f g k b l e =
     let here : g b ≡ f b + 1 = (let x = e b l in let w = weight_if-same b b 1 refl in omega arith) in
-    let s = sum_below-change (λ c. present (g c)) (λ c. present (f c)) k b l (λ j m q. ap present (let x = e j m in let w = weight_if-other j b 1 q in omega arith)) in
+    let s = sum_below-change (λ c. present (g c)) (λ c. present (f c)) k b l (λ j m q. ap present (let x = e j m in let w = weight_if-other j b 1 q in
+    omega arith)) in
     let now : present (g b) ≡ 1 = ap present here ∙ present_some (f b) in
     elim (cases_eq (f b) 0) [
       | inl z ↦ let w = weight_if-same (f b) 0 1 z in let p : present (f b) ≡ 0 = ap present z in omega arith
-      | inr n ↦ let w = weight_if-other (f b) 0 1 n in let p : present (f b) ≡ 1 = ap (λ t. if t then 1 else 0) (lt-ltb 0 (f b) (omega arith)) in omega arith
+      | inr n ↦ let w = weight_if-other (f b) 0 1 n in let p : present (f b) ≡ 1 = ap (λ t. if t then 1 else 0) (lt-ltb 0 (f b) (omega arith)) in
+          omega arith
     ]
 
 -- one pin more
-pub pins_more : (blocks pins : List ℕ) (idx c : ℕ) → idx < length pins → pins_in blocks (take (idx + 1) pins) c ≡ pins_in blocks (take idx pins) c + weight_if (block_of blocks (slice_index pins idx)) c 1
+pub pins_more : (blocks pins : List ℕ) (idx c : ℕ) → idx < length pins → pins_in blocks (take (idx + 1) pins) c ≡ pins_in blocks (take idx pins) c +
+    weight_if
+    (block_of blocks (slice_index pins idx)) c 1
 pins_more blocks pins idx c l = total-take_more (λ v. weight_if (block_of blocks v) c 1) pins idx 0 l
 
 flip : (x y : ℕ) → weight_if x y 1 ≡ weight_if y x 1
@@ -46,21 +54,31 @@ flip x y =
     ]
 
 -- the words after a pin is counted
-pub pin_counted : (words : List ℕ) (place : NetPlace) (b word more : ℕ) → place.start + 1 + b / fields_of place.bits < length words → ((q : ℕ) → field word place.bits q ≡ field (slice_index words (place.start + 1 + b / fields_of place.bits)) place.bits q + (if nat_eq q (b % fields_of place.bits) then 1 else 0)) → more ≡ weight_if (count_at words (place.start + 1) place.bits b) 0 1 → IsPinCounted place b words (set (set words (place.start + 1 + b / fields_of place.bits) word) place.start (slice_index (set words (place.start + 1 + b / fields_of place.bits) word) place.start + more))
+pub pin_counted : (words : List ℕ) (place : NetPlace) (b word more : ℕ) → place.start + 1 + b / fields_of place.bits < length words →
+    ((q : ℕ) → field word place.bits q ≡ field (slice_index words (place.start + 1 + b / fields_of place.bits)) place.bits q +
+    (if nat_eq q (b % fields_of place.bits) then 1 else 0)) → more ≡ weight_if (count_at words (place.start + 1) place.bits b) 0 1 →
+    IsPinCounted place b words
+    (set (set words (place.start + 1 + b / fields_of place.bits) word) place.start
+    (slice_index (set words (place.start + 1 + b / fields_of place.bits) word)
+    place.start + more))
 pin_counted words place b word more inside fields first =
     let at = place.start + 1 + b / fields_of place.bits in
     let mid = set words at word in
     let wide = length-set words at word in
     let kept : slice_index mid place.start ≡ slice_index words place.start = get_or-set_other words at place.start word 0 (λ e. absurd (omega arith)) in
     record {
-      spread = get_or-set_same mid place.start (slice_index mid place.start + more) 0 (omega arith) ∙ ap (λ x. x + more) kept ∙ ap (λ x. slice_index words place.start + x) first;
+      spread = get_or-set_same mid place.start (slice_index mid place.start + more) 0 (omega arith) ∙ ap (λ x. x + more) kept ∙
+          ap (λ x. slice_index words place.start + x) first;
       counts = λ c.
-          ap (λ w. field w place.bits (c % fields_of place.bits)) (get_or-set_other mid place.start (place.start + 1 + c / fields_of place.bits) (slice_index mid place.start + more) 0 (λ e. absurd (omega arith)))
+          ap (λ w. field w place.bits (c % fields_of place.bits)) (get_or-set_other mid place.start (place.start + 1 + c / fields_of place.bits)
+          (slice_index mid place.start + more) 0 (λ e. absurd (omega arith)))
           ∙ raise_count words (place.start + 1) place.bits b word inside fields c;
     }
 
 -- one pin more of a net
-pub net_more : (blocks pins : List ℕ) (k idx : ℕ) (place : NetPlace) (old new : List ℕ) → idx < length pins → block_of blocks (slice_index pins idx) < k → IsNetFilled blocks (take idx pins) k place old → IsPinCounted place (block_of blocks (slice_index pins idx)) old new → IsNetFilled blocks (take (idx + 1) pins) k place new
+pub net_more : (blocks pins : List ℕ) (k idx : ℕ) (place : NetPlace) (old new : List ℕ) → idx < length pins → block_of blocks (slice_index pins idx) < k →
+    IsNetFilled blocks (take idx pins) k place old → IsPinCounted place (block_of blocks (slice_index pins idx)) old new →
+    IsNetFilled blocks (take (idx + 1) pins) k place new
 net_more blocks pins k idx place old new l below h p =
     let b = block_of blocks (slice_index pins idx) in
     let f : ℕ → ℕ = pins_in blocks (take idx pins) in
@@ -83,7 +101,9 @@ net_more blocks pins k idx place old new l below h p =
 -- a net has no more pins in a block than pins
 pub pins_few : (blocks pins : List ℕ) (idx c : ℕ) → idx ≤ length pins → pins_in blocks (take idx pins) c ≤ idx
 pins_few blocks pins idx c h =
-    let t = total-le (λ v. weight_if (block_of blocks v) c 1) (λ v. 1) (take idx pins) (λ k d q. weight_if-le (block_of blocks (get_or (take idx pins) k d)) c 1) in
+    let t = total-le (λ v. weight_if (block_of blocks v) c 1) (λ v. 1) (take idx pins)
+    (λ k d q. weight_if-le (block_of blocks (get_or (take idx pins) k d)) c
+    1) in
     let o = total-ones (take idx pins) in
     let e = length-take idx pins in
     omega arith
@@ -97,26 +117,31 @@ pub field_none : (bits p : ℕ) → field 0 bits p ≡ 0
 field_none bits p = ap (λ x. x % 2 ^ bits) (zero-div (2 ^ (p * bits))) ∙ zero-mod (2 ^ bits)
 
 -- the words of a net before any pin
-pub net_begun : (words blocks : List ℕ) (place : NetPlace) (pins k : ℕ) → place.bits ≡ bits_of pins → place.start < length words → ((x : ℕ) → x ≤ words_of pins k → slice_index words (place.start + x) ≡ 0) → IsNetFilled blocks [] k place (set words place.start 64)
+pub net_begun : (words blocks : List ℕ) (place : NetPlace) (pins k : ℕ) → place.bits ≡ bits_of pins → place.start < length words →
+    ((x : ℕ) → x ≤ words_of pins k → slice_index words (place.start + x) ≡ 0) → IsNetFilled blocks [] k place (set words place.start 64)
 net_begun words blocks place pins k width inside zeros = record {
   spread = get_or-set_same words place.start 64 0 inside ∙ sym (ap (λ x. 64 + x) (none_present k));
   counts = λ b l.
       let at : b / fields_of place.bits < words_of pins k = subst (λ w. b / fields_of w < words_of pins k) (sym width) (word_within pins k b l) in
       let far = get_or-set_other words place.start (place.start + 1 + b / fields_of place.bits) 64 0 (λ e. absurd (omega arith)) in
       let zero = zeros (1 + b / fields_of place.bits) (omega arith) in
-      let same : slice_index words (place.start + 1 + b / fields_of place.bits) ≡ slice_index words (place.start + (1 + b / fields_of place.bits)) = ap (slice_index words) (omega arith) in
+      let same : slice_index words (place.start + 1 + b / fields_of place.bits) ≡ slice_index words (place.start + (1 + b / fields_of place.bits)) =
+      ap (slice_index words) (omega arith) in
       ap (λ w. field w place.bits (b % fields_of place.bits)) (far ∙ same ∙ zero) ∙ field_none place.bits (b % fields_of place.bits);
 }
 
 -- a count has room for the next pin
-pub room_for_pin : (words blocks pins : List ℕ) (place : NetPlace) (k idx b : ℕ) → place.bits ≡ bits_of (length pins) → length pins ≤ 2 ^ 25 → idx < length pins → b < k → IsNetFilled blocks (take idx pins) k place words → count_at words (place.start + 1) place.bits b + 1 < 2 ^ place.bits
+pub room_for_pin : (words blocks pins : List ℕ) (place : NetPlace) (k idx b : ℕ) → place.bits ≡ bits_of (length pins) → length pins ≤ 2 ^ 25 →
+    idx < length pins → b < k → IsNetFilled blocks (take idx pins) k place words → count_at words (place.start + 1) place.bits b + 1 < 2 ^ place.bits
 room_for_pin words blocks pins place k idx b width few l below h =
     let c = h.counts b below in
     let p = pins_few blocks pins idx b (omega arith) in
     let r = subst (λ w. length pins < 2 ^ w) (sym width) (bits_room (length pins) few) in
     omega arith
 
-pub few_blocks : (words blocks pins : List ℕ) (place : NetPlace) (k : ℕ) → k < 2 ^ 32 → IsNetFilled blocks pins k place words → slice_index words place.start + 1 < 18446744073709551616
+pub few_blocks : (words blocks pins : List ℕ) (place : NetPlace) (k : ℕ) → k < 2 ^ 32 → IsNetFilled blocks pins k place words →
+    slice_index words place.start +
+    1 < 18446744073709551616
 few_blocks words blocks pins place k small h =
     let s = h.spread in
     let p = sum_below-le (λ c. present (pins_in blocks pins c)) (λ c. 1) k (λ c l. present-le (pins_in blocks pins c)) in
@@ -124,25 +149,33 @@ few_blocks words blocks pins place k small h =
     omega arith
 
 -- the words of other nets stay filled
-pub filled_same : (blocks pins : List ℕ) (k : ℕ) (place : NetPlace) (old new : List ℕ) → IsNetFilled blocks pins k place old → slice_index new place.start ≡ slice_index old place.start → ((b : ℕ) → b < k → slice_index new (place.start + 1 + b / fields_of place.bits) ≡ slice_index old (place.start + 1 + b / fields_of place.bits)) → IsNetFilled blocks pins k place new
+pub filled_same : (blocks pins : List ℕ) (k : ℕ) (place : NetPlace) (old new : List ℕ) → IsNetFilled blocks pins k place old → slice_index new place.start ≡
+    slice_index old place.start → ((b : ℕ) → b < k → slice_index new (place.start + 1 + b / fields_of place.bits) ≡ slice_index old
+    (place.start + 1 + b / fields_of place.bits)) → IsNetFilled blocks pins k place new
 filled_same blocks pins k place old new h s c = record {
   spread = s ∙ h.spread;
   counts = λ b l. ap (λ w. field w place.bits (b % fields_of place.bits)) (c b l) ∙ h.counts b l;
 }
 
 -- one net more
-pub nets_more : (t : Terms) (e : ℕ) (old new : List ℕ) → AreNetsFilled t e old → IsNetFilled t.part.blocks (net_of t.part.hyper e).pins t.part.k (record { start = net_place (terms_setup t) e; bits = net_bits t.part.hyper e }) new → SameOutside (net_place (terms_setup t) e) (net_place (terms_setup t) (e + 1)) old new → AreNetsFilled t (e + 1) new
+pub nets_more : (t : Terms) (e : ℕ) (old new : List ℕ) → AreNetsFilled t e old → IsNetFilled t.part.blocks (net_of t.part.hyper e).pins t.part.k
+    (record { start = net_place (terms_setup t) e; bits = net_bits t.part.hyper e }) new → SameOutside (net_place (terms_setup t) e)
+    (net_place (terms_setup t) (e + 1)) old new → AreNetsFilled t (e + 1) new
 nets_more t e old new h own same i l =
     elim (cases_lt i e) [
       | inl q ↦
           let next = net_place_next (terms_setup t) i in
           let upto = sum_below-le_more (words_at_net (terms_setup t)) (i + 1) e (omega arith) in
-          filled_same t.part.blocks (net_of t.part.hyper i).pins t.part.k (record { start = net_place (terms_setup t) i; bits = net_bits t.part.hyper i }) old new (h i q)
+          filled_same t.part.blocks (net_of t.part.hyper i).pins t.part.k (record { start = net_place (terms_setup t) i; bits = net_bits t.part.hyper i })
+          old
+          new (h i q)
           (same (net_place (terms_setup t) i) (inl (omega arith)))
-          (λ b m. let w = word_within (length (net_of t.part.hyper i).pins) t.part.k b m in same (net_place (terms_setup t) i + 1 + b / fields_of (net_bits t.part.hyper i)) (inl (omega arith)))
+          (λ b m. let w = word_within (length (net_of t.part.hyper i).pins) t.part.k b m in
+          same (net_place (terms_setup t) i + 1 + b / fields_of (net_bits t.part.hyper i)) (inl (omega arith)))
       | inr q ↦
           let here : i ≡ e = omega arith in
-          subst (λ j. IsNetFilled t.part.blocks (net_of t.part.hyper j).pins t.part.k (record { start = net_place (terms_setup t) j; bits = net_bits t.part.hyper j }) new) (sym here) own
+          subst (λ j. IsNetFilled t.part.blocks (net_of t.part.hyper j).pins t.part.k
+          (record { start = net_place (terms_setup t) j; bits = net_bits t.part.hyper j }) new) (sym here) own
     ]
 
 -- a table has few words

@@ -1,5 +1,7 @@
 -- The moves of all passes together, and of one pass that has taken the others over.
-use Rattle.std.proofs.Common.{◌≡◌, ◌≢◌, ℕ, zero, suc, ◌+◌, ◌-◌, ◌<◌, ◌≤◌, inl, inr, Bool, true, false, List, [], ◌∷◌, ◌++◌, map, length, length-append, take, drop, get_or, set, get_or-set_same, get_or-set_other, slice_index, slice_index_or, nat_eq, if◌then◌else◌, All, ℤ, pos, ◌+ℤ◌, refl, sym, ap, ◌∙◌, subst, arith}
+use Rattle.std.proofs.Common.{◌≡◌, ◌≢◌, ℕ, zero, suc, ◌+◌, ◌-◌, ◌<◌, ◌≤◌, inl, inr, Bool, true, false, List, [], ◌∷◌, ◌++◌, map, length}
+use Rattle.std.proofs.Common.{length-append, take, drop, get_or, set, get_or-set_same, get_or-set_other, slice_index, slice_index_or}
+use Rattle.std.proofs.Common.{nat_eq, if◌then◌else◌, All, ℤ, pos, ◌+ℤ◌, refl, sym, ap, ◌∙◌, subst, arith}
 use Rattle.std.specs.List.{flat_map}
 use Rattle.std.proofs.lemmas.Int.{ints}
 use Rattle.std.proofs.lemmas.Bool.{cases_eq, cases_lt, eq-eqb, ne_eqb}
@@ -39,13 +41,15 @@ apart_from_times (x ∷ xs) h (suc j) zero lj lk n e =
     let w = weight_if-same x (slice_index xs j) 1 (sym e) in
     let o = h (slice_index xs j) in
     absurd (omega arith)
-apart_from_times (x ∷ xs) h (suc j) (suc k) lj lk n e = apart_from_times xs (λ i. let o = h i in omega arith) j k (omega arith) (omega arith) (λ q. n (ap suc q)) e
+apart_from_times (x ∷ xs) h (suc j) (suc k) lj lk n e = apart_from_times xs (λ i. let o = h i in omega arith) j k (omega arith) (omega arith)
+    (λ q. n (ap suc q)) e
 
 -- moves that stand in a list at the places of their numbers
 abbrev pub ArePlaced : List Move → List ℕ → List Move → Type 0
 ArePlaced out numbers moves = (k : ℕ) (m : Move) → k < length moves → slice_index_or out (slice_index numbers k) m ≡ slice_index_or moves k m
 
-pub placed_both : (out : List Move) (n1 n2 : List ℕ) (m1 m2 : List Move) → length n1 ≡ length m1 → ArePlaced out n1 m1 → ArePlaced out n2 m2 → ArePlaced out (n1 ++ n2) (m1 ++ m2)
+pub placed_both : (out : List Move) (n1 n2 : List ℕ) (m1 m2 : List Move) → length n1 ≡ length m1 → ArePlaced out n1 m1 → ArePlaced out n2 m2 →
+    ArePlaced out (n1 ++ n2) (m1 ++ m2)
 placed_both out n1 n2 m1 m2 w a b k m l =
     let n = length-append m1 m2 in
     elim (cases_lt k (length m1)) [
@@ -55,7 +59,8 @@ placed_both out n1 n2 m1 m2 w a b k m l =
           let d : ℕ = k - length m1 in
           let e : k ≡ length m1 + d = omega arith in
           let f : k ≡ length n1 + d = omega arith in
-          ap (λ x. slice_index_or out x m) (ap (λ i. get_or (n1 ++ n2) i 0) f ∙ get_or-append-add n1 n2 d 0) ∙ b d m (omega arith) ∙ sym (ap (λ i. get_or (m1 ++ m2) i m) e ∙ get_or-append-add m1 m2 d m)
+          ap (λ x. slice_index_or out x m) (ap (λ i. get_or (n1 ++ n2) i 0) f ∙ get_or-append-add n1 n2 d 0) ∙ b d m (omega arith) ∙
+          sym (ap (λ i. get_or (m1 ++ m2) i m) e ∙ get_or-append-add m1 m2 d m)
     ]
 
 pub placed_left : (out : List Move) (n1 n2 : List ℕ) (m1 m2 : List Move) → length n1 ≡ length m1 → ArePlaced out (n1 ++ n2) (m1 ++ m2) → ArePlaced out n1 m1
@@ -63,10 +68,13 @@ placed_left out n1 n2 m1 m2 w a k m l =
     let n = length-append m1 m2 in
     ap (λ x. slice_index_or out x m) (sym (get_or_append_left n1 n2 0 k (omega arith))) ∙ a k m (omega arith) ∙ get_or_append_left m1 m2 m k l
 
-pub placed_right : (out : List Move) (n1 n2 : List ℕ) (m1 m2 : List Move) → length n1 ≡ length m1 → ArePlaced out (n1 ++ n2) (m1 ++ m2) → ArePlaced out n2 m2
+pub placed_right : (out : List Move) (n1 n2 : List ℕ) (m1 m2 : List Move) → length n1 ≡ length m1 → ArePlaced out (n1 ++ n2) (m1 ++ m2) →
+    ArePlaced out n2 m2
 placed_right out n1 n2 m1 m2 w a k m l =
     let n = length-append m1 m2 in
-    ap (λ x. slice_index_or out x m) (sym (ap (λ x. get_or (n1 ++ n2) (x + k) 0) (sym w) ∙ get_or-append-add n1 n2 k 0)) ∙ a (length m1 + k) m (omega arith) ∙ get_or-append-add m1 m2 k m
+    ap (λ x. slice_index_or out x m) (sym (ap (λ x. get_or (n1 ++ n2) (x + k) 0) (sym w) ∙ get_or-append-add n1 n2 k 0)) ∙
+    a (length m1 + k) m (omega arith) ∙
+    get_or-append-add m1 m2 k m
 
 -- each pass has drawn as many numbers as it has moves
 abbrev pub AreNumbered : List RacedPass → Type 0
@@ -74,7 +82,8 @@ AreNumbered ps = All (λ p. length p.view.account.numbers ≡ length p.view.acco
 
 -- ---- one pass that has taken the others over
 
-pub united_moves-total : (f : Move → ℕ) (v : View) (ps : List RacedPass) → total f (united_all v ps).account.moves ≡ total f v.account.moves + total f (all_moves ps)
+pub united_moves-total : (f : Move → ℕ) (v : View) (ps : List RacedPass) → total f (united_all v ps).account.moves ≡ total f v.account.moves + total f
+    (all_moves ps)
 united_moves-total f v [] = omega arith
 united_moves-total f v (p ∷ ps) =
     let r = united_moves-total f v ps in
@@ -82,7 +91,9 @@ united_moves-total f v (p ∷ ps) =
     let b = total-append f p.view.account.moves (all_moves ps) in
     omega arith
 
-pub united_moves-total_z : (f : Move → ℤ) (v : View) (ps : List RacedPass) → total_z f (united_all v ps).account.moves ≡ total_z f v.account.moves +ℤ total_z f (all_moves ps)
+pub united_moves-total_z : (f : Move → ℤ) (v : View) (ps : List RacedPass) → total_z f (united_all v ps).account.moves ≡ total_z f v.account.moves +ℤ
+    total_z f
+    (all_moves ps)
 united_moves-total_z f v [] = nothing (total_z f v.account.moves)
   where
     nothing : (x : ℤ) → x ≡ x +ℤ pos 0
@@ -93,7 +104,8 @@ united_moves-total_z f v (p ∷ ps) =
     let b = total_z-append f p.view.account.moves (all_moves ps) in
     omega (arith, ints)
 
-pub united_numbers-times : (i : ℕ) (v : View) (ps : List RacedPass) → times i (united_all v ps).account.numbers ≡ times i v.account.numbers + times i (all_numbers ps)
+pub united_numbers-times : (i : ℕ) (v : View) (ps : List RacedPass) → times i (united_all v ps).account.numbers ≡ times i v.account.numbers + times i
+    (all_numbers ps)
 united_numbers-times i v [] = omega arith
 united_numbers-times i v (p ∷ ps) =
     let r = united_numbers-times i v ps in
@@ -108,7 +120,8 @@ united_gain v [] = nothing v.account.gain
     nothing x = omega (arith, ints)
 united_gain v (p ∷ ps) = let r = united_gain v ps in omega (arith, ints)
 
-united_numbered : (v : View) (ps : List RacedPass) → length v.account.numbers ≡ length v.account.moves → AreNumbered ps → length (united_all v ps).account.numbers ≡ length (united_all v ps).account.moves
+united_numbered : (v : View) (ps : List RacedPass) → length v.account.numbers ≡ length v.account.moves → AreNumbered ps →
+    length (united_all v ps).account.numbers ≡ length (united_all v ps).account.moves
 united_numbered v [] h q = h
 united_numbered v (p ∷ ps) h q =
     let r = united_numbered v ps h (All-tail (λ (z : RacedPass). length z.view.account.numbers ≡ length z.view.account.moves) p ps q) in
@@ -118,12 +131,15 @@ united_numbered v (p ∷ ps) h q =
     omega arith
 
 -- where the moves of all passes are placed, so are those of the pass that has taken them over
-pub united_placed : (out : List Move) (v : View) (ps : List RacedPass) → length v.account.numbers ≡ length v.account.moves → AreNumbered ps → ArePlaced out v.account.numbers v.account.moves → ArePlaced out (all_numbers ps) (all_moves ps) → ArePlaced out (united_all v ps).account.numbers (united_all v ps).account.moves
+pub united_placed : (out : List Move) (v : View) (ps : List RacedPass) → length v.account.numbers ≡ length v.account.moves → AreNumbered ps →
+    ArePlaced out v.account.numbers v.account.moves → ArePlaced out (all_numbers ps) (all_moves ps) → ArePlaced out (united_all v ps).account.numbers
+    (united_all v ps).account.moves
 united_placed out v [] h q a b = a
 united_placed out v (p ∷ ps) h q a b =
     let rest = All-tail (λ (z : RacedPass). length z.view.account.numbers ≡ length z.view.account.moves) p ps q in
     let own = All-head (λ (z : RacedPass). length z.view.account.numbers ≡ length z.view.account.moves) p ps q in
-    placed_both out (united_all v ps).account.numbers p.view.account.numbers (united_all v ps).account.moves p.view.account.moves (united_numbered v ps h rest)
+    placed_both out (united_all v ps).account.numbers p.view.account.numbers (united_all v ps).account.moves p.view.account.moves
+    (united_numbered v ps h rest)
     (united_placed out v ps h rest a (placed_right out p.view.account.numbers (all_numbers ps) p.view.account.moves (all_moves ps) own b))
     (placed_left out p.view.account.numbers (all_numbers ps) p.view.account.moves (all_moves ps) own b)
 
@@ -151,9 +167,11 @@ own_moves i j [] h = by (nat_eq j i)
 own_moves i j (m ∷ ms) h =
     let w = All-head (λ (x : Move). x.worker ≡ j) m ms h in
     let r = own_moves i j ms (All-tail (λ (x : Move). x.worker ≡ j) m ms h) in
-    ap (λ x. (if nat_eq x i then m.booked else pos 0) +ℤ booked_by_worker i ms) w ∙ ap (λ x. (if nat_eq j i then m.booked else pos 0) +ℤ x) r ∙ by (nat_eq j i)
+    ap (λ x. (if nat_eq x i then m.booked else pos 0) +ℤ booked_by_worker i ms) w ∙ ap (λ x. (if nat_eq j i then m.booked else pos 0) +ℤ x) r ∙
+    by (nat_eq j i)
   where
-    by : (z : Bool) → (if z then m.booked else pos 0) +ℤ (if z then total_z (λ (x : Move). x.booked) ms else pos 0) ≡ (if z then m.booked +ℤ total_z (λ (x : Move). x.booked) ms else pos 0)
+    by : (z : Bool) → (if z then m.booked else pos 0) +ℤ (if z then total_z (λ (x : Move). x.booked) ms else pos 0) ≡
+        (if z then m.booked +ℤ total_z (λ (x : Move). x.booked) ms else pos 0)
     by true = refl
     by false = refl
 
@@ -171,20 +189,25 @@ booked_elsewhere a i [] h l = refl
 booked_elsewhere a i (p ∷ ps) h l =
     let o = h 0 p (omega arith) in
     let none : a + 0 ≡ a = omega arith in
-    let first = own_moves i a p.view.account.moves (subst (λ n. All (λ (m : Move). m.worker ≡ n) p.view.account.moves) none o.own) ∙ ap (λ z. if z then total_z (λ (m : Move). m.booked) p.view.account.moves else pos 0) (ne_eqb a i (λ e. absurd (omega arith))) in
+    let first = own_moves i a p.view.account.moves (subst (λ n. All (λ (m : Move). m.worker ≡ n) p.view.account.moves) none o.own) ∙
+    ap (λ z. if z then total_z (λ (m : Move). m.booked) p.view.account.moves else pos 0) (ne_eqb a i (λ e. absurd (omega arith))) in
     let rest = booked_elsewhere (suc a) i ps (booked_tail a p ps h) (omega arith) in
     let s = total_z-append (λ (m : Move). if nat_eq m.worker i then m.booked else pos 0) p.view.account.moves (all_moves ps) in
     s ∙ ap (λ x. x +ℤ booked_by_worker i (all_moves ps)) first ∙ ap (λ x. pos 0 +ℤ x) rest
 
-pub booked_here : (a j : ℕ) (ps : List RacedPass) → AreBooked a ps → j < length ps → booked_by_worker (a + j) (all_moves ps) ≡ slice_index_or (all_gains ps) j (pos 0)
+pub booked_here : (a j : ℕ) (ps : List RacedPass) → AreBooked a ps → j < length ps → booked_by_worker (a + j) (all_moves ps) ≡ slice_index_or
+    (all_gains ps) j
+    (pos 0)
 booked_here a j [] h l = absurd (omega arith)
 booked_here a zero (p ∷ ps) h l =
     let o = h 0 p (omega arith) in
     let none : a + 0 ≡ a = omega arith in
-    let own = own_moves a a p.view.account.moves (subst (λ n. All (λ m. m.worker ≡ n) p.view.account.moves) none o.own) ∙ ap (λ z. if z then total_z (λ (m : Move). m.booked) p.view.account.moves else pos 0) (eq-eqb a a refl) in
+    let own = own_moves a a p.view.account.moves (subst (λ n. All (λ m. m.worker ≡ n) p.view.account.moves) none o.own) ∙
+    ap (λ z. if z then total_z (λ (m : Move). m.booked) p.view.account.moves else pos 0) (eq-eqb a a refl) in
     let rest = booked_elsewhere (suc a) a ps (booked_tail a p ps h) (omega arith) in
     let s = total_z-append (λ (m : Move). if nat_eq m.worker a then m.booked else pos 0) p.view.account.moves (all_moves ps) in
-    ap (λ n. booked_by_worker n (all_moves (p ∷ ps))) none ∙ s ∙ ap (λ x. x +ℤ booked_by_worker a (all_moves ps)) own ∙ ap (λ x. total_z (λ (m : Move). m.booked) p.view.account.moves +ℤ x) rest ∙ nothing (total_z (λ (m : Move). m.booked) p.view.account.moves) ∙ sym o.gain
+    ap (λ n. booked_by_worker n (all_moves (p ∷ ps))) none ∙ s ∙ ap (λ x. x +ℤ booked_by_worker a (all_moves ps)) own ∙
+    ap (λ x. total_z (λ (m : Move). m.booked) p.view.account.moves +ℤ x) rest ∙ nothing (total_z (λ (m : Move). m.booked) p.view.account.moves) ∙ sym o.gain
   where
     nothing : (x : ℤ) → x +ℤ pos 0 ≡ x
     nothing x = omega (arith, ints)
@@ -192,37 +215,50 @@ booked_here a (suc j) (p ∷ ps) h l =
     let o = h 0 p (omega arith) in
     let next : a + suc j ≡ suc a + j = omega arith in
     let none : a + 0 ≡ a = omega arith in
-    let first = own_moves (suc a + j) a p.view.account.moves (subst (λ n. All (λ (m : Move). m.worker ≡ n) p.view.account.moves) none o.own) ∙ ap (λ z. if z then total_z (λ (m : Move). m.booked) p.view.account.moves else pos 0) (ne_eqb a (suc a + j) (λ e. absurd (omega arith))) in
+    let first = own_moves (suc a + j) a p.view.account.moves (subst (λ n. All (λ (m : Move). m.worker ≡ n) p.view.account.moves) none o.own) ∙
+    ap (λ z. if z then total_z (λ (m : Move). m.booked) p.view.account.moves else pos 0) (ne_eqb a (suc a + j) (λ e. absurd (omega arith))) in
     let rest = booked_here (suc a) j ps (booked_tail a p ps h) (omega arith) in
     let s = total_z-append (λ (m : Move). if nat_eq m.worker (suc a + j) then m.booked else pos 0) p.view.account.moves (all_moves ps) in
-    ap (λ n. booked_by_worker n (all_moves (p ∷ ps))) next ∙ s ∙ ap (λ x. x +ℤ booked_by_worker (suc a + j) (all_moves ps)) first ∙ nothing (booked_by_worker (suc a + j) (all_moves ps)) ∙ rest
+    ap (λ n. booked_by_worker n (all_moves (p ∷ ps))) next ∙ s ∙ ap (λ x. x +ℤ booked_by_worker (suc a + j) (all_moves ps)) first ∙
+    nothing (booked_by_worker (suc a + j) (all_moves ps)) ∙ rest
   where
     nothing : (x : ℤ) → pos 0 +ℤ x ≡ x
     nothing x = omega (arith, ints)
 
 -- ---- the loops
 
-pub flat_map_more : {X A : Type 0} (f : X → List A) (xs : List X) (i : ℕ) (d : X) → i < length xs → flat_map f (take (i + 1) xs) ≡ flat_map f (take i xs) ++ f (get_or xs i d)
+pub flat_map_more : {X A : Type 0} (f : X → List A) (xs : List X) (i : ℕ) (d : X) → i < length xs → flat_map f (take (i + 1) xs) ≡ flat_map f
+    (take i xs) ++ f
+    (get_or xs i d)
 flat_map_more {X} {A} f xs i d l =
-    ap (λ n. flat_map f (take n xs)) (one i) ∙ ap (flat_map f) (take-suc xs i d l) ∙ flat_map-append f (take i xs) (get_or xs i d ∷ []) ∙ ap (λ ys. flat_map f (take i xs) ++ ys) (append-nil (f (get_or xs i d)))
+    ap (λ n. flat_map f (take n xs)) (one i) ∙ ap (flat_map f) (take-suc xs i d l) ∙ flat_map-append f (take i xs) (get_or xs i d ∷ []) ∙
+    ap (λ ys. flat_map f (take i xs) ++ ys) (append-nil (f (get_or xs i d)))
   where
     one : (n : ℕ) → n + 1 ≡ suc n
     one n = omega arith
 
 -- what one pass more has done
-pub gathered_more : {B : Type 0} (f : Done → B) (g : RacedPass → List B) (done more items : List Done) (ps : List RacedPass) (i : ℕ) (p : RacedPass) → items ≡ done ++ more → map f done ≡ flat_map g (take i ps) → map f more ≡ g p → p ≡ get_or ps i p → i < length ps → map f items ≡ flat_map g (take (i + 1) ps)
+pub gathered_more : {B : Type 0} (f : Done → B) (g : RacedPass → List B) (done more items : List Done) (ps : List RacedPass) (i : ℕ) (p : RacedPass) →
+    items ≡ done ++ more → map f done ≡ flat_map g (take i ps) → map f more ≡ g p → p ≡ get_or ps i p → i < length ps →
+    map f items ≡ flat_map g (take (i + 1) ps)
 gathered_more f g done more items ps i p e h o q l =
-    ap (map f) e ∙ map-append f done more ∙ ap (λ ys. ys ++ map f more) h ∙ ap (λ ys. flat_map g (take i ps) ++ ys) o ∙ ap (λ z. flat_map g (take i ps) ++ g z) q ∙ sym (flat_map_more g ps i p l)
+    ap (map f) e ∙ map-append f done more ∙ ap (λ ys. ys ++ map f more) h ∙ ap (λ ys. flat_map g (take i ps) ++ ys) o ∙
+    ap (λ z. flat_map g (take i ps) ++ g z)
+    q ∙ sym (flat_map_more g ps i p l)
 
-pub gains_more : {gain : ℤ} (gains items : List ℤ) (ps : List RacedPass) (i : ℕ) (p : RacedPass) → items ≡ gains ++ gain ∷ [] → gains ≡ all_gains (take i ps) → gain ≡ p.view.account.gain → p ≡ get_or ps i p → i < length ps → items ≡ all_gains (take (i + 1) ps)
+pub gains_more : {gain : ℤ} (gains items : List ℤ) (ps : List RacedPass) (i : ℕ) (p : RacedPass) → items ≡ gains ++ gain ∷ [] →
+    gains ≡ all_gains (take i ps) →
+    gain ≡ p.view.account.gain → p ≡ get_or ps i p → i < length ps → items ≡ all_gains (take (i + 1) ps)
 gains_more {gain} gains items ps i p e h o q l =
     let f : RacedPass → ℤ = λ z. z.view.account.gain in
-    e ∙ ap (λ ys. ys ++ gain ∷ []) h ∙ ap (λ y. all_gains (take i ps) ++ y ∷ []) (o ∙ ap f q) ∙ sym (map-append f (take i ps) (get_or ps i p ∷ [])) ∙ ap (map f) (sym (take-suc ps i p l)) ∙ ap (λ n. map f (take n ps)) (sym (one i))
+    e ∙ ap (λ ys. ys ++ gain ∷ []) h ∙ ap (λ y. all_gains (take i ps) ++ y ∷ []) (o ∙ ap f q) ∙ sym (map-append f (take i ps) (get_or ps i p ∷ [])) ∙
+    ap (map f) (sym (take-suc ps i p l)) ∙ ap (λ n. map f (take n ps)) (sym (one i))
   where
     one : (n : ℕ) → n + 1 ≡ suc n
     one n = omega arith
 
-pub kept_more : (ps : List RacedPass) (i : ℕ) (p : RacedPass) → p ≡ get_or ps i p → i < length ps → IsKeptPass p → ((k : ℕ) (d : RacedPass) → k < i → IsKeptPass (slice_index_or ps k d)) → (k : ℕ) (d : RacedPass) → k < i + 1 → IsKeptPass (slice_index_or ps k d)
+pub kept_more : (ps : List RacedPass) (i : ℕ) (p : RacedPass) → p ≡ get_or ps i p → i < length ps → IsKeptPass p →
+    ((k : ℕ) (d : RacedPass) → k < i → IsKeptPass (slice_index_or ps k d)) → (k : ℕ) (d : RacedPass) → k < i + 1 → IsKeptPass (slice_index_or ps k d)
 kept_more ps i p q l own h k d m =
     elim (cases_eq k i) [
       | inl e ↦ subst IsKeptPass (q ∙ same_default ps i p d l ∙ ap (λ j. get_or ps j d) (sym e)) own
@@ -230,7 +266,13 @@ kept_more ps i p q l own h k d m =
     ]
 
 -- one move more in its place
-pub laid_more : (done : List Done) (out : List Move) (i : ℕ) → i < length done → length out ≡ length done → ((k : ℕ) (d : Done) → k < length done → (slice_index_or done k d).number < length done) → ((j k : ℕ) (d : Done) → j < length done → k < length done → j ≢ k → (slice_index_or done j d).number ≢ (slice_index_or done k d).number) → ((k : ℕ) (d : Done) (m : Move) → k < i → slice_index_or out (slice_index_or done k d).number m ≡ (slice_index_or done k d).action) → (e : Done) → e ≡ slice_index_or done i e → (k : ℕ) (d : Done) (m : Move) → k < i + 1 → slice_index_or (set out e.number e.action) (slice_index_or done k d).number m ≡ (slice_index_or done k d).action
+pub laid_more : (done : List Done) (out : List Move) (i : ℕ) → i < length done → length out ≡ length done →
+    ((k : ℕ) (d : Done) → k < length done → (slice_index_or done k d).number < length done) → ((j k : ℕ) (d : Done) → j < length done → k < length done →
+    j ≢ k → (slice_index_or done j d).number ≢ (slice_index_or done k d).number) →
+    ((k : ℕ) (d : Done) (m : Move) → k < i → slice_index_or out (slice_index_or done k d).number m ≡ (slice_index_or done k d).action) → (e : Done) →
+    e ≡ slice_index_or done i e → (k : ℕ) (d : Done) (m : Move) → k < i + 1 → slice_index_or (set out e.number e.action) (slice_index_or done k d).number
+    m ≡
+    (slice_index_or done k d).action
 laid_more done out i l wide below apart h e here k d m q =
     let same : slice_index_or done i d ≡ e = same_default done i d e l ∙ sym here in
     elim (cases_eq k i) [
@@ -238,18 +280,22 @@ laid_more done out i l wide below apart h e here k d m q =
           subst (λ (x : Done). slice_index_or (set out e.number e.action) x.number m ≡ x.action) (sym (ap (λ j. slice_index_or done j d) z ∙ same))
           (get_or-set_same out e.number e.action m (let b = below i e l in let n = ap (λ (x : Done). x.number) here in omega arith))
       | inr n ↦
-          get_or-set_other out e.number (slice_index_or done k d).number e.action m (λ r. apart k i d (omega arith) l n (r ∙ ap (λ (x : Done). x.number) (sym same)))
+          get_or-set_other out e.number (slice_index_or done k d).number e.action m
+          (λ r. apart k i d (omega arith) l n (r ∙ ap (λ (x : Done). x.number) (sym same)))
           ∙ h k d m (omega arith)
     ]
 
-pub laid_all : (done : List Done) (out : List Move) → length out ≡ length done → ((k : ℕ) (d : Done) (m : Move) → k < length done → slice_index_or out (slice_index_or done k d).number m ≡ (slice_index_or done k d).action) → AreByNumber (map (λ (d : Done). d.number) done) (map (λ (d : Done). d.action) done) out
+pub laid_all : (done : List Done) (out : List Move) → length out ≡ length done → ((k : ℕ) (d : Done) (m : Move) → k < length done →
+    slice_index_or out (slice_index_or done k d).number m ≡ (slice_index_or done k d).action) → AreByNumber (map (λ (d : Done). d.number) done)
+    (map (λ (d : Done). d.action) done) out
 laid_all done out wide h = record {
   all = wide ∙ sym (length-map done (λ (d : Done). d.action));
   places = λ k m l.
       let n = length-map done (λ (d : Done). d.action) in
       let q : k < length done = omega arith in
       let d : Done = record { number = 0; action = m } in
-      ap (λ x. slice_index_or out x m) (get_or-map (λ (x : Done). x.number) done k d 0 q) ∙ h k d m q ∙ sym (get_or-map (λ (x : Done). x.action) done k d m q);
+      ap (λ x. slice_index_or out x m) (get_or-map (λ (x : Done). x.number) done k d 0 q) ∙ h k d m q ∙
+      sym (get_or-map (λ (x : Done). x.action) done k d m q);
 }
 
 -- the pass that has taken others over is at rest as it was
@@ -263,7 +309,8 @@ pub united_as_before : (v : View) (ps : List RacedPass) → IsAsBefore v (united
 united_as_before v [] = record { live = refl; stage = refl; number = refl; terms = refl }
 united_as_before v (p ∷ ps) = let r = united_as_before v ps in record { live = r.live; stage = r.stage; number = r.number; terms = r.terms }
 
-pub united_stands : (v : View) (ps : List RacedPass) → v.stands + v.may ≡ 1 → All (λ p. p.view.stands + p.view.may ≡ 1) ps → (united_all v ps).stands + (united_all v ps).may ≡ length ps + 1
+pub united_stands : (v : View) (ps : List RacedPass) → v.stands + v.may ≡ 1 → All (λ p. p.view.stands + p.view.may ≡ 1) ps →
+    (united_all v ps).stands + (united_all v ps).may ≡ length ps + 1
 united_stands v [] h a = omega arith
 united_stands v (p ∷ ps) h a =
     let r = united_stands v ps h (All-tail (λ (z : RacedPass). z.view.stands + z.view.may ≡ 1) p ps a) in
@@ -271,7 +318,8 @@ united_stands v (p ∷ ps) h a =
     omega arith
 
 -- what holds of all passes holds of the one that is taken over next
-pub from_end : (P : RacedPass → Type 0) (ps rest front taken : List RacedPass) (p : RacedPass) → ((i : ℕ) (d : RacedPass) → i < length ps → P (slice_index_or ps i d)) → drop 1 ps ≡ rest ++ taken → rest ≡ front ++ p ∷ [] → P p
+pub from_end : (P : RacedPass → Type 0) (ps rest front taken : List RacedPass) (p : RacedPass) →
+    ((i : ℕ) (d : RacedPass) → i < length ps → P (slice_index_or ps i d)) → drop 1 ps ≡ rest ++ taken → rest ≡ front ++ p ∷ [] → P p
 from_end P [] rest front taken p h e f =
     let a = ap (λ (xs : List RacedPass). length xs) e in
     let b = ap (λ (xs : List RacedPass). length xs) f in
@@ -286,5 +334,6 @@ from_end P (x ∷ xs) rest front taken p h e f =
     let d = length-append front (p ∷ []) in
     let none : n + 0 ≡ n = omega arith in
     subst P
-    (ap (λ ys. get_or ys n p) e ∙ get_or_append_left rest taken p n (omega arith) ∙ ap (λ ys. get_or ys n p) f ∙ ap (λ j. get_or (front ++ p ∷ []) j p) (sym none) ∙ get_or-append-add front (p ∷ []) 0 p)
+    (ap (λ ys. get_or ys n p) e ∙ get_or_append_left rest taken p n (omega arith) ∙ ap (λ ys. get_or ys n p) f ∙ ap (λ j. get_or (front ++ p ∷ []) j p)
+    (sym none) ∙ get_or-append-add front (p ∷ []) 0 p)
     (h (suc n) p (omega arith))

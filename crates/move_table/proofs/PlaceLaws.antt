@@ -1,5 +1,6 @@
 -- Where the words of a round stand: each within the table, and no two at one place but the counts that share a word.
-use Rattle.std.proofs.Common.{◌≡◌, ◌≢◌, ℕ, ◌+◌, ◌*◌, ◌/◌, ◌%◌, ◌<◌, ◌≤◌, inl, inr, true, List, length, slice_index, set, get_or-set_same, get_or-set_other, nat_lt, refl, sym, ap, ◌∙◌, subst, arith}
+use Rattle.std.proofs.Common.{◌≡◌, ◌≢◌, ℕ, ◌+◌, ◌*◌, ◌/◌, ◌%◌, ◌<◌, ◌≤◌, inl, inr, true, List, length, slice_index, set}
+use Rattle.std.proofs.Common.{get_or-set_same, get_or-set_other, nat_lt, refl, sym, ap, ◌∙◌, subst, arith}
 use Rattle.std.proofs.lemmas.Bool.{ltb-true, and_parts, cases_lt, cases_eq}
 use Rattle.std.proofs.lemmas.Nat.{div-add-mod'}
 use Rattle.hg_defs.specs.Hypergraph.{vertex_count, net_count, net_of}
@@ -104,10 +105,13 @@ module _ (s : Setup) where
     one_field : (f b c : ℕ) → c / f ≡ b / f → c ≢ b → c % f ≢ b % f
     one_field f b c q n r = n (sym (div-add-mod' c f) ∙ ap (λ x. x * f + c % f) q ∙ ap (λ x. b / f * f + x) r ∙ div-add-mod' b f)
 
-    two_counts : (e b f c : ℕ) → Exists s (word.Count e b) → Exists s (word.Count f c) → word.Count f c ≢ word.Count e b → KeepsFields s (word.Count e b) (slice_index words (counts_place s e b)) y → counts_place s e b < length words → read (table_readings s (set words (counts_place s e b) y)) (word.Count f c) ≡ read (table_readings s words) (word.Count f c)
+    two_counts : (e b f c : ℕ) → Exists s (word.Count e b) → Exists s (word.Count f c) → word.Count f c ≢ word.Count e b → KeepsFields s (word.Count e b)
+        (slice_index words (counts_place s e b)) y → counts_place s e b < length words → read (table_readings s (set words (counts_place s e b) y))
+        (word.Count f c) ≡ read (table_readings s words) (word.Count f c)
     two_counts e b f c k l n keeps inside =
         elim (cases_eq f e) [
-          | inl q ↦ subst (λ g. word.Count g c ≢ word.Count e b → read (table_readings s (set words (counts_place s e b) y)) (word.Count g c) ≡ read (table_readings s words) (word.Count g c)) (sym q) own n
+          | inl q ↦ subst (λ g. word.Count g c ≢ word.Count e b → read (table_readings s (set words (counts_place s e b) y)) (word.Count g c) ≡ read
+              (table_readings s words) (word.Count g c)) (sym q) own n
           | inr q ↦
               let x = counts-within e b k.1 in
               let z = counts-within f c l.1 in
@@ -115,7 +119,8 @@ module _ (s : Setup) where
               apart (word.Count e b) (word.Count f c) (λ r. d (omega arith))
         ]
       where
-        own : word.Count e c ≢ word.Count e b → read (table_readings s (set words (counts_place s e b) y)) (word.Count e c) ≡ read (table_readings s words) (word.Count e c)
+        own : word.Count e c ≢ word.Count e b → read (table_readings s (set words (counts_place s e b) y)) (word.Count e c) ≡ read (table_readings s words)
+            (word.Count e c)
         own o =
             elim (cases_eq (c / fields_of (net_bits s.graph e)) (b / fields_of (net_bits s.graph e))) [
               | inl q ↦
@@ -137,7 +142,9 @@ module _ (s : Setup) where
           | inr q ↦ let z = counts-within f c l in nets_apart f e (1 + c / fields_of (net_bits s.graph f)) 0 q (omega arith) (omega arith) (omega arith)
         ]
 
-    pub others_read : (w u : Word) → Exists s w → Exists s u → u ≢ w → word_place s w < length words → KeepsFields s w (slice_index words (word_place s w)) y → read (table_readings s (set words (word_place s w) y)) u ≡ read (table_readings s words) u
+    pub others_read : (w u : Word) → Exists s w → Exists s u → u ≢ w → word_place s w < length words → KeepsFields s w (slice_index words (word_place s w))
+        y →
+        read (table_readings s (set words (word_place s w) y)) u ≡ read (table_readings s words) u
     others_read (word.Claim v) (word.Claim u) k l n i f = apart (word.Claim v) (word.Claim u) (λ q. n (ap word.Claim q))
     others_read (word.Claim v) (word.Name u) k l n i f = apart (word.Claim v) (word.Name u) (λ q. absurd (omega arith))
     others_read (word.Claim v) (word.Load c) k l n i f = apart (word.Claim v) (word.Load c) (λ q. absurd (omega arith))

@@ -10,7 +10,9 @@ use Rattle.move_table.specs.Standing.{terms_setup}
 use Rattle.move_table.specs.Steps.{IsReady}
 use Rattle.move_table.proofs.PlaceLaws.{Exists, place-below}
 
-pub ready : (table : TableId) (t : Terms) (v : View) (x : Event) (i : ℕ) → table.words ≡ word_count (terms_setup t) → v.terms ≡ t → v.account.live ≡ true → pass_of x ≡ v.number → may_step (terms_setup t) x v.account ≡ true → Exists (terms_setup t) (word_of (terms_setup t) x v.account) → i ≡ word_place (terms_setup t) (word_of (terms_setup t) x v.account) → IsReady table t v x i
+pub ready : (table : TableId) (t : Terms) (v : View) (x : Event) (i : ℕ) → table.words ≡ word_count (terms_setup t) → v.terms ≡ t → v.account.live ≡ true →
+    pass_of x ≡ v.number → may_step (terms_setup t) x v.account ≡ true → Exists (terms_setup t) (word_of (terms_setup t) x v.account) →
+    i ≡ word_place (terms_setup t) (word_of (terms_setup t) x v.account) → IsReady table t v x i
 ready table t v x i wide same live number may there place =
     let P : Terms → Type 0 = λ z. may_step (terms_setup z) x v.account ≡ true in
     let Q : Terms → Type 0 = λ z. i ≡ word_place (terms_setup z) (word_of (terms_setup z) x v.account) in

@@ -1,5 +1,6 @@
 -- No step runs over: what is subtracted stands in its word, a count has room for one pin more, and what is booked fits.
-use Rattle.std.proofs.Common.{◌≡◌, ◌≢◌, ℕ, ◌+◌, ◌-◌, ◌<◌, ◌≤◌, inl, inr, Bool, true, false, ◌&&◌, List, length, get_or, slice_index, nat_eq, if◌then◌else◌, refl, sym, ap, ◌∙◌, subst, arith}
+use Rattle.std.proofs.Common.{◌≡◌, ◌≢◌, ℕ, ◌+◌, ◌-◌, ◌<◌, ◌≤◌, inl, inr, Bool, true, false, ◌&&◌, List, length, get_or}
+use Rattle.std.proofs.Common.{slice_index, nat_eq, if◌then◌else◌, refl, sym, ap, ◌∙◌, subst, arith}
 use Rattle.std.proofs.lemmas.Bool.{eqb-true}
 use Rattle.hg_defs.specs.Sums.{total}
 use Rattle.hg_defs.specs.Hypergraph.{vertex_count, net_count, net_of, weight_of}
@@ -27,7 +28,8 @@ use Rattle.move_core.proofs.CountEvents.{lower_found}
 use Rattle.move_core.proofs.SpreadLaws.{spread_positive}
 use Rattle.move_core.proofs.EventLaw.{staged_at, event_balance}
 
-module _ (g : Setup) (ok : IsSetup g) (r : Readings) (accounts : List Account) (b : InBalance g r accounts) (i : ℕ) (a : Account) (l : i < length accounts) (at : get_or accounts i (blank false) ≡ a) where
+module _ (g : Setup) (ok : IsSetup g) (r : Readings) (accounts : List Account) (b : InBalance g r accounts) (i : ℕ) (a : Account) (l : i < length accounts)
+    (at : get_or accounts i (blank false) ≡ a) where
   wide : vertex_count g.graph ≤ length g.opening
   wide = let e = ok.opening.vertices in omega arith
 
@@ -55,10 +57,13 @@ module _ (g : Setup) (ok : IsSetup g) (r : Readings) (accounts : List Account) (
       go (Moving v from to number named raised lowered owed booked) e q = no q
 
   -- the weight that leaves its block
-  pub left_weight : (test : Bool → ℕ → ℕ → Owed → Bool) → is_moving test a.stage ≡ true → from_at a.stage < g.blocks → weight_of g.graph (vertex_at a.stage) ≤ r.load (from_at a.stage)
+  pub left_weight : (test : Bool → ℕ → ℕ → Owed → Bool) → is_moving test a.stage ≡ true → from_at a.stage < g.blocks →
+      weight_of g.graph (vertex_at a.stage) ≤
+      r.load (from_at a.stage)
   left_weight test h = go a.stage refl h
     where
-      go : (stage : Stage) → stage ≡ a.stage → is_moving test stage ≡ true → from_at stage < g.blocks → weight_of g.graph (vertex_at stage) ≤ r.load (from_at stage)
+      go : (stage : Stage) → stage ≡ a.stage → is_moving test stage ≡ true → from_at stage < g.blocks → weight_of g.graph (vertex_at stage) ≤ r.load
+          (from_at stage)
       go Idle e q k = no q
       go (Refused v to seen) e q k = no q
       go (Granted v from to seen) e q k = no q
@@ -74,7 +79,8 @@ module _ (g : Setup) (ok : IsSetup g) (r : Readings) (accounts : List Account) (
   pub lower_positive : a.live ≡ true → may_step g (Lower i) a ≡ true → 1 ≤ r.count (stage_net g a.stage (lowered_at a.stage)) (from_at a.stage)
   lower_positive on h = go a.stage refl h
     where
-      go : (stage : Stage) → stage ≡ a.stage → is_moving (λ named raised lowered owed. owes_nothing owed && nat_eq raised (lowered + 1)) stage ≡ true → 1 ≤ r.count (slice_index (nets_of g.graph (vertex_at stage)) (lowered_at stage)) (from_at stage)
+      go : (stage : Stage) → stage ≡ a.stage → is_moving (λ named raised lowered owed. owes_nothing owed && nat_eq raised (lowered + 1)) stage ≡ true →
+          1 ≤ r.count (slice_index (nets_of g.graph (vertex_at stage)) (lowered_at stage)) (from_at stage)
       go Idle e q = no q
       go (Refused v to seen) e q = no q
       go (Granted v from to seen) e q = no q
@@ -93,18 +99,21 @@ module _ (g : Setup) (ok : IsSetup g) (r : Readings) (accounts : List Account) (
           (at ∙ staged_at a on ∙ ap (staged a.held a.moves a.numbers a.seeds a.gain) (sym e)) (omega arith)
 
   -- no Narrow finds 0
-  pub narrow_positive : is_moving (λ named raised lowered owed. owes_down owed) a.stage ≡ true → stage_net g a.stage (lowered_at a.stage - 1) < net_count g.graph → 1 ≤ r.spread (stage_net g a.stage (lowered_at a.stage - 1))
+  pub narrow_positive : is_moving (λ named raised lowered owed. owes_down owed) a.stage ≡ true → stage_net g a.stage (lowered_at a.stage - 1) < net_count
+      g.graph → 1 ≤ r.spread (stage_net g a.stage (lowered_at a.stage - 1))
   narrow_positive h k =
       spread_positive g r r accounts i a a l at b.spreads (stage_net g a.stage (lowered_at a.stage - 1)) k b.rest.made
       (let o = owed a.stage h in omega arith)
     where
-      owed : (stage : Stage) → is_moving (λ named raised lowered owed. owes_down owed) stage ≡ true → owed_down g.graph (slice_index (nets_of g.graph (vertex_at stage)) (lowered_at stage - 1)) stage ≡ 1
+      owed : (stage : Stage) → is_moving (λ named raised lowered owed. owes_down owed) stage ≡ true →
+          owed_down g.graph (slice_index (nets_of g.graph (vertex_at stage)) (lowered_at stage - 1)) stage ≡ 1
       owed Idle q = no q
       owed (Refused v to seen) q = no q
       owed (Granted v from to seen) q = no q
       owed (Moving v from to number named raised lowered Nothing booked) q = no q
       owed (Moving v from to number named raised lowered Up booked) q = no q
-      owed (Moving v from to number named raised lowered Down booked) q = weight_if-same (slice_index (nets_of g.graph v) (lowered - 1)) (slice_index (nets_of g.graph v) (lowered - 1)) 1 refl
+      owed (Moving v from to number named raised lowered Down booked) q = weight_if-same (slice_index (nets_of g.graph v) (lowered - 1))
+          (slice_index (nets_of g.graph v) (lowered - 1)) 1 refl
 
 -- a count changed alone
 module _ (g : Setup) (r : Readings) (e c x : ℕ) where
@@ -135,11 +144,15 @@ module _ (g : Setup) (r : Readings) (e c x : ℕ) where
       others word.Cursor h n = refl
 
 -- a count has room for the pin of a Raise
-pub count_room : (g : Setup) (ok : IsSetup g) (r : Readings) (accounts : List Account) (b : InBalance g r accounts) (i : ℕ) → is_enabled_for g accounts (Raise i) ≡ true → (e c : ℕ) → word_for g accounts (Raise i) ≡ word.Count e c → e < net_count g.graph → c < g.blocks → r.count e c + 1 ≤ length (net_of g.graph e).pins
+pub count_room : (g : Setup) (ok : IsSetup g) (r : Readings) (accounts : List Account) (b : InBalance g r accounts) (i : ℕ) → is_enabled_for g accounts
+    (Raise i) ≡ true → (e c : ℕ) → word_for g accounts (Raise i) ≡ word.Count e c → e < net_count g.graph → c < g.blocks →
+    r.count e c + 1 ≤ length (net_of g.graph e).pins
 count_room g ok r accounts b i on e c here k q =
     let x : ℕ = found_for g r accounts (Raise i) + 1 in
     let same : found_for g r accounts (Raise i) ≡ r.count e c = ap (read r) here in
-    let p = event_balance g ok r accounts b (with_count g r e c x) (Raise i) on (subst (λ w. WritesWord g w x r (with_count g r e c x)) (sym here) (with_count-writes g r e c x)) in
-    let most = count_within g (with_count g r e c x) (accounts_after_for g accounts (Raise i) (found_for g r accounts (Raise i))) ok.graph p.claims p.moves p.counts e c k q in
+    let p = event_balance g ok r accounts b (with_count g r e c x) (Raise i) on (subst (λ w. WritesWord g w x r (with_count g r e c x)) (sym here)
+    (with_count-writes g r e c x)) in
+    let most = count_within g (with_count g r e c x) (accounts_after_for g accounts (Raise i) (found_for g r accounts (Raise i))) ok.graph p.claims p.moves
+    p.counts e c k q in
     let now : read (with_count g r e c x) (word.Count e c) ≡ x = (with_count-writes g r e c x).here in
     omega arith

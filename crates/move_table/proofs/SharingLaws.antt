@@ -34,11 +34,13 @@ hyper_sync ℓ κ = shr_sync ℓ κ graph.the_row (hyper.the_sync)
 terms_field_sync : IsSync (terms.the_field).row
 terms_field_sync = search (sendable, crosses, partition_sync) depth 20
 
-table_field_sync : (V K P : RattleType) (g : Ghosts P.Denot unit.Denot V.Denot K.Denot) → IsSync (tables.the_field unit V K P global.the_row g impls.ghosts).row
+table_field_sync : (V K P : RattleType) (g : Ghosts P.Denot unit.Denot V.Denot K.Denot) →
+    IsSync (tables.the_field unit V K P global.the_row g impls.ghosts).row
 table_field_sync V K P g = search (sendable, crosses, shared.the_sync, lease.the_sync) depth 20
 
 inside_sync : (κ : _) → IsSync (round.TheInside.the_row κ)
-inside_sync κ = recorded_sync _ _ _ ((round.TheInside.the_type κ).to_one) (struct_sync (declared.shape (round.TheInside.the_type κ)) (hyper_sync _ _, (terms_field_sync, (vec_sync, (search table_field_sync, tt)))))
+inside_sync κ = recorded_sync _ _ _ ((round.TheInside.the_type κ).to_one) (struct_sync (declared.shape (round.TheInside.the_type κ))
+    (hyper_sync _ _, (terms_field_sync, (vec_sync, (search table_field_sync, tt)))))
 
 -- a round may be shared by threads
 pub round_sync : (κ : _) → IsSync (round.the_row κ)

@@ -1,5 +1,6 @@
 -- A step that writes its word as its event does keeps what stands between any two steps.
-use Rattle.std.proofs.Common.{◌≡◌, ℕ, ◌+◌, ◌<◌, inl, inr, Bool, true, false, ◌&&◌, List, map, length, get_or, set, slice_index, slice_set, length-set, get_or-set_same, get_or-set_other, if◌then◌else◌, nat_eq, nat_cmp, zero, suc, [], ◌∷◌, refl, sym, ap, ◌∙◌, subst, arith}
+use Rattle.std.proofs.Common.{◌≡◌, ℕ, ◌+◌, ◌<◌, inl, inr, Bool, true, false, ◌&&◌, List, map, length, get_or, set, slice_index, slice_set, length-set}
+use Rattle.std.proofs.Common.{get_or-set_same, get_or-set_other, if◌then◌else◌, nat_eq, nat_cmp, zero, suc, [], ◌∷◌, refl, sym, ap, ◌∙◌, subst, arith}
 use Rattle.std.proofs.lemmas.Bool.{cases_eq, and_from, true≢false}
 use Rattle.std.proofs.lemmas.List.{map-set, get_or-map}
 use Rattle.std.specs.BTreeSet.{insert_key}
@@ -11,10 +12,12 @@ use Rattle.atomic_table.specs.Table.{Me, keeps, Allows}
 use Rattle.atomic_table.specs.Seated.{TableId}
 use Rattle.move_core.specs.declared.account.Account.{Account}
 use Rattle.move_core.specs.declared.events.Event.{Event}
-use Rattle.move_core.specs.declared.events.Event.TheVariants.{Claim, Unclaim, Reserve, TakeBack, Draw, Name, Raise, Widen, Lower, Narrow, GiveBack, Seed, Peek, Split, Join}
+use Rattle.move_core.specs.declared.events.Event.TheVariants.{Claim, Unclaim, Reserve, TakeBack, Draw, Name, Raise, Widen, Lower}
+use Rattle.move_core.specs.declared.events.Event.TheVariants.{Narrow, GiveBack, Seed, Peek, Split, Join}
 use Rattle.move_core.specs.declared.events.Word.{Word}
 use Rattle.move_core.specs.State.{Setup, read, account_in, blank}
-use Rattle.move_core.specs.Events.{pass_of, word_of, write_of, may_step, account_after, is_enabled_for, others_agree_for, found_for, accounts_after_for, WritesWord, is_word}
+use Rattle.move_core.specs.Events.{pass_of, word_of, write_of, may_step, account_after, is_enabled_for}
+use Rattle.move_core.specs.Events.{others_agree_for, found_for, accounts_after_for, WritesWord, is_word}
 use Rattle.move_core.specs.Balance.{InBalance, IsSetup}
 use Rattle.move_core.proofs.EventLaw.{event_word, event_balance}
 use Rattle.move_table.specs.declared.view.Terms.{Terms}
@@ -45,7 +48,8 @@ is_alone (Split i) = false
 is_alone (Join i j) = false
 is_alone _ = true
 
-alone_accounts : (g : Setup) (accounts : List Account) (x : Event) (f : ℕ) → is_alone x ≡ true → accounts_after_for g accounts x f ≡ slice_set accounts (pass_of x) (account_after g x f (account_in accounts (pass_of x)))
+alone_accounts : (g : Setup) (accounts : List Account) (x : Event) (f : ℕ) → is_alone x ≡ true → accounts_after_for g accounts x f ≡ slice_set accounts
+    (pass_of x) (account_after g x f (account_in accounts (pass_of x)))
 alone_accounts g accounts (Claim i v) f h = refl
 alone_accounts g accounts (Unclaim i v) f h = refl
 alone_accounts g accounts (Reserve i v to) f h = refl
@@ -116,8 +120,10 @@ module _ (t : Terms) (views : List View) (id : ℕ) (v : View) (at : get_elem? v
       get_or-map (λ (z : View). z.account) views id spent_view (blank false) (at_below views id v at)
       ∙ ap (λ (z : View). z.account) (at_get views id v spent_view at)
 
-  module _ (w : View) (same : w.terms ≡ v.terms) (number : w.number ≡ v.number) (stands : w.stands ≡ v.stands) (may : w.may ≡ v.may) (live : w.account.live ≡ v.account.live) where
-    each_after : ((i : ℕ) → i < length views → IsViewAt t views i (get_or views i spent_view)) → (i : ℕ) → i < length (set views id w) → IsViewAt t (set views id w) i (get_or (set views id w) i spent_view)
+  module _ (w : View) (same : w.terms ≡ v.terms) (number : w.number ≡ v.number) (stands : w.stands ≡ v.stands) (may : w.may ≡ v.may)
+      (live : w.account.live ≡ v.account.live) where
+    each_after : ((i : ℕ) → i < length views → IsViewAt t views i (get_or views i spent_view)) → (i : ℕ) → i < length (set views id w) →
+        IsViewAt t (set views id w) i (get_or (set views id w) i spent_view)
     each_after each i l =
         let n = length-set views id w in
         let below : i < length views = omega arith in
@@ -146,7 +152,8 @@ module _ (t : Terms) (views : List View) (id : ℕ) (v : View) (at : get_elem? v
               })
         ]
 
-    shares_after : (workers : ℕ) → total (λ (z : View). z.stands + z.may) views ≡ workers → total (λ (z : View). z.stands + z.may) (set views id w) ≡ workers
+    shares_after : (workers : ℕ) → total (λ (z : View). z.stands + z.may) views ≡ workers → total (λ (z : View). z.stands + z.may) (set views id w) ≡
+        workers
     shares_after workers h =
         let f : View → ℕ = λ z. z.stands + z.may in
         let e = total-set f views id w spent_view (at_below views id v at) in
@@ -155,7 +162,9 @@ module _ (t : Terms) (views : List View) (id : ℕ) (v : View) (at : get_elem? v
 
 -- ---- one step
 
-module _ (words : List ℕ) (views : List View) (id : ℕ) (v : View) (x : Event) (alone : is_alone x ≡ true) (live : v.account.live ≡ true) (named : pass_of x ≡ v.number) (may : may_step (terms_setup v.terms) x v.account ≡ true) (k : IsStanding v.terms words views) (at : get_elem? views id ≡ some v) where
+module _ (words : List ℕ) (views : List View) (id : ℕ) (v : View) (x : Event) (alone : is_alone x ≡ true) (live : v.account.live ≡ true)
+    (named : pass_of x ≡ v.number) (may : may_step (terms_setup v.terms) x v.account ≡ true) (k : IsStanding v.terms words views)
+    (at : get_elem? views id ≡ some v) where
   abbrev g : Setup
   g = terms_setup v.terms
 
@@ -180,7 +189,8 @@ module _ (words : List ℕ) (views : List View) (id : ℕ) (v : View) (x : Event
       record { graph = p.sound; bounds = p.bounds; blocks = let f = p.few in omega arith; opening = p.partition; fits = k.over.fits }
 
   pub word_exists : is_word g w ≡ true
-  word_exists = subst (λ (a : Account). is_word g (word_of g x a) ≡ true) account_there (event_word g setup_ok (table_readings g words) (accounts_of views) k.balance x enabled)
+  word_exists = subst (λ (a : Account). is_word g (word_of g x a) ≡ true) account_there (event_word g setup_ok (table_readings g words) (accounts_of views)
+      k.balance x enabled)
 
   pub place_there : word_place g w < length words
   place_there = let p = place-below g w (exists_word g w word_exists) in let l = k.wide in omega arith
@@ -204,7 +214,9 @@ module _ (words : List ℕ) (views : List View) (id : ℕ) (v : View) (x : Event
 
     pub balance_after : InBalance g (table_readings g after) (set (accounts_of views) id (account_after g x found v.account))
     balance_after =
-        let found_is : found_for g (table_readings g words) (accounts_of views) x ≡ found = ap (λ (a : Account). read (table_readings g words) (word_of g x a)) account_there ∙ reads_found in
+        let found_is : found_for g (table_readings g words) (accounts_of views) x ≡ found =
+        ap (λ (a : Account). read (table_readings g words) (word_of g x a))
+        account_there ∙ reads_found in
         let P : Account → ℕ → Type 0 = λ a f. WritesWord g (word_of g x a) (write_of g x a f) (table_readings g words) (table_readings g after) in
         let Q : ℕ → Account → ℕ → Type 0 = λ i a f. InBalance g (table_readings g after) (slice_set (accounts_of views) i (account_after g x f a)) in
         let b = event_balance g setup_ok (table_readings g words) (accounts_of views) k.balance (table_readings g after) x enabled
@@ -212,7 +224,8 @@ module _ (words : List ℕ) (views : List View) (id : ℕ) (v : View) (x : Event
         subst (λ i. Q i v.account found) pass_id
         (subst (λ a. Q (pass_of x) a found) account_there
         (subst (Q (pass_of x) (account_in (accounts_of views) (pass_of x))) found_is
-        (subst (InBalance g (table_readings g after)) (alone_accounts g (accounts_of views) x (found_for g (table_readings g words) (accounts_of views) x) alone) b)))
+        (subst (InBalance g (table_readings g after)) (alone_accounts g (accounts_of views) x (found_for g (table_readings g words) (accounts_of views) x)
+        alone) b)))
 
     pub standing_after : IsStanding v.terms after (set views id (acted x found v))
     standing_after =
@@ -230,15 +243,22 @@ module _ (words : List ℕ) (views : List View) (id : ℕ) (v : View) (x : Event
 
 -- whatever the table is, the step finds what its event tells, and writes what its event does
 pub record IsRight (v : View) (x : Event) (f : ℕ → ℕ) (words : List ℕ) : Type 0 where
-  pub written : IsWritten (terms_setup v.terms) x v.account (slice_index words (word_place (terms_setup v.terms) (word_of (terms_setup v.terms) x v.account))) (f (slice_index words (word_place (terms_setup v.terms) (word_of (terms_setup v.terms) x v.account))))
-  pub told : IsKnownFound (terms_setup v.terms) x v.account (number_in (terms_setup v.terms) (word_of (terms_setup v.terms) x v.account) (slice_index words (word_place (terms_setup v.terms) (word_of (terms_setup v.terms) x v.account))))
+  pub written : IsWritten (terms_setup v.terms) x v.account
+      (slice_index words (word_place (terms_setup v.terms) (word_of (terms_setup v.terms) x v.account)))
+      (f (slice_index words (word_place (terms_setup v.terms) (word_of (terms_setup v.terms) x v.account))))
+  pub told : IsKnownFound (terms_setup v.terms) x v.account (number_in (terms_setup v.terms) (word_of (terms_setup v.terms) x v.account)
+      (slice_index words (word_place (terms_setup v.terms) (word_of (terms_setup v.terms) x v.account))))
 
 pub allows :
     (table : TableId) (t : Terms) (slots id : ℕ) (me : Me (Unit {0}) View) (x : Event) (i : ℕ) (f : ℕ → ℕ)
     → is_alone x ≡ true
     → IsReady table t me.0 x i
-    → ((words : List ℕ) (views : List View) → IsStanding me.0.terms words views → get_elem? views id ≡ some me.0 → slice_index words (word_place (terms_setup me.0.terms) (word_of (terms_setup me.0.terms) x me.0.account)) < 18446744073709551616 → IsRight me.0 x f words)
-    → Allows (AllStanding t) slots id me i f (λ n after. (after ≡ (acted x (number_in (terms_setup me.0.terms) (word_of (terms_setup me.0.terms) x me.0.account) n) me.0, me.1)) × IsKnownFound (terms_setup me.0.terms) x me.0.account (number_in (terms_setup me.0.terms) (word_of (terms_setup me.0.terms) x me.0.account) n))
+    → ((words : List ℕ) (views : List View) → IsStanding me.0.terms words views → get_elem? views id ≡ some me.0 →
+    slice_index words (word_place (terms_setup me.0.terms) (word_of (terms_setup me.0.terms) x me.0.account)) < 18446744073709551616 →
+    IsRight me.0 x f words)
+    → Allows (AllStanding t) slots id me i f (λ n after.
+    (after ≡ (acted x (number_in (terms_setup me.0.terms) (word_of (terms_setup me.0.terms) x me.0.account) n) me.0, me.1)) × IsKnownFound
+    (terms_setup me.0.terms) x me.0.account (number_in (terms_setup me.0.terms) (word_of (terms_setup me.0.terms) x me.0.account) n))
 allows table t slots id me x i f alone ready right =
     let v = me.0 in
     let g = terms_setup v.terms in
@@ -246,6 +266,12 @@ allows table t slots id me x i f alone ready right =
     let tells : ℕ → Me (Unit {0}) View → Type 0 = λ n after. (after ≡ (acted x (number_in g w n) v, me.1)) × IsKnownFound g x v.account (number_in g w n) in
     let here : Allows (AllStanding v.terms) slots id me (word_place g w) f tells = λ s k deep at small.
     let q = right s.words s.views k at small in
-    let n = slice_index s.words (word_place g w) in
-    (acted x (number_in g w n) v, keeps, tt, standing_after s.words s.views id v x alone ready.live ready.number ready.may k at (f n) q.written, (refl, q.told)) in
-    subst (λ z. Allows (AllStanding z) slots id me i f tells) ready.terms (subst (λ j. Allows (AllStanding v.terms) slots id me j f tells) (sym ready.place) here)
+    let n = slice_index s.words (word_place g w) in (
+      acted x (number_in g w n) v,
+      keeps,
+      tt,
+      standing_after s.words s.views id v x alone ready.live ready.number ready.may k at (f n) q.written,
+      (refl, q.told),
+    ) in
+    subst (λ z. Allows (AllStanding z) slots id me i f tells) ready.terms (subst (λ j. Allows (AllStanding v.terms) slots id me j f tells) (sym ready.place)
+    here)

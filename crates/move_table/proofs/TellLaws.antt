@@ -1,12 +1,14 @@
 -- What a pass knows of a number that it reads, from the books in balance and its own account.
-use Rattle.std.proofs.Common.{◌≡◌, ℕ, suc, ◌+◌, ◌<◌, ◌≤◌, inl, inr, Bool, true, false, List, [], ◌∷◌, map, length, get_or, set, nat_eq, if◌then◌else◌, All, refl, sym, ap, ◌∙◌, subst, arith}
+use Rattle.std.proofs.Common.{◌≡◌, ℕ, suc, ◌+◌, ◌<◌, ◌≤◌, inl, inr, Bool, true, false, List, [], ◌∷◌, map, length, get_or}
+use Rattle.std.proofs.Common.{set, nat_eq, if◌then◌else◌, All, refl, sym, ap, ◌∙◌, subst, arith}
 use Rattle.std.proofs.lemmas.Bool.{cases_eq, cases_lt, ne_eqb}
 use Rattle.std.proofs.lemmas.List.Elements.{All-nil, All-cons, All-head, All-tail}
 use Rattle.hg_defs.specs.declared.moves.Move.{Move}
 use Rattle.hg_defs.specs.Sums.{total}
 use Rattle.hg_defs.specs.Hypergraph.{vertex_count, net_count, net_of, weight_of}
 use Rattle.hg_defs.specs.Partition.{block_of}
-use Rattle.hg_defs.proofs.SumLaws.{weight_if, weight_if-other, total-append, total-le, total-zero, total-same, total-map, total-swap, total-add, total-same_each}
+use Rattle.hg_defs.proofs.SumLaws.{weight_if, weight_if-other, total-append, total-le, total-zero, total-same}
+use Rattle.hg_defs.proofs.SumLaws.{total-map, total-swap, total-add, total-same_each}
 use Rattle.move_core.specs.declared.account.Account.{Account}
 use Rattle.move_core.specs.declared.account.Stage.{Stage}
 use Rattle.move_core.specs.declared.account.Stage.TheVariants.{Idle, Refused, Granted, Moving}
@@ -14,7 +16,8 @@ use Rattle.move_core.specs.declared.events.Word.{Word}
 use Rattle.move_core.specs.declared.events.Word.TheVariants as word
 use Rattle.move_core.specs.State.{Setup, Readings, read, times, blank}
 use Rattle.move_core.specs.Events.{moved_vertices}
-use Rattle.move_core.specs.Balance.{InBalance, IsSetup, IsNamed, IsStageMove, renamed, named_at, stage_vertices, carried, raises, lowers, arrived, departed, reserved_weight, pins_carried}
+use Rattle.move_core.specs.Balance.{InBalance, IsSetup, IsNamed, IsStageMove, renamed, named_at, stage_vertices, carried}
+use Rattle.move_core.specs.Balance.{raises, lowers, arrived, departed, reserved_weight, pins_carried}
 use Rattle.move_core.proofs.TimesLaws.{All_at_times, total_at, total_changed, all_at, all_changed_others, times_at}
 use Rattle.move_core.proofs.HeldLaws.{held_alone, carried_once, carried_weight}
 use Rattle.move_core.proofs.NameLaws.{times-named_at}
@@ -26,7 +29,8 @@ use Rattle.move_table.proofs.PlaceLaws.{Exists}
 
 to-map : (P : ℕ → Type 0) (ms : List Move) → All (λ m. P m.vertex) ms → All P (map (λ m. m.vertex) ms)
 to-map P [] h = All-nil P
-to-map P (m ∷ ms) h = All-cons P m.vertex (map (λ (z : Move). z.vertex) ms) (All-head (λ (z : Move). P z.vertex) m ms h) (to-map P ms (All-tail (λ (z : Move). P z.vertex) m ms h))
+to-map P (m ∷ ms) h = All-cons P m.vertex (map (λ (z : Move). z.vertex) ms) (All-head (λ (z : Move). P z.vertex) m ms h)
+    (to-map P ms (All-tail (λ (z : Move). P z.vertex) m ms h))
 
 -- where a sum is positive, a part of it is
 some_part : (f : Account → ℕ) (xs : List Account) → 0 < total f xs → (k : ℕ) × (k < length xs) × ((d : Account) → 0 < f (get_or xs k d))
@@ -38,7 +42,8 @@ some_part f (x ∷ xs) h =
     ]
 
 -- the vertex that a stage has renamed has the name that it goes to
-stage_name : (g : Setup) (name : ℕ → ℕ) (stage : Stage) (v : ℕ) → IsNamed name stage → IsStageMove g stage → 0 < times v (named_at stage) → name v < g.blocks
+stage_name : (g : Setup) (name : ℕ → ℕ) (stage : Stage) (v : ℕ) → IsNamed name stage → IsStageMove g stage → 0 < times v (named_at stage) →
+    name v < g.blocks
 stage_name g name Idle v n m h = absurd (omega arith)
 stage_name g name (Refused u to seen) v n m h = absurd (omega arith)
 stage_name g name (Granted u from to seen) v n m h = absurd (omega arith)
@@ -64,7 +69,8 @@ module _ (g : Setup) (ok : IsSetup g) (r : Readings) (accounts : List Account) (
             let here = k.2 (blank false) in
             elim (cases_lt 0 (times v (moved_vertices a))) [
               | inl q ↦ All_at_times (λ u. r.name u < g.blocks) (moved_vertices a) v
-                  (to-map (λ u. r.name u < g.blocks) a.moves (λ j d o. subst (λ x. x < g.blocks) (sym (b.names.done k.0 (blank false) k.1 j d o)) (b.moves.done k.0 (blank false) k.1 j d o).block)) q
+                  (to-map (λ u. r.name u < g.blocks) a.moves (λ j d o. subst (λ x. x < g.blocks) (sym (b.names.done k.0 (blank false) k.1 j d o))
+                  (b.moves.done k.0 (blank false) k.1 j d o).block)) q
               | inr q ↦ stage_name g r.name a.stage v (b.names.stages k.0 (blank false) k.1) (b.moves.stages k.0 (blank false) k.1) (omega arith)
             ]
         | inr q ↦ subst (λ x. x < g.blocks) (sym (b.names.others v l (omega arith))) (opening_block v l)
@@ -115,7 +121,8 @@ module _ (g : Setup) (ok : IsSetup g) (r : Readings) (accounts : List Account) (
 
     -- ---- loads
 
-    departed-le : (c : ℕ) → total (λ x. departed g.graph c x.moves) accounts ≤ total (λ x. total (λ v. weight_if (block_of g.opening v) c (weight_of g.graph v)) (carried x)) accounts
+    departed-le : (c : ℕ) → total (λ x. departed g.graph c x.moves) accounts ≤ total
+        (λ x. total (λ v. weight_if (block_of g.opening v) c (weight_of g.graph v)) (carried x)) accounts
     departed-le c =
         total-le (λ x. departed g.graph c x.moves) (λ x. total (λ v. weight_if (block_of g.opening v) c (weight_of g.graph v)) (carried x)) accounts
         (λ k d q.
@@ -123,7 +130,8 @@ module _ (g : Setup) (ok : IsSetup g) (r : Readings) (accounts : List Account) (
         let f : ℕ → ℕ = λ v. weight_if (block_of g.opening v) c (weight_of g.graph v) in
         let e = total-append f (moved_vertices x) (stage_vertices x.stage) in
         let m = total-map f (λ (z : Move). z.vertex) x.moves in
-        let s = total-same (λ (z : Move). weight_if z.from c (weight_of g.graph z.vertex)) (λ z. f z.vertex) x.moves (λ j y p. ap (λ n. weight_if n c (weight_of g.graph (get_or x.moves j y).vertex)) (b.moves.done k d q j y p).origin) in
+        let s = total-same (λ (z : Move). weight_if z.from c (weight_of g.graph z.vertex)) (λ z. f z.vertex) x.moves
+        (λ j y p. ap (λ n. weight_if n c (weight_of g.graph (get_or x.moves j y).vertex)) (b.moves.done k d q j y p).origin) in
         omega arith)
 
     load_read : (c : ℕ) → c < g.blocks → arrived g.graph c a.moves ≤ r.load c
@@ -148,7 +156,8 @@ module _ (g : Setup) (ok : IsSetup g) (r : Readings) (accounts : List Account) (
         let pins = (net_of g.graph e).pins in
         let f : Move → ℕ → ℕ = λ m u. if nat_eq m.vertex u then (if nat_eq m.to c then 1 else 0) else 0 in
         let s = total-swap f a.moves pins in
-        let one = total-same_each (λ m. if nat_eq m.to c then times m.vertex pins else 0) (λ m. total (f m) pins) (λ m. each m.vertex (nat_eq m.to c) pins) a.moves in
+        let one = total-same_each (λ m. if nat_eq m.to c then times m.vertex pins else 0) (λ m. total (f m) pins) (λ m. each m.vertex (nat_eq m.to c) pins)
+        a.moves in
         let t = total-le (λ u. total (λ m. f m u) a.moves) (λ u. raises g.graph u e c a) pins (λ k d q. omega arith) in
         omega arith
       where
@@ -183,7 +192,8 @@ module _ (g : Setup) (ok : IsSetup g) (r : Readings) (accounts : List Account) (
           let y = total-le (lowers g.graph u e) (λ z. times u (carried z)) accounts (λ n z p. lowers-le g.graph u e (get_or accounts n z)) in
           let z = carried_once g r accounts b.claims b.moves u below in
           by (nat_eq (block_of g.opening u) c) (total (lowers g.graph u e) accounts) (omega arith)) in
-          let t = total-le (λ u. raises g.graph u e c a) (λ u. total (raises g.graph u e c) accounts) pins (λ j d o. total_at accounts i a a l at (raises g.graph (get_or pins j d) e c)) in
+          let t = total-le (λ u. raises g.graph u e c a) (λ u. total (raises g.graph u e c) accounts) pins
+          (λ j d o. total_at accounts i a a l at (raises g.graph (get_or pins j d) e c)) in
           let o = own_raises e c in
           omega arith;
       most = count_within g r accounts ok.graph b.claims b.moves b.counts e c k q;

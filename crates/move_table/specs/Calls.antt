@@ -1,5 +1,6 @@
 -- What contracts see of a round and of its passes, and what each call of a pass does.
-use Rattle.std.specs.Prelude.{◌≡◌, ℕ, ◌+◌, ◌*◌, ◌≤◌, ◌<◌, List, [], ◌∷◌, ◌++◌, map, length, take, slice_index, All, FitsSigned, ℤ, pos, ◌+ℤ◌, Option, Some, None, true, nat_eq, slice_index_or, if◌then◌else◌}
+use Rattle.std.specs.Prelude.{◌≡◌, ℕ, ◌+◌, ◌*◌, ◌≤◌, ◌<◌, List, [], ◌∷◌, ◌++◌, map, length, take, slice_index, All, FitsSigned, ℤ}
+use Rattle.std.specs.Prelude.{pos, ◌+ℤ◌, Option, Some, None, true, nat_eq, slice_index_or, if◌then◌else◌}
 use Rattle.std.specs.Int.{w64}
 use Rattle.hg_defs.specs.Sums.{total_z}
 use Rattle.hg_defs.specs.Hypergraph.{Hyper, vertex_count, net_count}
@@ -172,7 +173,18 @@ pub record IsMoveMade (g : Setup) (i : ℕ) (grant : Grant) (before after : View
   pub each : length finds ≡ length (nets_of g.graph grant.vertex)
   pub gains : gain ≡ booked_at_nets g (nets_of g.graph grant.vertex) finds
   pub leads : after ≡ acted (GiveBack i) given (passed_nets i finds (acted (Name i) grant.from (acted (Draw i) drawn before)))
-  pub account : after.account ≡ record before.account { stage = Idle; moves = before.account.moves ++ record { vertex = grant.vertex; from = grant.from; to = grant.to; worker = i; booked = gain } ∷ []; numbers = before.account.numbers ++ drawn ∷ []; gain = before.account.gain +ℤ gain }
+  pub account : after.account ≡ record before.account {
+    stage = Idle;
+    moves = before.account.moves ++ record {
+      vertex = grant.vertex;
+      from = grant.from;
+      to = grant.to;
+      worker = i;
+      booked = gain;
+    } ∷ [];
+    numbers = before.account.numbers ++ drawn ∷ [];
+    gain = before.account.gain +ℤ gain;
+  }
   pub least : before.steps + 3 + 2 * length (nets_of g.graph grant.vertex) ≤ after.steps
   pub most : after.steps ≤ before.steps + 3 + 4 * length (nets_of g.graph grant.vertex)
 

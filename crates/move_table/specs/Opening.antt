@@ -27,4 +27,5 @@ pub record IsNetFilled (blocks pins : List ℕ) (k : ℕ) (place : NetPlace) (wo
 -- those of the nets below a bound
 abbrev pub AreNetsFilled : Terms → ℕ → List ℕ → Type 0
 AreNetsFilled t nets words =
-    (e : ℕ) → e < nets → IsNetFilled t.part.blocks (net_of t.part.hyper e).pins t.part.k (record { start = net_place (terms_setup t) e; bits = net_bits t.part.hyper e }) words
+    (e : ℕ) → e < nets → IsNetFilled t.part.blocks (net_of t.part.hyper e).pins t.part.k
+    (record { start = net_place (terms_setup t) e; bits = net_bits t.part.hyper e }) words

@@ -5,7 +5,8 @@ use Rattle.hg_defs.specs.Hypergraph.{vertex_count, net_of, weight_of}
 use Rattle.hg_defs.specs.Partition.{block_of}
 use Rattle.move_core.specs.declared.account.Account.{Account}
 use Rattle.move_core.specs.declared.events.Event.{Event}
-use Rattle.move_core.specs.declared.events.Event.TheVariants.{Claim, Unclaim, Reserve, TakeBack, Draw, Name, Raise, Widen, Lower, Narrow, GiveBack, Seed, Peek, Split, Join}
+use Rattle.move_core.specs.declared.events.Event.TheVariants.{Claim, Unclaim, Reserve, TakeBack, Draw, Name, Raise, Widen, Lower}
+use Rattle.move_core.specs.declared.events.Event.TheVariants.{Narrow, GiveBack, Seed, Peek, Split, Join}
 use Rattle.move_core.specs.declared.events.Word.{Word}
 use Rattle.move_core.specs.declared.events.Word.TheVariants as word
 use Rattle.move_core.specs.State.{Setup, times}

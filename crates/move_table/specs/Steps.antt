@@ -7,7 +7,8 @@ use Rattle.pin_plain.specs.Counts.{net_bits}
 use Rattle.atomic_table.specs.Seated.{TableId}
 use Rattle.move_core.specs.declared.account.Account.{Account}
 use Rattle.move_core.specs.declared.events.Event.{Event}
-use Rattle.move_core.specs.declared.events.Event.TheVariants.{Claim, Unclaim, Reserve, TakeBack, Draw, Name, Raise, Widen, Lower, Narrow, GiveBack, Seed, Peek, Split, Join}
+use Rattle.move_core.specs.declared.events.Event.TheVariants.{Claim, Unclaim, Reserve, TakeBack, Draw, Name, Raise, Widen, Lower}
+use Rattle.move_core.specs.declared.events.Event.TheVariants.{Narrow, GiveBack, Seed, Peek, Split, Join}
 use Rattle.move_core.specs.State.{Setup}
 use Rattle.move_core.specs.Stages.{vertex_at, from_at, to_at, raised_at, lowered_at, is_idle}
 use Rattle.move_core.specs.Events.{pass_of, word_of, may_step, account_after, stage_net, joined_with}

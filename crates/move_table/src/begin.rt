@@ -49,7 +49,8 @@ pub(crate) struct Begun {
 fn begin(alloc: Global, hyper: &Hypergraph, terms: &Terms) -> Result<Begun, NoMemory>
     requires terms { IsTerms terms.now }
     requires belongs { hyper.now ≡ terms.now.part.hyper }
-    ensures round { IfOk result (λ b. IsRound hyper.now terms.now b.nets.items b.table.shared.table_id b.table.shared.key) }
+    ensures round { IfOk result (λ b. IsRound hyper.now terms.now b.nets.items b.table.shared.table_id
+        b.table.shared.key) }
     ensures passes { IfOk result (λ b. AreFresh b.table.shared.table_id terms.now b.passes) }
 {
     let layout = lay_out(alloc, hyper, terms)?;

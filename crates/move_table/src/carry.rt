@@ -92,10 +92,12 @@ pub(crate) fn carry_pins(
     requires table { seat.old.table_id ≡ round.now.table }
     requires mover { IsMover round.now.terms pass seat.old.me.0 }
     requires grant { IsGrantOf round.now.terms grant.now }
-    requires stage { seat.old.me.0.account.stage ≡ Moving grant.now.vertex grant.now.from grant.now.to number true 0 0 Nothing (pos 0) }
+    requires stage { seat.old.me.0.account.stage ≡ Moving grant.now.vertex grant.now.from grant.now.to number true 0 0
+        Nothing (pos 0) }
     requires fits { FitsSigned w64 seat.old.me.0.account.gain }
     ensures table { (seat.new.table_id ≡ seat.old.table_id) × (seat.new.me.1 ≡ seat.old.me.1) }
-    ensures passed { ArePassed (terms_setup round.now.terms) pass grant.now number (length (nets_of round.now.terms.part.hyper grant.now.vertex)) seat.old.me.0 seat.new.me.0 result }
+    ensures passed { ArePassed (terms_setup round.now.terms) pass grant.now number
+        (length (nets_of round.now.terms.part.hyper grant.now.vertex)) seat.old.me.0 seat.new.me.0 result }
 {
     let mut booked = 0i64;
     for e in round.hyper().nets_of(grant.vertex) {

@@ -1,13 +1,15 @@
 //! How a round is closed.
 
-ghost use Rattle.std.specs.Prelude.{◌≡◌, ◌≢◌, ℕ, ◌+◌, ◌<◌, ◌≤◌, length, map, drop, All, slice_index_or, IfOk, IfErr, OnOk, []};
+ghost use Rattle.std.specs.Prelude.{◌≡◌, ◌≢◌, ℕ, ◌+◌, ◌<◌, ◌≤◌, length, map, drop, All};
+ghost use Rattle.std.specs.Prelude.{slice_index_or, IfOk, IfErr, OnOk, []};
 ghost use Rattle.hg_defs.specs.Hypergraph.{vertex_count};
 ghost use Rattle.hg_defs.specs.Replay.{replay};
 ghost use Rattle.move_core.specs.declared.account.Stage.TheVariants.{Idle};
 ghost use Rattle.move_table.specs.declared.grant.Done.{Done};
 ghost use Rattle.move_table.specs.Steps.{IsResting};
 ghost use Rattle.move_table.specs.Calls.{RacedPass};
-ghost use Rattle.move_table.specs.Closing.{ArePassesOf, IsKeptPass, all_moves, all_numbers, all_gains, AreByNumber, united_all, IsEnded};
+ghost use Rattle.move_table.specs.Closing.{ArePassesOf, IsKeptPass, all_moves, all_numbers, all_gains};
+ghost use Rattle.move_table.specs.Closing.{AreByNumber, united_all, IsEnded};
 
 use crate::closed::Closed;
 use crate::grant::Done;
@@ -38,7 +40,8 @@ fn gather(alloc: Global, passes: &[Pass]) -> Result<Gathered, NoMemory>
     ensures numbers { IfOk result (λ g. map (λ d. d.number) g.done.items ≡ all_numbers passes.now) }
     ensures gains { IfOk result (λ g. g.gains.items ≡ all_gains passes.now) }
     ensures room { IfOk result (λ g. length g.moves.items ≡ length g.done.items) }
-    ensures kept { OnOk result ((i : ℕ) (p : RacedPass) → i < length passes.now → IsKeptPass (slice_index_or passes.now i p)) }
+    ensures kept { OnOk result ((i : ℕ) (p : RacedPass) → i < length passes.now →
+        IsKeptPass (slice_index_or passes.now i p)) }
 {
     let mut done = Vec::new(alloc);
     let mut gains = Vec::with_capacity(alloc, passes.len())?;
@@ -60,8 +63,10 @@ fn gather(alloc: Global, passes: &[Pass]) -> Result<Gathered, NoMemory>
 /// Lays the moves out by their numbers.
 fn lay_moves(done: &[Done], moves: &mut [Move])
     requires room { length moves.old ≡ length done.now }
-    requires below { (k : ℕ) (d : Done) → k < length done.now → (slice_index_or done.now k d).number < length done.now }
-    requires apart { (j k : ℕ) (d : Done) → j < length done.now → k < length done.now → j ≢ k → (slice_index_or done.now j d).number ≢ (slice_index_or done.now k d).number }
+    requires below { (k : ℕ) (d : Done) → k < length done.now → (slice_index_or done.now k d).number < length
+        done.now }
+    requires apart { (j k : ℕ) (d : Done) → j < length done.now → k < length done.now → j ≢ k →
+        (slice_index_or done.now j d).number ≢ (slice_index_or done.now k d).number }
     ensures { AreByNumber (map (λ d. d.number) done.now) (map (λ d. d.action) done.now) moves.new }
 {
     for step in done {
@@ -85,9 +90,11 @@ fn make_moves(part: &mut Partition, hyper: &Hypergraph, moves: &[Move])
 fn unite(words: &Words, passes: Passes) -> Place
     requires some { 0 < length passes }
     requires wide { 0 < words.now.table_id.words }
-    requires table { (i : ℕ) (p : RacedPass) → i < length passes → (slice_index_or passes i p).table ≡ words.now.table_id }
+    requires table { (i : ℕ) (p : RacedPass) → i < length passes → (slice_index_or passes i p).table ≡
+        words.now.table_id }
     requires numbers { (i : ℕ) (p : RacedPass) → i < length passes → (slice_index_or passes i p).view.number ≡ i }
-    requires idle { (i : ℕ) (p : RacedPass) → i < length passes → (slice_index_or passes i p).view.account.stage ≡ Idle }
+    requires idle { (i : ℕ) (p : RacedPass) → i < length passes → (slice_index_or passes i p).view.account.stage ≡
+        Idle }
     ensures table { result.table_id ≡ words.now.table_id }
     ensures view { (p : RacedPass) → result.me ≡ (united_all (slice_index_or passes 0 p).view (drop 1 passes), []) }
     ensures resting { IsResting result.me.0 }
@@ -106,9 +113,11 @@ fn end_words(table: Table<(), View, Terms, Balanced, Global>, passes: Passes)
     requires some { 0 < length passes }
     requires wide { 0 < table.shared.table_id.words }
     requires bare { table.shared.table_id.slots ≡ 0 }
-    requires table { (i : ℕ) (p : RacedPass) → i < length passes → (slice_index_or passes i p).table ≡ table.shared.table_id }
+    requires table { (i : ℕ) (p : RacedPass) → i < length passes → (slice_index_or passes i p).table ≡
+        table.shared.table_id }
     requires numbers { (i : ℕ) (p : RacedPass) → i < length passes → (slice_index_or passes i p).view.number ≡ i }
-    requires idle { (i : ℕ) (p : RacedPass) → i < length passes → (slice_index_or passes i p).view.account.stage ≡ Idle }
+    requires idle { (i : ℕ) (p : RacedPass) → i < length passes → (slice_index_or passes i p).view.account.stage ≡
+        Idle }
     ensures { IsEnded table.shared.key passes }
 {
     let seat = unite(&table.shared, passes);

@@ -26,7 +26,12 @@ impl Model for Closed {
 
     ghost view = { λ c. record { opening = c.opening.value.blocks; part = c.part; moves = c.moves; gains = c.gains } };
 
-    ghost invariant = { λ c. IsRacedEnd (record { opening = c.opening.value.blocks; part = c.part; moves = c.moves; gains = c.gains }) };
+    ghost invariant = { λ c. IsRacedEnd (record {
+      opening = c.opening.value.blocks;
+      part = c.part;
+      moves = c.moves;
+      gains = c.gains;
+    }) };
 }
 
 impl Closed {

@@ -1,6 +1,7 @@
 //! How a round is opened: where its words stand, what they hold, and its passes.
 
-ghost use Rattle.std.specs.Prelude.{◌≡◌, ◌≢◌, ◌⊎◌, ℕ, ◌+◌, ◌-◌, ◌*◌, ◌/◌, ◌%◌, ◌^◌, ◌<◌, ◌≤◌, length, All, slice_index, IfOk, replicate, nat_eq, if◌then◌else◌};
+ghost use Rattle.std.specs.Prelude.{◌≡◌, ◌≢◌, ◌⊎◌, ℕ, ◌+◌, ◌-◌, ◌*◌, ◌/◌, ◌%◌, ◌^◌, ◌<◌, ◌≤◌, length, All};
+ghost use Rattle.std.specs.Prelude.{slice_index, IfOk, replicate, nat_eq, if◌then◌else◌};
 ghost use Rattle.hg_defs.specs.Hypergraph.{net_count, vertex_count};
 ghost use Rattle.hg_defs.specs.Partition.{block_of, load};
 ghost use Rattle.hg_defs.specs.Pins.{pins_in};
@@ -59,7 +60,8 @@ fn write_names(words: &mut [u64], at: usize, blocks: &[u32])
 /// Writes the loads of the blocks, which begin at a place.
 fn write_loads(words: &mut [u64], at: usize, terms: &Terms)
     requires { at + terms.now.part.k ≤ length words.old }
-    ensures written { (b : ℕ) → b < terms.now.part.k → slice_index words.new (at + b) ≡ load terms.now.part.hyper terms.now.part.blocks b }
+    ensures written { (b : ℕ) → b < terms.now.part.k → slice_index words.new (at + b) ≡ load terms.now.part.hyper
+        terms.now.part.blocks b }
     ensures others { SameOutside at (at + terms.now.part.k) words.old words.new }
 {
     for b in 0..terms.part.k() {
@@ -81,7 +83,8 @@ fn count_pin(words: &mut [u64], place: NetPlace, b: u32)
     requires room { count_at words.old (place.start + 1) place.bits b + 1 < 2 ^ place.bits }
     requires few { slice_index words.old place.start + 1 < 2 ^ 64 }
     ensures counted { IsPinCounted place b words.old words.new }
-    ensures others { (i : ℕ) → i ≢ place.start → i ≢ place.start + 1 + b / fields_of place.bits → slice_index words.new i ≡ slice_index words.old i }
+    ensures others { (i : ℕ) → i ≢ place.start → i ≢ place.start + 1 + b / fields_of place.bits →
+        slice_index words.new i ≡ slice_index words.old i }
 {
     let (word, at) = split(place.bits, b);
     let i = place.start as usize + 1 + word as usize;
@@ -141,7 +144,8 @@ pub(crate) fn fill(
     requires nets { HasNetPlaces (terms_setup terms.now) layout.now.nets.items }
     requires words { layout.now.words ≡ word_count (terms_setup terms.now) }
     ensures wide { IfOk result (λ words. length words.items ≡ word_count (terms_setup terms.now)) }
-    ensures opening { IfOk result (λ words. IsOpening (terms_setup terms.now) (table_readings (terms_setup terms.now) words.items)) }
+    ensures opening { IfOk result (λ words. IsOpening (terms_setup terms.now)
+        (table_readings (terms_setup terms.now) words.items)) }
 {
     let n = hyper.vertices() as usize;
     let mut words = vec![in alloc; 0u64; layout.words as usize]?;

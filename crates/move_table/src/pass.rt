@@ -1,7 +1,8 @@
 //! A pass: what one worker of a round does. Each call is the atomic steps of certain events; none
 //! waits for another pass, and none tries again.
 
-ghost use Rattle.std.specs.Prelude.{◌≡◌, ◌≢◌, ℕ, ◌+◌, ◌-◌, ◌*◌, ◌^◌, ◌<◌, ◌≤◌, ◌↔◌, ℤ, pos, ◌-ℤ◌, IfOk, IfErr, OnOk, OnErr, IsTrue, true, false, [], ◌∷◌, ◌++◌, vec_len, map};
+ghost use Rattle.std.specs.Prelude.{◌≡◌, ◌≢◌, ℕ, ◌+◌, ◌-◌, ◌*◌, ◌^◌, ◌<◌, ◌≤◌, ◌↔◌, ℤ, pos, ◌-ℤ◌, IfOk, IfErr, OnOk};
+ghost use Rattle.std.specs.Prelude.{OnErr, IsTrue, true, false, [], ◌∷◌, ◌++◌, vec_len, map};
 ghost use Rattle.std.specs.Vec.{vec_capacity};
 ghost use Rattle.hg_defs.specs.Hypergraph.{vertex_count, net_count, weight_of, IsFree};
 ghost use Rattle.hg_defs.specs.Partition.{block_of};
@@ -48,7 +49,12 @@ impl Model for Pass {
 
     ghost Value = { RacedPass };
 
-    ghost view = { λ p. record { table = p.seat.table_id; view = p.seat.me.0; spare = vec_capacity p.done - length p.done.items } };
+    ghost view = { λ p. record {
+      table = p.seat.table_id;
+      view = p.seat.me.0;
+      spare = vec_capacity p.done - length
+          p.done.items;
+    } };
 
     ghost invariant = { λ p. IsPass p.number p.grant p.done.items p.gain p.seat.me };
 }
@@ -183,12 +189,17 @@ impl Pass {
         requires holds { IsHeldUnmoved self.old.view.account v }
         requires block { to < round.now.terms.part.k }
         requires other { to ≢ block_of round.now.terms.part.blocks v }
-        ensures step { IfOk result (λ grant. self.new ≡ stepped (Reserve self.old.view.number v to) grant.seen self.old) }
-        ensures granted { IfOk result (λ grant. grant ≡ record { vertex = v; from = block_of round.now.terms.part.blocks v; to = to; seen = grant.seen }) }
+        ensures step { IfOk result (λ grant. self.new ≡ stepped (Reserve self.old.view.number v to) grant.seen
+            self.old) }
+        ensures granted { IfOk result (λ grant.
+            grant ≡ record { vertex = v; from = block_of round.now.terms.part.blocks v; to = to; seen = grant.seen }) }
         ensures held { IfOk result (λ grant. self.new.view.account.stage ≡ granted grant) }
-        ensures room { IfOk result (λ grant. grant.seen + weight_of round.now.terms.part.hyper v ≤ round.now.terms.part.limit) }
-        ensures steps { IfErr result (λ full. self.new ≡ stepped (TakeBack self.old.view.number) 0 (stepped (Reserve self.old.view.number v to) full.seen self.old)) }
-        ensures cause { IfErr result (λ full. round.now.terms.part.limit < full.seen + weight_of round.now.terms.part.hyper v) }
+        ensures room { IfOk result (λ grant. grant.seen + weight_of round.now.terms.part.hyper v ≤
+            round.now.terms.part.limit) }
+        ensures steps { IfErr result (λ full. self.new ≡ stepped (TakeBack self.old.view.number) 0
+            (stepped (Reserve self.old.view.number v to) full.seen self.old)) }
+        ensures cause { IfErr result (λ full. round.now.terms.part.limit < full.seen + weight_of
+            round.now.terms.part.hyper v) }
         ensures kept { OnErr result (self.new.view.account ≡ self.old.view.account) }
     {
         let number = self.number;
@@ -250,8 +261,11 @@ impl Pass {
         requires held { self.old.view.account.stage ≡ granted grant }
         requires room { 1 ≤ self.old.spare }
         ensures table { self.new.table ≡ self.old.table }
-        ensures moved { IsMoveMade (terms_setup round.now.terms) self.old.view.number grant self.old.view self.new.view result }
-        ensures alone { (self.new.view.stands ≡ self.old.view.stands) × (self.new.view.terms ≡ self.old.view.terms) × (self.new.view.number ≡ self.old.view.number) }
+        ensures moved { IsMoveMade (terms_setup round.now.terms) self.old.view.number grant self.old.view
+            self.new.view
+            result }
+        ensures alone { (self.new.view.stands ≡ self.old.view.stands) × (self.new.view.terms ≡ self.old.view.terms) ×
+            (self.new.view.number ≡ self.old.view.number) }
         ensures idle { self.new.view.account.stage ≡ Idle }
         ensures spare { self.old.spare ≤ self.new.spare + 1 }
     {
@@ -356,8 +370,11 @@ impl Pass {
         requires belongs { IsPassOf round.now self.old }
         requires net { e < net_count round.now.terms.part.hyper }
         requires index { index * fields_of (net_bits round.now.terms.part.hyper e) < round.now.terms.part.k }
-        ensures step { let bits = net_bits round.now.terms.part.hyper e in self.new ≡ stepped (Peek self.old.view.number (word.Count e (index * fields_of bits))) (field result bits 0) self.old }
-        ensures read { let bits = net_bits round.now.terms.part.hyper e in IsCountRead (terms_setup round.now.terms) self.old.view.account e (index * fields_of bits) (field result bits 0) }
+        ensures step { let bits = net_bits round.now.terms.part.hyper e in
+            self.new ≡ stepped (Peek self.old.view.number (word.Count e (index * fields_of bits)))
+            (field result bits 0) self.old }
+        ensures read { let bits = net_bits round.now.terms.part.hyper e in IsCountRead (terms_setup round.now.terms)
+            self.old.view.account e (index * fields_of bits) (field result bits 0) }
     {
         let number = self.number;
         let words = round.shared();

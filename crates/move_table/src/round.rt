@@ -6,7 +6,8 @@ ghost use Rattle.hg_defs.specs.Hypergraph.{vertex_count, net_count};
 ghost use Rattle.hg_defs.specs.Partition.{block_of};
 ghost use Rattle.hg_base.specs.Packed.{IsWidth, fields_of};
 ghost use Rattle.pin_plain.specs.Counts.{net_bits, net_words};
-ghost use Rattle.move_table.specs.Places.{next_place, cursor_place, name_place, load_place, net_place, counts_place, field_place, word_count};
+ghost use Rattle.move_table.specs.Places.{next_place, cursor_place, name_place, load_place, net_place};
+ghost use Rattle.move_table.specs.Places.{counts_place, field_place, word_count};
 ghost use Rattle.move_table.specs.Standing.{terms_setup, IsTerms};
 
 use crate::place::{CountPlace, NetPlace, split};
@@ -41,7 +42,8 @@ impl<'h> Model for Round<'h> {
 impl<'h> Round<'h> {
     /// How many words the table of the round has.
     pub fn words(&self) -> u64
-        ensures { let h = self.now.terms.part.hyper in let k = self.now.terms.part.k in result ≡ 2 * vertex_count h + k + 2 + net_count h + sum_below (net_words h k) (net_count h) }
+        ensures { let h = self.now.terms.part.hyper in let k = self.now.terms.part.k in result ≡ 2 * vertex_count h +
+            k + 2 + net_count h + sum_below (net_words h k) (net_count h) }
     {
         self.table.word_count() as u64
     }

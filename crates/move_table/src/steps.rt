@@ -6,7 +6,8 @@ ghost use Rattle.move_core.specs.Events.{word_of, write_of};
 ghost use Rattle.move_table.specs.Places.{number_in};
 ghost use Rattle.move_table.specs.Standing.{terms_setup, AllStanding};
 ghost use Rattle.move_table.specs.Seen.{IsKnownFound};
-ghost use Rattle.move_table.specs.Steps.{IsReady, acted, step_amount, is_added, is_subtracted, is_stored, is_swapped, is_loaded, overwritten, IsResting, parted_view, made_view, united_view};
+ghost use Rattle.move_table.specs.Steps.{IsReady, acted, step_amount, is_added, is_subtracted, is_stored, is_swapped};
+ghost use Rattle.move_table.specs.Steps.{is_loaded, overwritten, IsResting, parted_view, made_view, united_view};
 
 use crate::deed::{Deed, Does, Makes, TakesOver};
 use crate::rule::Balanced;
@@ -23,7 +24,8 @@ pub(crate) type Place = Seat<(), View>;
 
 fn load_as<D: Deed>(words: &Words, seat: &mut Place, event: Event, word: usize) -> u64
     requires table { (seat.old.table_id ≡ words.now.table_id) × (word < words.now.table_id.words) }
-    requires step { Allows (AllStanding words.now.key) words.now.table_id.slots seat.old.id seat.old.me word (λ n. n) (λ found after. (after ≡ (D.after found seat.old.me.0, seat.old.me.1)) × D.told seat.old.me.0 found) }
+    requires step { Allows (AllStanding words.now.key) words.now.table_id.slots seat.old.id seat.old.me word (λ n. n)
+        (λ found after. (after ≡ (D.after found seat.old.me.0, seat.old.me.1)) × D.told seat.old.me.0 found) }
     ensures table { seat.new.table_id ≡ seat.old.table_id }
     ensures view { seat.new.me ≡ (D.after result seat.old.me.0, seat.old.me.1) }
     ensures told { D.told seat.old.me.0 result }
@@ -38,15 +40,19 @@ pub(crate) fn load(words: &Words, seat: &mut Place, event: Event, word: usize) -
     requires ready { IsReady words.now.table_id words.now.key seat.old.me.0 event word }
     requires step { is_loaded event ≡ true }
     ensures table { seat.new.table_id ≡ seat.old.table_id }
-    ensures view { let v = seat.old.me.0 in let g = terms_setup v.terms in seat.new.me ≡ (acted event (number_in g (word_of g event v.account) result) v, seat.old.me.1) }
-    ensures told { let v = seat.old.me.0 in let g = terms_setup v.terms in IsKnownFound g event v.account (number_in g (word_of g event v.account) result) }
+    ensures view { let v = seat.old.me.0 in let g = terms_setup v.terms in
+        seat.new.me ≡ (acted event (number_in g (word_of g event v.account) result) v, seat.old.me.1) }
+    ensures told { let v = seat.old.me.0 in let g = terms_setup v.terms in IsKnownFound g event v.account
+        (number_in g (word_of g event v.account) result) }
 {
     load_as::<Brand>(words, seat, event, word)
 }
 
 fn store_as<D: Deed>(words: &Words, seat: &mut Place, event: Event, word: usize, new: u64)
     requires table { (seat.old.table_id ≡ words.now.table_id) × (word < words.now.table_id.words) }
-    requires step { Allows (AllStanding words.now.key) words.now.table_id.slots seat.old.id seat.old.me word (λ _. new) (λ _ after. (after ≡ (D.after new seat.old.me.0, seat.old.me.1)) × D.told seat.old.me.0 new) }
+    requires step { Allows (AllStanding words.now.key) words.now.table_id.slots seat.old.id seat.old.me word
+        (λ _. new)
+        (λ _ after. (after ≡ (D.after new seat.old.me.0, seat.old.me.1)) × D.told seat.old.me.0 new) }
     ensures table { seat.new.table_id ≡ seat.old.table_id }
     ensures view { seat.new.me ≡ (D.after new seat.old.me.0, seat.old.me.1) }
     ensures told { D.told seat.old.me.0 new }
@@ -62,15 +68,19 @@ pub(crate) fn store(words: &Words, seat: &mut Place, event: Event, word: usize, 
     requires step { is_stored event ≡ true }
     requires value { let v = seat.old.me.0 in new ≡ write_of (terms_setup v.terms) event v.account 0 }
     ensures table { seat.new.table_id ≡ seat.old.table_id }
-    ensures view { let v = seat.old.me.0 in let g = terms_setup v.terms in seat.new.me ≡ (acted event (overwritten g event v.account) v, seat.old.me.1) }
-    ensures told { let v = seat.old.me.0 in let g = terms_setup v.terms in IsKnownFound g event v.account (overwritten g event v.account) }
+    ensures view { let v = seat.old.me.0 in let g = terms_setup v.terms in
+        seat.new.me ≡ (acted event (overwritten g event v.account) v, seat.old.me.1) }
+    ensures told { let v = seat.old.me.0 in let g = terms_setup v.terms in IsKnownFound g event v.account
+        (overwritten g event v.account) }
 {
     store_as::<Brand>(words, seat, event, word, new);
 }
 
 fn swap_as<D: Deed>(words: &Words, seat: &mut Place, event: Event, word: usize, new: u64) -> u64
     requires table { (seat.old.table_id ≡ words.now.table_id) × (word < words.now.table_id.words) }
-    requires step { Allows (AllStanding words.now.key) words.now.table_id.slots seat.old.id seat.old.me word (λ _. new) (λ found after. (after ≡ (D.after found seat.old.me.0, seat.old.me.1)) × D.told seat.old.me.0 found) }
+    requires step { Allows (AllStanding words.now.key) words.now.table_id.slots seat.old.id seat.old.me word
+        (λ _. new)
+        (λ found after. (after ≡ (D.after found seat.old.me.0, seat.old.me.1)) × D.told seat.old.me.0 found) }
     ensures table { seat.new.table_id ≡ seat.old.table_id }
     ensures view { seat.new.me ≡ (D.after result seat.old.me.0, seat.old.me.1) }
     ensures told { D.told seat.old.me.0 result }
@@ -86,15 +96,19 @@ pub(crate) fn swap(words: &Words, seat: &mut Place, event: Event, word: usize, n
     requires step { is_swapped event ≡ true }
     requires value { new ≡ 1 }
     ensures table { seat.new.table_id ≡ seat.old.table_id }
-    ensures view { let v = seat.old.me.0 in let g = terms_setup v.terms in seat.new.me ≡ (acted event (number_in g (word_of g event v.account) result) v, seat.old.me.1) }
-    ensures told { let v = seat.old.me.0 in let g = terms_setup v.terms in IsKnownFound g event v.account (number_in g (word_of g event v.account) result) }
+    ensures view { let v = seat.old.me.0 in let g = terms_setup v.terms in
+        seat.new.me ≡ (acted event (number_in g (word_of g event v.account) result) v, seat.old.me.1) }
+    ensures told { let v = seat.old.me.0 in let g = terms_setup v.terms in IsKnownFound g event v.account
+        (number_in g (word_of g event v.account) result) }
 {
     swap_as::<Brand>(words, seat, event, word, new)
 }
 
 fn add_as<D: Deed>(words: &Words, seat: &mut Place, event: Event, word: usize, amount: u64) -> u64
     requires table { (seat.old.table_id ≡ words.now.table_id) × (word < words.now.table_id.words) }
-    requires step { Allows (AllStanding words.now.key) words.now.table_id.slots seat.old.id seat.old.me word (λ n. (n + amount) % 2 ^ 64) (λ found after. (after ≡ (D.after found seat.old.me.0, seat.old.me.1)) × D.told seat.old.me.0 found) }
+    requires step { Allows (AllStanding words.now.key) words.now.table_id.slots seat.old.id seat.old.me word
+        (λ n. (n + amount) % 2 ^ 64) (λ found after. (after ≡ (D.after found seat.old.me.0, seat.old.me.1)) × D.told
+        seat.old.me.0 found) }
     ensures table { seat.new.table_id ≡ seat.old.table_id }
     ensures view { seat.new.me ≡ (D.after result seat.old.me.0, seat.old.me.1) }
     ensures told { D.told seat.old.me.0 result }
@@ -110,8 +124,10 @@ pub(crate) fn add(words: &Words, seat: &mut Place, event: Event, word: usize, am
     requires step { is_added event ≡ true }
     requires amount { let v = seat.old.me.0 in amount ≡ step_amount (terms_setup v.terms) event v.account }
     ensures table { seat.new.table_id ≡ seat.old.table_id }
-    ensures view { let v = seat.old.me.0 in let g = terms_setup v.terms in seat.new.me ≡ (acted event (number_in g (word_of g event v.account) result) v, seat.old.me.1) }
-    ensures told { let v = seat.old.me.0 in let g = terms_setup v.terms in IsKnownFound g event v.account (number_in g (word_of g event v.account) result) }
+    ensures view { let v = seat.old.me.0 in let g = terms_setup v.terms in
+        seat.new.me ≡ (acted event (number_in g (word_of g event v.account) result) v, seat.old.me.1) }
+    ensures told { let v = seat.old.me.0 in let g = terms_setup v.terms in IsKnownFound g event v.account
+        (number_in g (word_of g event v.account) result) }
 {
     add_as::<Brand>(words, seat, event, word, amount)
 }
@@ -124,7 +140,9 @@ fn subtract_as<D: Deed>(
     amount: u64,
 ) -> u64
     requires table { (seat.old.table_id ≡ words.now.table_id) × (word < words.now.table_id.words) }
-    requires step { Allows (AllStanding words.now.key) words.now.table_id.slots seat.old.id seat.old.me word (λ n. (n + (2 ^ 64 - amount)) % 2 ^ 64) (λ found after. (after ≡ (D.after found seat.old.me.0, seat.old.me.1)) × D.told seat.old.me.0 found) }
+    requires step { Allows (AllStanding words.now.key) words.now.table_id.slots seat.old.id seat.old.me word
+        (λ n. (n + (2 ^ 64 - amount)) % 2 ^ 64)
+        (λ found after. (after ≡ (D.after found seat.old.me.0, seat.old.me.1)) × D.told seat.old.me.0 found) }
     ensures table { seat.new.table_id ≡ seat.old.table_id }
     ensures view { seat.new.me ≡ (D.after result seat.old.me.0, seat.old.me.1) }
     ensures told { D.told seat.old.me.0 result }
@@ -146,8 +164,10 @@ pub(crate) fn subtract(
     requires step { is_subtracted event ≡ true }
     requires amount { let v = seat.old.me.0 in amount ≡ step_amount (terms_setup v.terms) event v.account }
     ensures table { seat.new.table_id ≡ seat.old.table_id }
-    ensures view { let v = seat.old.me.0 in let g = terms_setup v.terms in seat.new.me ≡ (acted event (number_in g (word_of g event v.account) result) v, seat.old.me.1) }
-    ensures told { let v = seat.old.me.0 in let g = terms_setup v.terms in IsKnownFound g event v.account (number_in g (word_of g event v.account) result) }
+    ensures view { let v = seat.old.me.0 in let g = terms_setup v.terms in
+        seat.new.me ≡ (acted event (number_in g (word_of g event v.account) result) v, seat.old.me.1) }
+    ensures told { let v = seat.old.me.0 in let g = terms_setup v.terms in IsKnownFound g event v.account
+        (number_in g (word_of g event v.account) result) }
 {
     subtract_as::<Brand>(words, seat, event, word, amount)
 }
@@ -167,7 +187,8 @@ pub(crate) fn split(words: &Words, seat: &mut Place) -> Place
 
 /// Takes another pass over, which ends: one event.
 pub(crate) fn join(words: &Words, seat: &mut Place, other: Place)
-    requires table { (seat.old.table_id ≡ words.now.table_id) × (other.table_id ≡ words.now.table_id) × (0 < words.now.table_id.words) }
+    requires table { (seat.old.table_id ≡ words.now.table_id) × (other.table_id ≡ words.now.table_id) ×
+        (0 < words.now.table_id.words) }
     requires empty { other.me.1 ≡ [] }
     requires first { seat.old.me.0.number ≡ 0 }
     requires resting { IsResting seat.old.me.0 × IsResting other.me.0 }

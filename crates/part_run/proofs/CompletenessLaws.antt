@@ -12,12 +12,16 @@ use Rattle.hmetis_read.specs.declared.fault.What.{What}
 use Rattle.hmetis_read.specs.declared.fault.What.TheVariants as what
 use Rattle.part_text.specs.Entries.{Fault, spelled_part, spelled_fixes}
 use Rattle.part_run.specs.declared.status.Status.{Status}
-use Rattle.part_run.specs.declared.status.Status.TheVariants.{Done, Usage, Malformed, TooLarge, Unplaced, ReadFault, WriteFault, NoMemory, BadPartition, BadFix}
+use Rattle.part_run.specs.declared.status.Status.TheVariants.{Done, Usage, Malformed, TooLarge, Unplaced, ReadFault}
+use Rattle.part_run.specs.declared.status.Status.TheVariants.{WriteFault, NoMemory, BadPartition, BadFix}
 use Rattle.part_run.specs.declared.ended.Outcome.{Outcome}
 use Rattle.part_run.specs.declared.ended.Ended.{Ended}
 use Rattle.part_run.specs.Wanted.{Command, Partition, Evaluate, Generate, Partitioning, Evaluation}
-use Rattle.part_run.specs.Reads.{Feed, most_bytes, WasRead, Spells, GivesTooMuch, PassesLimit, IsTooMany, IsSuited, IsGraphRefusal, IsFixRefusal, IsPartRefusal, IsExtraTooLarge, IsFixed, with_objective}
-use Rattle.part_run.specs.Answers.{Inputs, Outputs, IsEnd, IsPartitionEnd, IsEvaluationEnd, IsGenerationEnd, IsPartitionRefused, IsEvaluationRefused, IsGenerationRefused, IsGenerationRefusal, IsGraphRefused, IsInputRefused, IsPlaceRefused, IsWriteRefused, IsAccepted, IsFixRefused, IsPlaceRefusal, IsPartRefused, IsWriteRefusal, limit_for}
+use Rattle.part_run.specs.Reads.{Feed, most_bytes, WasRead, Spells, GivesTooMuch, PassesLimit, IsTooMany, IsSuited, IsGraphRefusal}
+use Rattle.part_run.specs.Reads.{IsFixRefusal, IsPartRefusal, IsExtraTooLarge, IsFixed, with_objective}
+use Rattle.part_run.specs.Answers.{Inputs, Outputs, IsEnd, IsPartitionEnd, IsEvaluationEnd, IsGenerationEnd, IsPartitionRefused, IsEvaluationRefused}
+use Rattle.part_run.specs.Answers.{IsGenerationRefused, IsGenerationRefusal, IsGraphRefused, IsInputRefused, IsPlaceRefused, IsWriteRefused}
+use Rattle.part_run.specs.Answers.{IsAccepted, IsFixRefused, IsPlaceRefusal, IsPartRefused, IsWriteRefusal, limit_for}
 use Rattle.part_run.specs.Completeness.{AreFaultless, Gives, GivesFixes, IsPartitionable, IsEvaluable, IsServed, RunsComeToTheirEnd}
 
 -- what was read to its end is what the source told
@@ -63,48 +67,54 @@ one_answer r a b first second = cc
 module _ {A E : Type 0} (reads : List ℕ → Result A E) (old new : Feed) (a : A) (g : Gives old (λ bytes. reads bytes ≡ Ok a)) where
   spells_same : (b : A) → Spells old new (λ bytes. reads bytes ≡ Ok b) → b ≡ a
   spells_same b told =
-      one_answer (reads g.bytes) b a (subst (λ (bytes : List ℕ). reads bytes ≡ Ok b) (read_same old new (λ bytes. reads bytes ≡ Ok a) g told.bytes told.read) told.spelled) g.spelled
+      one_answer (reads g.bytes) b a (subst (λ (bytes : List ℕ). reads bytes ≡ Ok b) (read_same old new (λ bytes. reads bytes ≡ Ok a) g told.bytes
+      told.read)
+      told.spelled) g.spelled
 
   spells_no_fault : (e : E) → Spells old new (λ bytes. reads bytes ≡ Err e) → ⊥
   spells_no_fault e told =
-      no_fault (reads g.bytes) a e g.spelled (subst (λ (bytes : List ℕ). reads bytes ≡ Err e) (read_same old new (λ bytes. reads bytes ≡ Ok a) g told.bytes told.read) told.spelled)
+      no_fault (reads g.bytes) a e g.spelled (subst (λ (bytes : List ℕ). reads bytes ≡ Err e) (read_same old new (λ bytes. reads bytes ≡ Ok a) g told.bytes
+      told.read) told.spelled)
 
   gives_few : GivesTooMuch old new → ⊥
   gives_few more = not_too_much old new (λ bytes. reads bytes ≡ Ok a) g more
 
 -- the graph
-module _ (k : ℕ) (old new : Feed) (h : Hyper) (g : Gives old (λ bytes. graph bytes ≡ Ok h)) (suits : Suits h k) (faultless : Rose old.faults new.faults → ⊥) where
-  few_counts : IsTooMany k old new → ⊥
-  few_counts many =
-      let same = spells_same graph old new h g many.hypergraph many.graph in
-      let past = many.many in
-      let bound : (vertex_count many.hypergraph + net_count many.hypergraph) * k ≤ 2 ^ 26 = subst (λ (x : Hyper). Suits x k) (sym same) suits in
-      absurd (omega arith)
+module _ (k : ℕ) (old new : Feed) (h : Hyper) (g : Gives old (λ bytes. graph bytes ≡ Ok h)) (suits : Suits h k) (faultless : Rose old.faults new.faults → ⊥)
+  where
+    few_counts : IsTooMany k old new → ⊥
+    few_counts many =
+        let same = spells_same graph old new h g many.hypergraph many.graph in
+        let past = many.many in
+        let bound : (vertex_count many.hypergraph + net_count many.hypergraph) * k ≤ 2 ^ 26 = subst (λ (x : Hyper). Suits x k) (sym same) suits in
+        absurd (omega arith)
 
-  within_limits : (line : ℕ) (w : What) → PassesLimit k old new line w → ⊥
-  within_limits line what.Bytes past = gives_few graph old new h g past.1
-  within_limits line what.Nets past = past
-  within_limits line what.Vertices past = past
-  within_limits line what.Pins past = past
-  within_limits line what.Words past = few_counts past.1
-  within_limits line what.ExtraBytes past = past
+    within_limits : (line : ℕ) (w : What) → PassesLimit k old new line w → ⊥
+    within_limits line what.Bytes past = gives_few graph old new h g past.1
+    within_limits line what.Nets past = past
+    within_limits line what.Vertices past = past
+    within_limits line what.Pins past = past
+    within_limits line what.Words past = few_counts past.1
+    within_limits line what.ExtraBytes past = past
 
-  graph_taken : (s : Status) → IsGraphRefusal k old new s → s ≡ NoMemory
-  graph_taken Done cause = absurd cause
-  graph_taken Usage cause = absurd cause
-  graph_taken (Malformed line kind) cause = absurd (spells_no_fault graph old new h g _ cause)
-  graph_taken (TooLarge line w) (inl past) = absurd (within_limits line w past)
-  graph_taken (TooLarge line w) (inr told) = absurd (spells_no_fault graph old new h g _ told)
-  graph_taken (Unplaced v) cause = absurd cause
-  graph_taken ReadFault cause = absurd (faultless cause.fault)
-  graph_taken WriteFault cause = absurd cause
-  graph_taken NoMemory cause = refl
-  graph_taken (BadPartition line kind) cause = absurd cause
-  graph_taken (BadFix line kind) cause = absurd cause
+    graph_taken : (s : Status) → IsGraphRefusal k old new s → s ≡ NoMemory
+    graph_taken Done cause = absurd cause
+    graph_taken Usage cause = absurd cause
+    graph_taken (Malformed line kind) cause = absurd (spells_no_fault graph old new h g _ cause)
+    graph_taken (TooLarge line w) (inl past) = absurd (within_limits line w past)
+    graph_taken (TooLarge line w) (inr told) = absurd (spells_no_fault graph old new h g _ told)
+    graph_taken (Unplaced v) cause = absurd cause
+    graph_taken ReadFault cause = absurd (faultless cause.fault)
+    graph_taken WriteFault cause = absurd cause
+    graph_taken NoMemory cause = refl
+    graph_taken (BadPartition line kind) cause = absurd cause
+    graph_taken (BadFix line kind) cause = absurd cause
 
 -- an extra source of n entries for k blocks
 module _ (n k : ℕ) (old new : Feed) (entries : List ℕ) (faultless : Rose old.faults new.faults → ⊥) where
-  few_bytes : (reads : List ℕ → Result (List ℕ) Fault) → Gives old (λ bytes. reads bytes ≡ Ok entries) → (line : ℕ) (w : What) → IsExtraTooLarge old new line w → ⊥
+  few_bytes : (reads : List ℕ → Result (List ℕ) Fault) → Gives old (λ bytes. reads bytes ≡ Ok entries) → (line : ℕ) (w : What) →
+      IsExtraTooLarge old new line
+      w → ⊥
   few_bytes reads g line what.Bytes past = past
   few_bytes reads g line what.Nets past = past
   few_bytes reads g line what.Vertices past = past
@@ -145,7 +155,8 @@ module _ (p : Partitioning) (i i' : Inputs) (o o' : Outputs) (g : IsPartitionabl
       let same = spells_same graph i.graph i'.graph g.spelled g.graph a.spelled a.graph.graph in
       fixed_same p.fix g.fixes (subst (λ (x : Hyper). IsFixed p.fix p.k i.extra i'.extra (with_objective p.objective x) h) same a.fixed)
     where
-      fixed_same : (fix : Option (List ℕ)) → GivesFixes fix p.k i.extra (with_objective p.objective g.spelled) g.fixed → IsFixed fix p.k i.extra i'.extra (with_objective p.objective g.spelled) h → h ≡ g.fixed
+      fixed_same : (fix : Option (List ℕ)) → GivesFixes fix p.k i.extra (with_objective p.objective g.spelled) g.fixed → IsFixed fix p.k i.extra i'.extra
+          (with_objective p.objective g.spelled) h → h ≡ g.fixed
       fixed_same None given fixed = fixed.0 ∙ sym given
       fixed_same (Some name) given fixed =
           let base = with_objective p.objective g.spelled in
@@ -155,21 +166,25 @@ module _ (p : Partitioning) (i i' : Inputs) (o o' : Outputs) (g : IsPartitionabl
   input_taken : (s : Status) → IsInputRefused p i i' o o' s → s ≡ NoMemory
   input_taken s refused = by refused.cause
     where
-      extra : (fix : Option (List ℕ)) → GivesFixes fix p.k i.extra (with_objective p.objective g.spelled) g.fixed → (name : List ℕ) → fix ≡ Some name → (h : Hyper) → h ≡ g.spelled
+      extra : (fix : Option (List ℕ)) → GivesFixes fix p.k i.extra (with_objective p.objective g.spelled) g.fixed → (name : List ℕ) → fix ≡ Some name →
+          (h : Hyper) → h ≡ g.spelled
           → IsFixRefusal (vertex_count h) p.k i.extra i'.extra s → s ≡ NoMemory
       extra None given name named h same cause = cc
       extra (Some other) given name named h same cause =
-          fixes_taken (vertex_count g.spelled) p.k i.extra i'.extra g.fixed.fixes f.extra given.0 s (subst (λ (x : Hyper). IsFixRefusal (vertex_count x) p.k i.extra i'.extra s) same cause)
+          fixes_taken (vertex_count g.spelled) p.k i.extra i'.extra g.fixed.fixes f.extra given.0 s
+          (subst (λ (x : Hyper). IsFixRefusal (vertex_count x) p.k i.extra i'.extra s) same cause)
 
       by : (IsGraphRefused p.k i i' s ⊎ IsFixRefused p i i' s) → s ≡ NoMemory
       by (inl graph) = graph_taken p.k i.graph i'.graph g.spelled g.graph g.suits f.graph s graph.cause
-      by (inr fix) = extra p.fix g.fixes fix.named.0 fix.named.1 fix.hypergraph (spells_same graph i.graph i'.graph g.spelled g.graph fix.hypergraph fix.graph.graph) fix.cause
+      by (inr fix) = extra p.fix g.fixes fix.named.0 fix.named.1 fix.hypergraph (spells_same graph i.graph i'.graph g.spelled g.graph fix.hypergraph
+          fix.graph.graph) fix.cause
 
   is_placed : (s : Status) → IsPlaceRefused p i i' o o' s → s ≡ NoMemory
   is_placed s refused = by s refused.cause
     where
       none : (v : ℕ) → overfills refused.hypergraph p.k (limit_for p refused.hypergraph) ≡ Some v → ⊥
-      none v found = let same = accepted_same refused.hypergraph refused.accepted in none_some _ v (subst (λ (x : Hyper). overfills x p.k (limit_for p x) ≡ None) (sym same) g.placed) found
+      none v found = let same = accepted_same refused.hypergraph refused.accepted in
+          none_some _ v (subst (λ (x : Hyper). overfills x p.k (limit_for p x) ≡ None) (sym same) g.placed) found
 
       by : (t : Status) → IsPlaceRefusal p refused.hypergraph t → t ≡ NoMemory
       by Done cause = absurd cause
@@ -232,7 +247,8 @@ module _ (e : Evaluation) (i i' : Inputs) (o o' : Outputs) (g : IsEvaluable e i)
       by (inl graph) = graph_taken e.k i.graph i'.graph g.hypergraph g.graph g.suits f.graph s graph.cause
       by (inr part) =
           let same = spells_same graph i.graph i'.graph g.hypergraph g.graph part.hypergraph part.graph.graph in
-          part_taken (vertex_count g.hypergraph) e.k i.extra i'.extra g.blocks f.extra g.part s (subst (λ (x : Hyper). IsPartRefusal (vertex_count x) e.k i.extra i'.extra s) same part.cause)
+          part_taken (vertex_count g.hypergraph) e.k i.extra i'.extra g.blocks f.extra g.part s
+          (subst (λ (x : Hyper). IsPartRefusal (vertex_count x) e.k i.extra i'.extra s) same part.cause)
   evaluation_refused s (inr unreported) = absurd (f.report unreported.cause.report.fault)
 
   evaluation_ends : (s : Status) (made : Option Outcome) → IsEvaluationEnd e i i' o o' s made → (s ≡ Done) ⊎ (s ≡ NoMemory)

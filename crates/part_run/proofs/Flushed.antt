@@ -17,7 +17,8 @@ whole : (a c : Option (List ℕ)) (bs : List ℕ) → Appends a c bs → Appends
 whole a c bs put = (length bs, rw take-length put)
 
 -- a text that was put whole and is flushed
-pub flushed : {T U E F : Type 0} {x : T} (a b c : Option (List ℕ)) (fa fb fc : ℕ) (ha hc : Bool) (bs : List ℕ) → bs ≢ [] → PutsAll {E = E} a b (Ok x) bs → fb ≡ fa
+pub flushed : {T U E F : Type 0} {x : T} (a b c : Option (List ℕ)) (fa fb fc : ℕ) (ha hc : Bool) (bs : List ℕ) → bs ≢ [] → PutsAll {E = E} a b (Ok x) bs →
+    fb ≡ fa
     → (r : Result U F) → Keeps b c → HasCause fb fc r → OnOk r (hc ≡ false)
     → MatchResult r (λ u. IsSent (port_of a fa ha) (port_of c fc hc) bs) (λ e. IsCutOff (port_of a fa ha) (port_of c fc hc) bs)
 flushed a b c fa fb fc ha hc bs some put first (Ok u) same cause done = record {
@@ -33,7 +34,8 @@ flushed a b c fa fb fc ha hc bs some put first (Err e) same cause done = record 
 }
 
 -- a put that failed
-pub unput : {T U E F : Type 0} {e : E} (a b : Option (List ℕ)) (fa fb : ℕ) (ha hb : Bool) (bs : List ℕ) → bs ≢ [] → PutsAll {T = T} a b (Err e) bs → Rose fa fb → (r : Result U F) → IsErr r
+pub unput : {T U E F : Type 0} {e : E} (a b : Option (List ℕ)) (fa fb : ℕ) (ha hb : Bool) (bs : List ℕ) → bs ≢ [] → PutsAll {T = T} a b (Err e) bs →
+    Rose fa fb → (r : Result U F) → IsErr r
     → MatchResult r (λ u. IsSent (port_of a fa ha) (port_of b fb hb) bs) (λ f. IsCutOff (port_of a fa ha) (port_of b fb hb) bs)
 unput a b fa fb ha hb bs some put fault (Ok u) fails = cc
 unput a b fa fb ha hb bs some put fault (Err f) fails = record { some = some; fault = fault; bytes = put.err }

@@ -10,7 +10,8 @@ use Rattle.part_run.specs.Wanted.{Partitioning}
 use Rattle.part_run.specs.Answers.{IsPlaced, IsResult, limit_for}
 
 pub swept_result :
-    (p : Partitioning) (h : Hyper) (k l : ℕ) (start blocks : List ℕ) (old new : List LoggedRound) (number : ℕ) → k ≡ p.k → l ≡ limit_for p h → IsPlaced p h start
+    (p : Partitioning) (h : Hyper) (k l : ℕ) (start blocks : List ℕ) (old new : List LoggedRound) (number : ℕ) → k ≡ p.k → l ≡ limit_for p h →
+    IsPlaced p h start
     → Settles h k l start blocks old new number → IsResult p h blocks
 swept_result p h k l start blocks old new number same_k same_l placed settles = record {
   placed = placed.placed;
@@ -27,4 +28,6 @@ swept_result p h k l start blocks old new number same_k same_l placed settles = 
 }
   where
     swept : AreSweeps h p.k (limit_for p h) start settles.rounds blocks
-    swept = subst (λ (n : ℕ). AreSweeps h n (limit_for p h) start settles.rounds blocks) same_k (subst (λ (n : ℕ). AreSweeps h k n start settles.rounds blocks) same_l settles.sweeps)
+    swept = subst (λ (n : ℕ). AreSweeps h n (limit_for p h) start settles.rounds blocks) same_k
+        (subst (λ (n : ℕ). AreSweeps h k n start settles.rounds blocks)
+        same_l settles.sweeps)

@@ -7,7 +7,8 @@ use Rattle.hmetis_read.specs.declared.fault.What.TheVariants as what
 use Rattle.part_text.specs.declared.fault.PartKind.{PartKind}
 use Rattle.part_text.specs.declared.fault.PartKind.TheVariants as part_kind
 use Rattle.part_run.specs.declared.status.Status.{Status}
-use Rattle.part_run.specs.declared.status.Status.TheVariants.{Done, Usage, Malformed, TooLarge, Unplaced, ReadFault, WriteFault, NoMemory, BadPartition, BadFix}
+use Rattle.part_run.specs.declared.status.Status.TheVariants.{Done, Usage, Malformed, TooLarge, Unplaced, ReadFault}
+use Rattle.part_run.specs.declared.status.Status.TheVariants.{WriteFault, NoMemory, BadPartition, BadFix}
 
 abbrev pub code_of : Status → ℕ
 code_of Done = 0

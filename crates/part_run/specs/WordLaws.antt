@@ -1,5 +1,6 @@
 -- What the words of settings spell, said of all of them together and not one after the other.
-use Rattle.std.specs.Prelude.{◌≡◌, ℕ, ◌+◌, ◌-◌, ◌^◌, ◌<◌, ◌≤◌, ◌⊎◌, List, [], ◌∷◌, length, All, Option, Some, None, IsSome, option_and_then, codes, bytes_eq, if◌then◌else◌}
+use Rattle.std.specs.Prelude.{◌≡◌, ℕ, ◌+◌, ◌-◌, ◌^◌, ◌<◌, ◌≤◌, ◌⊎◌, List, [], ◌∷◌, length, All, Option, Some}
+use Rattle.std.specs.Prelude.{None, IsSome, option_and_then, codes, bytes_eq, if◌then◌else◌}
 use Rattle.std.specs.List.{position_or_len, before_first, after_first}
 use Rattle.part_run.specs.Wanted.{Settings, no_settings, with_words, is_equals, number_within, file_name, plain_name, objective_of}
 

@@ -3,7 +3,8 @@
 ghost use Rattle.std.specs.Prelude.{◌≡◌, ◌≤◌, MatchResult};
 ghost use Rattle.hg_defs.specs.Partition.{IsPartition};
 ghost use Rattle.trace_text.specs.Evaluation.{evaluation_text};
-ghost use Rattle.part_run.specs.Answers.{inputs_of, outputs_of, port_of, IsSent, IsCutOff, IsEvaluated, IsEvaluationRefused};
+ghost use Rattle.part_run.specs.Answers.{inputs_of, outputs_of, port_of, IsSent, IsCutOff};
+ghost use Rattle.part_run.specs.Answers.{IsEvaluated, IsEvaluationRefused};
 ghost use Rattle.part_run.specs.Reads.{feed_of};
 ghost use Rattle.part_run.specs.Spelled.{evaluation_of};
 
@@ -25,10 +26,14 @@ pub(crate) fn evaluate<S: Source, X: Source, K: Sink, R: Sink>(
     out: &mut K,
     report: &mut R,
 ) -> Result<(), Status>
-    ensures answer { let inputs = inputs_of (feed_of (S.left graph.old) (S.faults graph.old)) (feed_of (X.left extra.old) (X.faults extra.old)) in
-        let inputs_after = inputs_of (feed_of (S.left graph.new) (S.faults graph.new)) (feed_of (X.left extra.new) (X.faults extra.new)) in
-        let outputs = outputs_of (port_of (K.got out.old) (K.faults out.old) (K.held out.old)) (port_of (R.got report.old) (R.faults report.old) (R.held report.old)) in
-        let outputs_after = outputs_of (port_of (K.got out.new) (K.faults out.new) (K.held out.new)) (port_of (R.got report.new) (R.faults report.new) (R.held report.new)) in
+    ensures answer { let inputs = inputs_of (feed_of (S.left graph.old) (S.faults graph.old))
+        (feed_of (X.left extra.old) (X.faults extra.old)) in
+        let inputs_after = inputs_of (feed_of (S.left graph.new) (S.faults graph.new))
+        (feed_of (X.left extra.new) (X.faults extra.new)) in
+        let outputs = outputs_of (port_of (K.got out.old) (K.faults out.old) (K.held out.old))
+        (port_of (R.got report.old) (R.faults report.old) (R.held report.old)) in
+        let outputs_after = outputs_of (port_of (K.got out.new) (K.faults out.new) (K.held out.new))
+        (port_of (R.got report.new) (R.faults report.new) (R.held report.new)) in
         MatchResult result
         (λ _. IsEvaluated (evaluation_of e.now) inputs inputs_after outputs outputs_after)
         (IsEvaluationRefused (evaluation_of e.now) inputs inputs_after outputs outputs_after) }

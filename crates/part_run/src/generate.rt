@@ -21,8 +21,10 @@ pub(crate) fn generate<K: Sink, R: Sink>(
 ) -> Result<(), Status>
     requires least { 1 ≤ n }
     requires most { n ≤ 2 ^ 22 }
-    ensures answer { let outputs = outputs_of (port_of (K.got out.old) (K.faults out.old) (K.held out.old)) (port_of (R.got report.old) (R.faults report.old) (R.held report.old)) in
-        let outputs_after = outputs_of (port_of (K.got out.new) (K.faults out.new) (K.held out.new)) (port_of (R.got report.new) (R.faults report.new) (R.held report.new)) in
+    ensures answer { let outputs = outputs_of (port_of (K.got out.old) (K.faults out.old) (K.held out.old))
+        (port_of (R.got report.old) (R.faults report.old) (R.held report.old)) in
+        let outputs_after = outputs_of (port_of (K.got out.new) (K.faults out.new) (K.held out.new))
+        (port_of (R.got report.new) (R.faults report.new) (R.held report.new)) in
         MatchResult result
         (λ _. IsWritten outputs outputs_after (hypergraph_text (made n)) [])
         (IsGenerationRefusal n outputs outputs_after) }
@@ -44,7 +46,8 @@ fn write_hypergraph<K: Sink>(out: &mut K, h: &FlatHyper) -> Result<(), Failed>
     requires { hypergraph_text h.now ≢ [] }
     ensures answer { let old = port_of (K.got out.old) (K.faults out.old) (K.held out.old) in
         let new = port_of (K.got out.new) (K.faults out.new) (K.held out.new) in
-        MatchResult result (λ _. IsSent old new (hypergraph_text h.now)) (λ _. IsCutOff old new (hypergraph_text h.now)) }
+        MatchResult result (λ _. IsSent old new (hypergraph_text h.now))
+        (λ _. IsCutOff old new (hypergraph_text h.now)) }
     ensures later { K.faults out.old ≤ K.faults out.new }
 {
     put_hypergraph(out, h)?;

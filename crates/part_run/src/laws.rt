@@ -1,7 +1,8 @@
 //! The laws over the words of a command line. Each is the contract of a function that does nothing.
 
 ghost use Rattle.part_run.specs.Completeness.{RunsComeToTheirEnd};
-ghost use Rattle.part_run.specs.WordLaws.{TakenWordsAreSettings, TakenWordsStandOnce, TakenWordsAreSpelled, SettingsAreTaken};
+ghost use Rattle.part_run.specs.WordLaws.{TakenWordsAreSettings, TakenWordsStandOnce};
+ghost use Rattle.part_run.specs.WordLaws.{TakenWordsAreSpelled, SettingsAreTaken};
 
 /// The words behind the imbalance are taken exactly where each is a setting and no key stands twice;
 /// each setting is then what the word with its key spells, wherever that word stands.

@@ -1,11 +1,16 @@
 //! The command `partition`: from a graph to a partition and its report.
 
 ghost use Rattle.std.specs.Prelude.{◌≡◌, ◌≤◌, MatchResult, ◌≢◌, [], IfOk, OnErr, All, length};
-ghost use Rattle.hg_defs.specs.Hypergraph.{IsFixedWithin, IsHypergraph, IsWithinLimits, Suits, total_weight, vertex_count};
+ghost use Rattle.hg_defs.specs.Hypergraph.{IsFixedWithin, IsHypergraph, IsWithinLimits, Suits};
+ghost use Rattle.hg_defs.specs.Hypergraph.{total_weight, vertex_count};
 ghost use Rattle.hg_defs.specs.Partition.{IsPartition};
 ghost use Rattle.part_text.specs.Part.{part_text};
 ghost use Rattle.part_run.specs.Reads.{feed_of, IsFixedBy, IsFixRefusal};
-ghost use Rattle.part_run.specs.Answers.{inputs_of, outputs_of, port_of, IsSent, IsCutOff, IsAccepted, IsInputRefusal, IsPlaced, IsResult, IsPlaceRefusal, IsWritten, IsWriteRefusal, IsPartitioned, IsPartitionRefused, limit_for, report_for};
+ghost use Rattle.part_run.specs.Answers.{inputs_of, outputs_of, port_of, IsSent, IsCutOff};
+ghost use Rattle.part_run.specs.Answers.{IsAccepted, IsInputRefusal};
+ghost use Rattle.part_run.specs.Answers.{IsPlaced, IsResult, IsPlaceRefusal, IsWritten};
+ghost use Rattle.part_run.specs.Answers.{IsWriteRefusal, IsPartitioned};
+ghost use Rattle.part_run.specs.Answers.{IsPartitionRefused, limit_for, report_for};
 ghost use Rattle.part_run.specs.Spelled.{partitioning_of};
 
 use crate::evaluate::write_evaluation;
@@ -58,8 +63,10 @@ fn accept<S: Source, X: Source>(
     graph: &mut S,
     extra: &mut X,
 ) -> Result<FlatHyper, Status>
-    ensures answer { let inputs = inputs_of (feed_of (S.left graph.old) (S.faults graph.old)) (feed_of (X.left extra.old) (X.faults extra.old)) in
-        let inputs_after = inputs_of (feed_of (S.left graph.new) (S.faults graph.new)) (feed_of (X.left extra.new) (X.faults extra.new)) in
+    ensures answer { let inputs = inputs_of (feed_of (S.left graph.old) (S.faults graph.old))
+        (feed_of (X.left extra.old) (X.faults extra.old)) in
+        let inputs_after = inputs_of (feed_of (S.left graph.new) (S.faults graph.new))
+        (feed_of (X.left extra.new) (X.faults extra.new)) in
         MatchResult result
         (IsAccepted (partitioning_of p.now) inputs inputs_after)
         (IsInputRefusal (partitioning_of p.now) inputs inputs_after) }
@@ -126,8 +133,10 @@ fn deliver<K: Sink, R: Sink>(
     report: &mut R,
 ) -> Result<(), Status>
     requires partition { IsPartition h.now p.now.balance.k blocks.now }
-    ensures answer { let outputs = outputs_of (port_of (K.got out.old) (K.faults out.old) (K.held out.old)) (port_of (R.got report.old) (R.faults report.old) (R.held report.old)) in
-        let outputs_after = outputs_of (port_of (K.got out.new) (K.faults out.new) (K.held out.new)) (port_of (R.got report.new) (R.faults report.new) (R.held report.new)) in
+    ensures answer { let outputs = outputs_of (port_of (K.got out.old) (K.faults out.old) (K.held out.old))
+        (port_of (R.got report.old) (R.faults report.old) (R.held report.old)) in
+        let outputs_after = outputs_of (port_of (K.got out.new) (K.faults out.new) (K.held out.new))
+        (port_of (R.got report.new) (R.faults report.new) (R.held report.new)) in
         let text = part_text blocks.now in
         let report_text = report_for (partitioning_of p.now) h.now blocks.now in
         MatchResult result
@@ -149,7 +158,8 @@ fn deliver<K: Sink, R: Sink>(
 fn write_blocks<K: Sink>(out: &mut K, blocks: &[u32]) -> Result<(), Failed>
     ensures answer { let old = port_of (K.got out.old) (K.faults out.old) (K.held out.old) in
         let new = port_of (K.got out.new) (K.faults out.new) (K.held out.new) in
-        MatchResult result (λ _. IsSent old new (part_text blocks.now)) (λ _. IsCutOff old new (part_text blocks.now)) }
+        MatchResult result (λ _. IsSent old new (part_text blocks.now))
+        (λ _. IsCutOff old new (part_text blocks.now)) }
     ensures later { K.faults out.old ≤ K.faults out.new }
 {
     if blocks.is_empty() {
@@ -168,10 +178,14 @@ pub(crate) fn partition<S: Source, X: Source, K: Sink, R: Sink>(
     out: &mut K,
     report: &mut R,
 ) -> Result<Outcome, Status>
-    ensures answer { let inputs = inputs_of (feed_of (S.left graph.old) (S.faults graph.old)) (feed_of (X.left extra.old) (X.faults extra.old)) in
-        let inputs_after = inputs_of (feed_of (S.left graph.new) (S.faults graph.new)) (feed_of (X.left extra.new) (X.faults extra.new)) in
-        let outputs = outputs_of (port_of (K.got out.old) (K.faults out.old) (K.held out.old)) (port_of (R.got report.old) (R.faults report.old) (R.held report.old)) in
-        let outputs_after = outputs_of (port_of (K.got out.new) (K.faults out.new) (K.held out.new)) (port_of (R.got report.new) (R.faults report.new) (R.held report.new)) in
+    ensures answer { let inputs = inputs_of (feed_of (S.left graph.old) (S.faults graph.old))
+        (feed_of (X.left extra.old) (X.faults extra.old)) in
+        let inputs_after = inputs_of (feed_of (S.left graph.new) (S.faults graph.new))
+        (feed_of (X.left extra.new) (X.faults extra.new)) in
+        let outputs = outputs_of (port_of (K.got out.old) (K.faults out.old) (K.held out.old))
+        (port_of (R.got report.old) (R.faults report.old) (R.held report.old)) in
+        let outputs_after = outputs_of (port_of (K.got out.new) (K.faults out.new) (K.held out.new))
+        (port_of (R.got report.new) (R.faults report.new) (R.held report.new)) in
         MatchResult result
         (IsPartitioned (partitioning_of p.now) inputs inputs_after outputs outputs_after)
         (IsPartitionRefused (partitioning_of p.now) inputs inputs_after outputs outputs_after) }

@@ -2,7 +2,8 @@
 
 ghost use Rattle.std.specs.Prelude.{◌≡◌, ◌≤◌, ◌≢◌, ◌<◌, MatchResult, Ok, IfOk, All, length};
 ghost use Rattle.part_text.specs.Entries.{spelled_part, spelled_fixes};
-ghost use Rattle.part_run.specs.Reads.{feed_of, WasRead, Spells, IsSuited, IsReadRefusal, IsGraphRefusal, IsFixRefusal, IsPartRefusal};
+ghost use Rattle.part_run.specs.Reads.{feed_of, WasRead, Spells, IsSuited, IsReadRefusal};
+ghost use Rattle.part_run.specs.Reads.{IsGraphRefusal, IsFixRefusal, IsPartRefusal};
 
 use crate::Status;
 use hg_base::{Blocks, FREE, FlatHyper};

@@ -3,7 +3,8 @@
 ghost use Rattle.std.specs.Prelude.{◌≡◌};
 ghost use Rattle.hg_io.specs.Faults.{HasCause};
 ghost use Rattle.hg_io.specs.Transfers.{PutsAll, Writes};
-ghost use Rattle.part_run.specs.StatusText.{code_of, line_kind_text, what_text, part_kind_text, line_text, status_text};
+ghost use Rattle.part_run.specs.StatusText.{code_of, line_kind_text, what_text, part_kind_text};
+ghost use Rattle.part_run.specs.StatusText.{line_text, status_text};
 
 use hg_base::NoMemory;
 use hg_io::{Failed, Pen, Sink, put_all};
@@ -138,7 +139,8 @@ fn write_line<K: Sink>(
     line: u32,
     said: &str,
 ) -> Result<(), Failed>
-    ensures bytes { Writes (K.got sink.old) (K.got sink.new) pen.old pen.new result (line_text label.now line said.now) }
+    ensures bytes { Writes (K.got sink.old) (K.got sink.new) pen.old pen.new result
+        (line_text label.now line said.now) }
     ensures cause { HasCause (K.faults sink.old) (K.faults sink.new) result }
 {
     pen.write(sink, label)?;
@@ -169,7 +171,8 @@ fn put_unplaced<K: Sink>(sink: &mut K, vertex: u32) -> Result<(), Failed>
 }
 
 fn write_unplaced<K: Sink>(pen: &mut Pen, sink: &mut K, vertex: u32) -> Result<(), Failed>
-    ensures bytes { Writes (K.got sink.old) (K.got sink.new) pen.old pen.new result (status_text (Status.Unplaced vertex)) }
+    ensures bytes { Writes (K.got sink.old) (K.got sink.new) pen.old pen.new result
+        (status_text (Status.Unplaced vertex)) }
     ensures cause { HasCause (K.faults sink.old) (K.faults sink.new) result }
 {
     pen.write(sink, b"unplaced: vertex ")?;

@@ -63,10 +63,14 @@ pub fn run<S: Source, X: Source, K: Sink, R: Sink>(
     out: &mut K,
     report: &mut R,
 ) -> Ended
-    ensures end { let inputs = inputs_of (feed_of (S.left graph.old) (S.faults graph.old)) (feed_of (X.left extra.old) (X.faults extra.old)) in
-        let inputs_after = inputs_of (feed_of (S.left graph.new) (S.faults graph.new)) (feed_of (X.left extra.new) (X.faults extra.new)) in
-        let outputs = outputs_of (port_of (K.got out.old) (K.faults out.old) (K.held out.old)) (port_of (R.got report.old) (R.faults report.old) (R.held report.old)) in
-        let outputs_after = outputs_of (port_of (K.got out.new) (K.faults out.new) (K.held out.new)) (port_of (R.got report.new) (R.faults report.new) (R.held report.new)) in
+    ensures end { let inputs = inputs_of (feed_of (S.left graph.old) (S.faults graph.old))
+        (feed_of (X.left extra.old) (X.faults extra.old)) in
+        let inputs_after = inputs_of (feed_of (S.left graph.new) (S.faults graph.new))
+        (feed_of (X.left extra.new) (X.faults extra.new)) in
+        let outputs = outputs_of (port_of (K.got out.old) (K.faults out.old) (K.held out.old))
+        (port_of (R.got report.old) (R.faults report.old) (R.held report.old)) in
+        let outputs_after = outputs_of (port_of (K.got out.new) (K.faults out.new) (K.held out.new))
+        (port_of (R.got report.new) (R.faults report.new) (R.held report.new)) in
         IsEnd (wanted (map string_bytes words.now)) inputs inputs_after outputs outputs_after result }
     ensures graph_later { S.faults graph.old ≤ S.faults graph.new }
     ensures extra_later { X.faults extra.old ≤ X.faults extra.new }

@@ -1,7 +1,10 @@
 //! The words of the command line, and the command that they spell.
 
-ghost use Rattle.std.specs.Prelude.{◌≡◌, ◌≤◌, ◌^◌, option_map, option_copied, map, string_bytes, None, Some, IfSome, ◌<◌};
-ghost use Rattle.part_run.specs.Wanted.{number_within, fraction_of, imbalance, file_name, plain_name, objective_of, if_unset, with_word, with_words, no_settings, chosen_objective, partition_words, evaluate_words, generate_words, wanted};
+ghost use Rattle.std.specs.Prelude.{◌≡◌, ◌≤◌, ◌^◌, option_map, option_copied, map};
+ghost use Rattle.std.specs.Prelude.{string_bytes, None, Some, IfSome, ◌<◌};
+ghost use Rattle.part_run.specs.Wanted.{number_within, fraction_of, imbalance, file_name, plain_name, objective_of};
+ghost use Rattle.part_run.specs.Wanted.{if_unset, with_word, with_words, no_settings, chosen_objective};
+ghost use Rattle.part_run.specs.Wanted.{partition_words, evaluate_words, generate_words, wanted};
 ghost use Rattle.part_run.specs.Spelled.{settings_of, partitioning_of, evaluation_of, command_of, IsWithinBounds};
 
 use crate::balance::Balance;

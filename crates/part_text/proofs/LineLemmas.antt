@@ -1,5 +1,6 @@
 -- The kept lines of a text of lines of numbers.
-use Rattle.std.proofs.Common.{◌≡◌, ℕ, ◌+◌, ◌-◌, ◌^◌, ◌<◌, Bool, true, false, cond, not, ◌&&◌, eqb, List, [], ◌∷◌, ◌++◌, length, map, filter, take, All, refl, sym, ap, ◌∙◌, append_assoc, arith}
+use Rattle.std.proofs.Common.{◌≡◌, ℕ, ◌+◌, ◌-◌, ◌^◌, ◌<◌, Bool, true, false, cond, not, ◌&&◌, eqb, List, [], ◌∷◌, ◌++◌}
+use Rattle.std.proofs.Common.{length, map, filter, take, All, refl, sym, ap, ◌∙◌, append_assoc, arith}
 use Rattle.std.proofs.lemmas.Bool.Decides.{nat_tests}
 use Rattle.std.proofs.lemmas.List.Elements.{All-nil, All-cons, All-append, All-head, All-tail}
 use Rattle.std.proofs.lemmas.List.Splits.{slice_split_none, slice_split_at}
@@ -25,7 +26,8 @@ all_digits-decimal n h =
 digits_fail : (p : ℕ → Bool) → ((b : ℕ) → is_ascii_digit b ≡ true → p b ≡ false) → (ds : List ℕ) → all_ascii_digits ds ≡ true → All (λ b. p b ≡ false) ds
 digits_fail p fails [] h = All-nil (λ b. p b ≡ false)
 digits_fail p fails (d ∷ ds) h = step (is_ascii_digit d) refl h (digits_fail p fails ds) where
-  step : (b : Bool) → is_ascii_digit d ≡ b → b && all_ascii_digits ds ≡ true → (all_ascii_digits ds ≡ true → All (λ b. p b ≡ false) ds) → All (λ b. p b ≡ false) (d ∷ ds)
+  step : (b : Bool) → is_ascii_digit d ≡ b → b && all_ascii_digits ds ≡ true → (all_ascii_digits ds ≡ true → All (λ b. p b ≡ false) ds) →
+      All (λ b. p b ≡ false) (d ∷ ds)
   step true e g later = All-cons (λ b. p b ≡ false) d ds (fails d e) (later g)
   step false e g later = cc
 
@@ -73,7 +75,8 @@ numbers_line-body n (m ∷ ns) =
     ap (λ l. decimal n ++ 32 ∷ l) (numbers_line-body m ns) ∙ sym (append_assoc (decimal n) (32 ∷ body (m ∷ ns)) (10 ∷ []))
 
 -- what fails at each digit and at a blank fails at each byte of a line
-body_fails : (p : ℕ → Bool) → ((b : ℕ) → is_ascii_digit b ≡ true → p b ≡ false) → p 32 ≡ false → (ns : List ℕ) → All (λ n. n < 2 ^ 64) ns → All (λ b. p b ≡ false) (body ns)
+body_fails : (p : ℕ → Bool) → ((b : ℕ) → is_ascii_digit b ≡ true → p b ≡ false) → p 32 ≡ false → (ns : List ℕ) → All (λ n. n < 2 ^ 64) ns →
+    All (λ b. p b ≡ false) (body ns)
 body_fails p fails blank [] h = All-nil (λ b. p b ≡ false)
 body_fails p fails blank (n ∷ []) h = decimal_fails p fails n (All-head (λ n. n < 2 ^ 64) n [] h)
 body_fails p fails blank (n ∷ m ∷ ns) h =
@@ -116,7 +119,8 @@ AreLines ((n ∷ ns) ∷ ls) = All (λ m. m < 2 ^ 64) (n ∷ ns) × AreLines ls
 
 line_of-body : (start n : ℕ) (ns : List ℕ) → All (λ m. m < 2 ^ 64) (n ∷ ns) → line_of (start, body (n ∷ ns)) ≡ numbers_kept (start, n ∷ ns)
 line_of-body start n ns h =
-    ap (λ (line : List ℕ). record { number = start; fields = fields line }) (no_return (body (n ∷ ns)) (body_fails (λ b. eqb b 13) digit-return refl (n ∷ ns) h))
+    ap (λ (line : List ℕ). record { number = start; fields = fields line })
+    (no_return (body (n ∷ ns)) (body_fails (λ b. eqb b 13) digit-return refl (n ∷ ns) h))
     ∙ ap (λ (fs : List (List ℕ)). record { number = start; fields = fs }) (fields-body n ns h)
 
 kept-numbers : (start n : ℕ) (ns : List ℕ) → All (λ m. m < 2 ^ 64) (n ∷ ns) → is_kept (numbers_kept (start, n ∷ ns)) ≡ true
@@ -124,14 +128,16 @@ kept-numbers start n ns h =
     let small = All-head (λ m. m < 2 ^ 64) n ns h in
     ap not (decimal_fails (λ b. eqb b 37) digit-percent n small 0 0 (decimal_nonempty n small))
 
-pub kept_from-numbers : (start : ℕ) (ls : List (List ℕ)) → AreLines ls → kept_from start (flat_map numbers_line ls) ≡ map numbers_kept (enumerate_from start ls)
+pub kept_from-numbers : (start : ℕ) (ls : List (List ℕ)) → AreLines ls → kept_from start (flat_map numbers_line ls) ≡ map numbers_kept
+    (enumerate_from start ls)
 kept_from-numbers start [] h = refl
 kept_from-numbers start ([] ∷ ls) h = absurd h
 kept_from-numbers start ((n ∷ ns) ∷ ls) h =
     let text = flat_map numbers_line ls in
     let bytes = body (n ∷ ns) in
     let cut : lines (numbers_line (n ∷ ns) ++ text) ≡ bytes ∷ lines text =
-    ap (λ (l : List ℕ). lines (l ++ text)) (numbers_line-body n ns) ∙ ap lines (append_assoc bytes (10 ∷ []) text) ∙ lines_at_feed bytes text (body_fails is_line_feed digit-feed refl (n ∷ ns) h.0) in
+    ap (λ (l : List ℕ). lines (l ++ text)) (numbers_line-body n ns) ∙ ap lines (append_assoc bytes (10 ∷ []) text) ∙
+    lines_at_feed bytes text (body_fails is_line_feed digit-feed refl (n ∷ ns) h.0) in
     ap (λ (parts : List (List ℕ)). filter is_kept (map line_of (enumerate_from start parts))) cut
     ∙ ap (λ (line : Line). filter is_kept (line ∷ map line_of (enumerate_from (start + 1) (lines text)))) (line_of-body start n ns h.0)
     ∙ ap (λ (b : Bool). cond b (numbers_kept (start, n ∷ ns) ∷ kept_from (start + 1) text) (kept_from (start + 1) text)) (kept-numbers start n ns h.0)

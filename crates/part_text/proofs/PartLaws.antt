@@ -30,16 +30,19 @@ block_entry-decimal k b few small =
     let is : nat_lt b k ≡ true = grind (arith, nat_tests) in
     ap (block_in k) (number_of-decimal b (omega arith)) ∙ ap (λ (t : Bool). cond t (Ok b) (Err BlockRange)) is
 
-spelled-part : (k count start : ℕ) (p : List ℕ) → k ≤ 2 ^ 32 → All (λ b. b < k) p → spelled (block_entry k) (length p) (record { kept = map numbers_kept (enumerate_from start (part_lines p)); count = count }) ≡ Ok p
+spelled-part : (k count start : ℕ) (p : List ℕ) → k ≤ 2 ^ 32 → All (λ b. b < k) p → spelled (block_entry k) (length p)
+    (record { kept = map numbers_kept (enumerate_from start (part_lines p)); count = count }) ≡ Ok p
 spelled-part k count start [] few below = spelled-end (block_entry k) (record { kept = []; count = count }) refl
 spelled-part k count start (b ∷ p) few below =
     let rest : Reading = record { kept = map numbers_kept (enumerate_from (start + 1) (part_lines p)); count = count } in
     let line : Line = numbers_kept (start, b ∷ []) in
-    spelled-next (block_entry k) (length p) (record { kept = line ∷ rest.kept; count = count }) rest line b refl refl (block_entry-decimal k b few (All-head (λ b. b < k) b p below))
+    spelled-next (block_entry k) (length p) (record { kept = line ∷ rest.kept; count = count }) rest line b refl refl
+    (block_entry-decimal k b few (All-head (λ b. b < k) b p below))
     ∙ ap (behind (b ∷ [])) (spelled-part k count (start + 1) p few (All-tail (λ b. b < k) b p below))
 
 pub part_is_read_back : PartIsReadBack
 part_is_read_back p k few below =
-    let kept = ap (λ (text : List ℕ). kept_from 1 text) (sym (flat_map-map numbers_line (λ b. b ∷ []) p)) ∙ kept_from-numbers 1 (part_lines p) (AreLines-part k p few below) in
+    let kept = ap (λ (text : List ℕ). kept_from 1 text) (sym (flat_map-map numbers_line (λ b. b ∷ []) p)) ∙ kept_from-numbers 1 (part_lines p)
+    (AreLines-part k p few below) in
     ap (λ (ls : List Line). spelled (block_entry k) (length p) (record { kept = ls; count = length (lines (part_text p)) })) kept
     ∙ spelled-part k (length (lines (part_text p))) 1 p few below

@@ -40,31 +40,50 @@ module _ (entry : List (List ℕ) → Result ℕ PartKind) where
       ∙ ap (λ (b : Bool). unless_faulty (cond b (missing text.count ∷ []) []) []) (nat_lt-zero n)
 
   -- what follows from the result of the first line
-  spelled-by : (n : ℕ) (text : Reading) (line : Line) (later : List Line) (r : Result ℕ PartKind) → text.kept ≡ line ∷ later → entry line.fields ≡ r → spelled entry (suc n) text ≡ unless_faulty (cons_option (option_map (λ kind. record { line = line.number; kind = kind }) (result_err r)) (filter_map (fault_of entry) (take n later)) ++ map extra (drop n later) ++ cond (nat_lt (suc (length later)) (suc n)) (missing text.count ∷ []) []) (cons_option (result_ok r) (filter_map (entry_of entry) (take n later)))
+  spelled-by : (n : ℕ) (text : Reading) (line : Line) (later : List Line) (r : Result ℕ PartKind) → text.kept ≡ line ∷ later → entry line.fields ≡ r →
+      spelled entry (suc n) text ≡ unless_faulty (cons_option (option_map (λ kind. record { line = line.number; kind = kind }) (result_err r))
+      (filter_map (fault_of entry) (take n later)) ++ map extra (drop n later) ++ cond (nat_lt (suc (length later)) (suc n)) (missing text.count ∷ []) [])
+      (cons_option (result_ok r) (filter_map (entry_of entry) (take n later)))
   spelled-by n text line later r is e =
       ap (λ (ls : List Line). spelled entry (suc n) (record { kept = ls; count = text.count })) is
-      ∙ ap (λ (q : Result ℕ PartKind). unless_faulty (cons_option (option_map (λ kind. record { line = line.number; kind = kind }) (result_err q)) (filter_map (fault_of entry) (take n later)) ++ map extra (drop n later) ++ cond (nat_lt (suc (length later)) (suc n)) (missing text.count ∷ []) []) (cons_option (result_ok q) (filter_map (entry_of entry) (take n later)))) e
+      ∙ ap (λ (q : Result ℕ PartKind). unless_faulty (cons_option (option_map (λ kind. record { line = line.number; kind = kind }) (result_err q))
+      (filter_map (fault_of entry) (take n later)) ++ map extra (drop n later) ++ cond (nat_lt (suc (length later)) (suc n)) (missing text.count ∷ []) [])
+      (cons_option (result_ok q) (filter_map (entry_of entry) (take n later)))) e
 
-  pub spelled-fault : (n : ℕ) (text : Reading) (line : Line) (later : List Line) (kind : PartKind) → text.kept ≡ line ∷ later → entry line.fields ≡ Err kind → spelled entry (suc n) text ≡ Err (record { line = line.number; kind = kind })
+  pub spelled-fault : (n : ℕ) (text : Reading) (line : Line) (later : List Line) (kind : PartKind) → text.kept ≡ line ∷ later →
+      entry line.fields ≡ Err kind →
+      spelled entry (suc n) text ≡ Err (record { line = line.number; kind = kind })
   spelled-fault n text line later kind is e = spelled-by n text line later (Err kind) is e
 
-  pub spelled-next : (n : ℕ) (text rest : Reading) (line : Line) (x : ℕ) → text.kept ≡ line ∷ rest.kept → rest.count ≡ text.count → entry line.fields ≡ Ok x → spelled entry (suc n) text ≡ behind (x ∷ []) (spelled entry n rest)
+  pub spelled-next : (n : ℕ) (text rest : Reading) (line : Line) (x : ℕ) → text.kept ≡ line ∷ rest.kept → rest.count ≡ text.count →
+      entry line.fields ≡ Ok x →
+      spelled entry (suc n) text ≡ behind (x ∷ []) (spelled entry n rest)
   spelled-next n text rest line x is same e =
       spelled-by n text line rest.kept (Ok x) is e
-      ∙ ap (λ (b : Bool). unless_faulty (filter_map (fault_of entry) (take n rest.kept) ++ map extra (drop n rest.kept) ++ cond b (missing text.count ∷ []) []) (x ∷ filter_map (entry_of entry) (take n rest.kept))) (nat_lt-suc (length rest.kept) n)
-      ∙ ap (λ (count : ℕ). unless_faulty (filter_map (fault_of entry) (take n rest.kept) ++ map extra (drop n rest.kept) ++ cond (nat_lt (length rest.kept) n) (missing count ∷ []) []) (x ∷ filter_map (entry_of entry) (take n rest.kept))) (sym same)
+      ∙ ap (λ (b : Bool). unless_faulty (filter_map (fault_of entry) (take n rest.kept) ++ map extra (drop n rest.kept) ++ cond b (missing text.count ∷ [])
+      [])
+      (x ∷ filter_map (entry_of entry) (take n rest.kept))) (nat_lt-suc (length rest.kept) n)
+      ∙ ap (λ (count : ℕ). unless_faulty (filter_map (fault_of entry) (take n rest.kept) ++ map extra (drop n rest.kept) ++ cond
+      (nat_lt (length rest.kept) n)
+      (missing count ∷ []) []) (x ∷ filter_map (entry_of entry) (take n rest.kept))) (sym same)
       ∙ one_more (faults entry n rest) where
-        one_more : (fs : List Fault) → unless_faulty fs (x ∷ filter_map (entry_of entry) (take n rest.kept)) ≡ behind (x ∷ []) (unless_faulty fs (filter_map (entry_of entry) (take n rest.kept)))
+        one_more : (fs : List Fault) → unless_faulty fs (x ∷ filter_map (entry_of entry) (take n rest.kept)) ≡ behind (x ∷ [])
+            (unless_faulty fs (filter_map (entry_of entry) (take n rest.kept)))
         one_more [] = refl
         one_more (f ∷ fs) = refl
 
   -- the same behind the entries of earlier lines
-  pub behind-fault : (xs : List ℕ) (m n : ℕ) (text : Reading) (line : Line) (later : List Line) (kind : PartKind) (number : ℕ) → m ≡ suc n → text.kept ≡ line ∷ later → entry line.fields ≡ Err kind → number ≡ line.number → behind xs (spelled entry m text) ≡ Err (record { line = number; kind = kind })
+  pub behind-fault : (xs : List ℕ) (m n : ℕ) (text : Reading) (line : Line) (later : List Line) (kind : PartKind) (number : ℕ) → m ≡ suc n →
+      text.kept ≡ line ∷
+      later → entry line.fields ≡ Err kind → number ≡ line.number → behind xs (spelled entry m text) ≡ Err (record { line = number; kind = kind })
   behind-fault xs m n text line later kind number more is e at =
       ap (λ (i : ℕ). behind xs (spelled entry i text)) more
       ∙ ap (behind xs) (spelled-fault n text line later kind is e)
       ∙ ap (λ (i : ℕ). Err (record { line = i; kind = kind })) (sym at)
 
-  pub behind-next : (xs : List ℕ) (m n : ℕ) (text rest : Reading) (line : Line) (x : ℕ) → m ≡ suc n → text.kept ≡ line ∷ rest.kept → rest.count ≡ text.count → entry line.fields ≡ Ok x → behind xs (spelled entry m text) ≡ behind (xs ++ x ∷ []) (spelled entry n rest)
+  pub behind-next : (xs : List ℕ) (m n : ℕ) (text rest : Reading) (line : Line) (x : ℕ) → m ≡ suc n → text.kept ≡ line ∷ rest.kept →
+      rest.count ≡ text.count →
+      entry line.fields ≡ Ok x → behind xs (spelled entry m text) ≡ behind (xs ++ x ∷ []) (spelled entry n rest)
   behind-next xs m n text rest line x more is same e =
-      ap (λ (i : ℕ). behind xs (spelled entry i text)) more ∙ ap (behind xs) (spelled-next n text rest line x is same e) ∙ behind-push xs x (spelled entry n rest)
+      ap (λ (i : ℕ). behind xs (spelled entry i text)) more ∙ ap (behind xs) (spelled-next n text rest line x is same e) ∙
+      behind-push xs x (spelled entry n rest)

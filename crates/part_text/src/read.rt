@@ -1,5 +1,6 @@
 ghost use Rattle.std.specs.Prelude.{◌≡◌, ◌≢◌, ℕ, ◌^◌, ◌<◌, ◌≤◌, All, IfOk, length};
-ghost use Rattle.part_text.specs.Entries.{block_entry, fix_entry, entry_in, IsEntry, block_in as block_spelt, spelled, spelled_part, spelled_fixes};
+ghost use Rattle.part_text.specs.Entries.{block_entry, fix_entry, entry_in, IsEntry};
+ghost use Rattle.part_text.specs.Entries.{block_in as block_spelt, spelled, spelled_part, spelled_fixes};
 ghost use Rattle.part_text.specs.Answers.{Answers};
 ghost use Rattle.hg_text.specs.Kept.{reading};
 

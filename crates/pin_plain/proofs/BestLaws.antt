@@ -1,5 +1,6 @@
 -- The best block of a vertex by the scores of the blocks.
-use Rattle.std.proofs.Common.{◌≡◌, ◌≢◌, ℕ, ◌+◌, ◌-◌, ◌<◌, ◌≤◌, ◌^◌, Option, Some, None, option_map, is_some, true, true≢false, IfSome, List, [], get_or, slice_index, ℤ, pos, ◌-ℤ◌, ◌<ℤ◌, ◌≤ℤ◌, All, refl, sym, ap, subst, ◌∙◌, arith}
+use Rattle.std.proofs.Common.{◌≡◌, ◌≢◌, ℕ, ◌+◌, ◌-◌, ◌<◌, ◌≤◌, ◌^◌, Option, Some, None, option_map, is_some, true, true≢false, IfSome, List}
+use Rattle.std.proofs.Common.{[], get_or, slice_index, ℤ, pos, ◌-ℤ◌, ◌<ℤ◌, ◌≤ℤ◌, All, refl, sym, ap, subst, ◌∙◌, arith}
 use Rattle.std.proofs.lemmas.Int.{ints}
 use Rattle.hg_defs.specs.Sums.{total}
 use Rattle.hg_defs.specs.Hypergraph.{Hyper, IsWithinLimits, IsFree, vertex_count, net_of, weight_of, fix_of}
@@ -34,10 +35,14 @@ saved_past h k p starts words b v told past =
     (λ i d l.
     saved_none h p b (get_or (nets_of h v) i d)
     (none_past k p (net_of h (get_or (nets_of h v) i d)).pins b
-    (subst (λ n. All (λ u. u < n) (net_of h (get_or (nets_of h v) i d)).pins) (sym told.parted.partition.vertices) (told.parted.sound.nets (get_or (nets_of h v) i d) (record { weight = 0; pins = [] }) (nets_of-below h v i d l)).pins)
+    (subst (λ n. All (λ u. u < n) (net_of h (get_or (nets_of h v) i d)).pins) (sym told.parted.partition.vertices)
+    (told.parted.sound.nets (get_or (nets_of h v) i d) (record { weight = 0; pins = [] }) (nets_of-below h v i d l)).pins)
     told.parted.partition.blocks past))
 
-module _ (h : Hyper) (k l : ℕ) (p starts words loads sums : List ℕ) (v loss : ℕ) (told : IsTold h k p starts words) (loaded : IsLoaded h k p loads) (vertex : v < vertex_count h) (free : IsFree h v) (lost : loss ≡ total (net_lost h p (block_of p v)) (nets_of h v)) (saved : (b : ℕ) → b ≢ block_of p v → slice_index sums b ≡ total (net_saved h p b) (nets_of h v)) where
+module _ (h : Hyper) (k l : ℕ) (p starts words loads sums : List ℕ) (v loss : ℕ) (told : IsTold h k p starts words) (loaded : IsLoaded h k p loads)
+    (vertex : v < vertex_count h) (free : IsFree h v) (lost : loss ≡ total (net_lost h p (block_of p v)) (nets_of h v))
+    (saved : (b : ℕ) → b ≢ block_of p v →
+    slice_index sums b ≡ total (net_saved h p b) (nets_of h v)) where
   pub scored_gain : (b : ℕ) → b < k → b ≢ block_of p v → gain h p v b ≡ pos (slice_index sums b) -ℤ pos loss
   scored_gain b low other =
       gain_counted h k p v b told.parted.sound told.parted.partition vertex low other
@@ -89,12 +94,14 @@ module _ (h : Hyper) (k l : ℕ) (p starts words loads sums : List ℕ) (v loss 
             let x = scored_gain a (target_low a top.0) top.0.other in
             let y = scored_gain c t.block t.other in
             let n = top.2 c (allowed_target c t) in
-            subst (λ (z : ℤ). z ≤ℤ gain h p v a) (sym y) (subst (λ (z : ℤ). (pos (slice_index sums c) -ℤ pos loss) ≤ℤ z) (sym x) (less (slice_index sums c) (slice_index sums a) n));
+            subst (λ (z : ℤ). z ≤ℤ gain h p v a) (sym y) (subst (λ (z : ℤ). (pos (slice_index sums c) -ℤ pos loss) ≤ℤ z) (sym x)
+            (less (slice_index sums c) (slice_index sums a) n));
         lowest = λ c m t.
             let x = scored_gain a (target_low a top.0) top.0.other in
             let y = scored_gain c t.block t.other in
             let n = top.3 c m (allowed_target c t) in
-            subst (λ (z : ℤ). z <ℤ gain h p v a) (sym y) (subst (λ (z : ℤ). (pos (slice_index sums c) -ℤ pos loss) <ℤ z) (sym x) (below (slice_index sums c) (slice_index sums a) n));
+            subst (λ (z : ℤ). z <ℤ gain h p v a) (sym y) (subst (λ (z : ℤ). (pos (slice_index sums c) -ℤ pos loss) <ℤ z) (sym x)
+            (below (slice_index sums c) (slice_index sums a) n));
       }))
     where
       less : (s t : ℕ) → s ≤ t → (pos s -ℤ pos loss) ≤ℤ (pos t -ℤ pos loss)
@@ -121,21 +128,30 @@ unsettled_from h k l p v b vertex e settled =
 
 -- ---- the block with its gain
 
-pub map_first : (sums : List ℕ) (loss : ℕ) (best : Option ℕ) → option_map (λ (m : ℕ × ℕ). m.0) (option_map (λ (b : ℕ). (b, slice_index sums b - loss)) best) ≡ best
+pub map_first : (sums : List ℕ) (loss : ℕ) (best : Option ℕ) → option_map (λ (m : ℕ × ℕ). m.0) (option_map (λ (b : ℕ). (b, slice_index sums b - loss))
+    best) ≡
+    best
 map_first sums loss None = refl
 map_first sums loss (Some a) = refl
 
 difference : (s loss : ℕ) → loss < s → pos (s - loss) ≡ pos s -ℤ pos loss
 difference s loss h = omega (arith, ints)
 
-module _ (h : Hyper) (k l : ℕ) (p starts words loads sums : List ℕ) (v loss : ℕ) (told : IsTold h k p starts words) (loaded : IsLoaded h k p loads) (vertex : v < vertex_count h) (free : IsFree h v) (lost : loss ≡ total (net_lost h p (block_of p v)) (nets_of h v)) (saved : (b : ℕ) → b ≢ block_of p v → slice_index sums b ≡ total (net_saved h p b) (nets_of h v)) where
-  pub found_gain : (best : Option ℕ) → IsTop sums loads l (weight_of h v) (block_of p v) loss best → IfSome (option_map (λ (b : ℕ). (b, slice_index sums b - loss)) best) (λ (m : ℕ × ℕ). pos m.1 ≡ gain h p v m.0)
+module _ (h : Hyper) (k l : ℕ) (p starts words loads sums : List ℕ) (v loss : ℕ) (told : IsTold h k p starts words) (loaded : IsLoaded h k p loads)
+    (vertex : v < vertex_count h) (free : IsFree h v) (lost : loss ≡ total (net_lost h p (block_of p v)) (nets_of h v))
+    (saved : (b : ℕ) → b ≢ block_of p v →
+    slice_index sums b ≡ total (net_saved h p b) (nets_of h v)) where
+  pub found_gain : (best : Option ℕ) → IsTop sums loads l (weight_of h v) (block_of p v) loss best →
+      IfSome (option_map (λ (b : ℕ). (b, slice_index sums b - loss)) best) (λ (m : ℕ × ℕ). pos m.1 ≡ gain h p v m.0)
   found_gain None top = tt
   found_gain (Some a) top =
       difference (slice_index sums a) loss top.1
-      ∙ sym (scored_gain h k l p starts words loads sums v loss told loaded vertex free lost saved a (let n = loaded.all in let m = top.0.block in omega arith) top.0.other)
+      ∙ sym (scored_gain h k l p starts words loads sums v loss told loaded vertex free lost saved a (let n = loaded.all in let m = top.0.block in
+      omega arith)
+      top.0.other)
 
-  pub found_bound : (best : Option ℕ) → IsTop sums loads l (weight_of h v) (block_of p v) loss best → IfSome (option_map (λ (b : ℕ). (b, slice_index sums b - loss)) best) (λ (m : ℕ × ℕ). m.1 < 2 ^ 55)
+  pub found_bound : (best : Option ℕ) → IsTop sums loads l (weight_of h v) (block_of p v) loss best →
+      IfSome (option_map (λ (b : ℕ). (b, slice_index sums b - loss)) best) (λ (m : ℕ × ℕ). m.1 < 2 ^ 55)
   found_bound None top = tt
   found_bound (Some a) top = let s = saved a top.0.other in let b = saved_bound h p a v told.parted.bounds in omega arith
 
@@ -151,6 +167,7 @@ load_fits h k p loads w bounds loaded small i d l =
 pub best_below : (h : Hyper) (k l : ℕ) (p : List ℕ) (v b : ℕ) → v < vertex_count h → best_block h l p v k ≡ Some b → b < k
 best_below h k l p v b vertex e = (best_block_is h k l p v b vertex e).allowed.block
 
-pub unsettled_some : (h : Hyper) (k l : ℕ) (p : List ℕ) (v : ℕ) → v < vertex_count h → (r : Option (ℕ × ℕ)) → is_some r ≡ true → option_map (λ (m : ℕ × ℕ). m.0) r ≡ best_block h l p v k → IsSettled h k l p → ⊥
+pub unsettled_some : (h : Hyper) (k l : ℕ) (p : List ℕ) (v : ℕ) → v < vertex_count h → (r : Option (ℕ × ℕ)) → is_some r ≡ true →
+    option_map (λ (m : ℕ × ℕ). m.0) r ≡ best_block h l p v k → IsSettled h k l p → ⊥
 unsettled_some h k l p v vertex None some e settled = absurd (true≢false (sym some))
 unsettled_some h k l p v vertex (Some m) some e settled = unsettled_from h k l p v m.0 vertex (sym e) settled

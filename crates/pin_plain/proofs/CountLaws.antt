@@ -1,5 +1,7 @@
 -- Laws of the counts of all nets: where they stand, and what a change of one net's words leaves.
-use Rattle.std.proofs.Common.{◌≡◌, ◌≢◌, ◌⊎◌, inl, inr, ℕ, ◌+◌, ◌*◌, ◌/◌, ◌%◌, ◌^◌, ◌<◌, ◌≤◌, Bool, true, false, ◌||◌, cond, if◌then◌else◌, nat_eq, nat_lt, nat_le, List, [], ◌∷◌, length, filter, take, All, Contains, slice_index, get_or, slice_set, refl, sym, ap, ◌∙◌, subst, arith, true≢false}
+use Rattle.std.proofs.Common.{◌≡◌, ◌≢◌, ◌⊎◌, inl, inr, ℕ, ◌+◌, ◌*◌, ◌/◌, ◌%◌, ◌^◌, ◌<◌, ◌≤◌, Bool, true, false, ◌||◌, cond}
+use Rattle.std.proofs.Common.{if◌then◌else◌, nat_eq, nat_lt, nat_le, List, [], ◌∷◌, length, filter, take, All, Contains}
+use Rattle.std.proofs.Common.{slice_index, get_or, slice_set, refl, sym, ap, ◌∙◌, subst, arith, true≢false}
 use Rattle.std.proofs.lemmas.Bool.{eqb-true, eqb-false, ne_eqb, eq-eqb, ltb-true, ltb-false, lt-ltb, leb-true, cases_eq, cases_lt}
 use Rattle.hg_base.specs.Packed.{count_at, IsWidth, fields_of, bits_of, words_of, field}
 use Rattle.hg_defs.specs.Hypergraph.{Hyper, IsHypergraph, vertex_count, net_count, net_of, Suits}
@@ -70,7 +72,9 @@ module _ (h : Hyper) (k : ℕ) where
       let sum = sum_below-constant k (net_count h) in
       omega arith
 
-  parts_apart : (e i x y : ℕ) → e < net_count h → i < net_count h → i ≢ e → x < net_words h k e → y < net_words h k i → net_start h k i + y ≢ net_start h k e + x
+  parts_apart : (e i x y : ℕ) → e < net_count h → i < net_count h → i ≢ e → x < net_words h k e → y < net_words h k i → net_start h k i + y ≢ net_start h k
+      e +
+      x
   parts_apart e i x y l m other a b = by (cases_lt i e)
     where
       by : (i < e) ⊎ (e ≤ i) → net_start h k i + y ≢ net_start h k e + x
@@ -106,16 +110,19 @@ eq_flip a b = by (nat_eq b a) refl
 pub one_flip : (a b : ℕ) → weight_if a b 1 ≡ weight_if b a 1
 one_flip a b = ap (λ t. if t then 1 else 0) (eq_flip a b)
 
-pub part_inside : (h : Hyper) (k : ℕ) (starts words : List ℕ) (e b start bits : ℕ) → HasLayout h k starts words → e < net_count h → b < k → start ≡ net_start h k e → bits ≡ net_bits h e → start + b / fields_of bits < length words
+pub part_inside : (h : Hyper) (k : ℕ) (starts words : List ℕ) (e b start bits : ℕ) → HasLayout h k starts words → e < net_count h → b < k →
+    start ≡ net_start h k e → bits ≡ net_bits h e → start + b / fields_of bits < length words
 part_inside h k starts words e b start bits laid l low es eb =
     let enough = fields_enough (length (net_of h e).pins) k in
     let inside = word_below (net_bits h e) (net_words h k e) b (bits_width (length (net_of h e).pins)) (omega arith) in
     let part = net_part h k e l in
     let all = laid.all in
-    let same : start + b / fields_of bits ≡ net_start h k e + b / fields_of (net_bits h e) = ap (λ s. s + b / fields_of bits) es ∙ ap (λ w. net_start h k e + b / fields_of w) eb in
+    let same : start + b / fields_of bits ≡ net_start h k e + b / fields_of (net_bits h e) = ap (λ s. s + b / fields_of bits) es ∙
+    ap (λ w. net_start h k e + b / fields_of w) eb in
     omega arith
 
-pub count_same : (h : Hyper) (k e start bits : ℕ) → start ≡ net_start h k e → bits ≡ net_bits h e → (words : List ℕ) (b : ℕ) → count_at words start bits b ≡ count_at words (net_start h k e) (net_bits h e) b
+pub count_same : (h : Hyper) (k e start bits : ℕ) → start ≡ net_start h k e → bits ≡ net_bits h e → (words : List ℕ) (b : ℕ) → count_at words start bits b ≡
+    count_at words (net_start h k e) (net_bits h e) b
 count_same h k e start bits es eb words b = ap (λ s. count_at words s bits b) es ∙ ap (λ w. count_at words (net_start h k e) w b) eb
 
 before_not : (h : Hyper) (p : List ℕ) (e b : ℕ) → counts_before h p e e b ≡ 0
@@ -147,7 +154,8 @@ before_other h p e i b other = ap (λ t. if t then counts_of h p i b else 0) (by
             from true s = absurd (n (ltb-true a b s))
             from false s = refl
 
-module _ (h : Hyper) (k : ℕ) (p words new : List ℕ) (e start bits : ℕ) (pins : List ℕ) (es : start ≡ net_start h k e) (eb : bits ≡ net_bits h e) (ep : pins ≡ (net_of h e).pins) (l : e < net_count h) (blocks : All (λ b. b < k) p) where
+module _ (h : Hyper) (k : ℕ) (p words new : List ℕ) (e start bits : ℕ) (pins : List ℕ) (es : start ≡ net_start h k e) (eb : bits ≡ net_bits h e)
+    (ep : pins ≡ (net_of h e).pins) (l : e < net_count h) (blocks : All (λ b. b < k) p) where
   pub counted_net :
       ((b : ℕ) → count_at new start bits b ≡ count_at words start bits b + pins_in p pins b)
       → ((i : ℕ) → All (λ b. i ≢ start + b / fields_of bits) p → slice_index new i ≡ slice_index words i)
@@ -177,7 +185,8 @@ module _ (h : Hyper) (k : ℕ) (p words new : List ℕ) (e start bits : ℕ) (pi
 -- ---- one pin moved
 
 -- two blocks have no more pins than there are
-pub pins_in-two : (p pins : List ℕ) (a b k : ℕ) → a < k → b < k → b ≢ a → All (λ v. block_of p v < k) pins → pins_in p pins a + pins_in p pins b ≤ length pins
+pub pins_in-two : (p pins : List ℕ) (a b k : ℕ) → a < k → b < k → b ≢ a → All (λ v. block_of p v < k) pins → pins_in p pins a + pins_in p pins b ≤ length
+    pins
 pins_in-two p pins a b k l m q low =
     let sum = pins_in-sum k p pins low in
     let two = two_within (pins_in p pins) k a b l m q in
@@ -189,7 +198,8 @@ between_other h p after nets i b q = ap (λ t. if t then counts_of h after i b e
 between_done : (h : Hyper) (p after nets : List ℕ) (i b : ℕ) → is_member nat_eq nets i ≡ true → counts_between h p after nets i b ≡ counts_of h after i b
 between_done h p after nets i b q = ap (λ t. if t then counts_of h after i b else counts_of h p i b) q
 
-module _ (h : Hyper) (k : ℕ) (p : List ℕ) (v to e idx : ℕ) (nets : List ℕ) (good : IsHypergraph h) (whole : IsPartition h k p) (vertex : v < vertex_count h) (block : to < k) (other : to ≢ block_of p v) (same : nets ≡ nets_of h v) (at : idx < length nets) (here : e ≡ slice_index nets idx) where
+module _ (h : Hyper) (k : ℕ) (p : List ℕ) (v to e idx : ℕ) (nets : List ℕ) (good : IsHypergraph h) (whole : IsPartition h k p) (vertex : v < vertex_count h)
+    (block : to < k) (other : to ≢ block_of p v) (same : nets ≡ nets_of h v) (at : idx < length nets) (here : e ≡ slice_index nets idx) where
   pub at_net : e < net_count h
   at_net = subst (λ i. i < net_count h) (sym here) (subst (All (λ i. i < net_count h)) (sym same) (nets_of-below h v) idx 0 at)
 
@@ -203,10 +213,12 @@ module _ (h : Hyper) (k : ℕ) (p : List ℕ) (v to e idx : ℕ) (nets : List �
   inside = let x = whole.vertices in omega arith
 
   not_yet : is_member nat_eq (take idx nets) e ≡ false
-  not_yet = subst (λ i. is_member nat_eq (take idx nets) i ≡ false) (sym here) (is_pin_new nets idx (subst IsStrictlyIncreasing (sym same) (nets_of-rising h v)) at)
+  not_yet = subst (λ i. is_member nat_eq (take idx nets) i ≡ false) (sym here)
+      (is_pin_new nets idx (subst IsStrictlyIncreasing (sym same) (nets_of-rising h v)) at)
 
   now : is_member nat_eq (take (idx + 1) nets) e ≡ true
-  now = is_pin_more nets idx e at ∙ ap (λ b. is_member nat_eq (take idx nets) e || b) (eq-eqb e (slice_index nets idx) here) ∙ or-true (is_member nat_eq (take idx nets) e)
+  now = is_pin_more nets idx e at ∙ ap (λ b. is_member nat_eq (take idx nets) e || b) (eq-eqb e (slice_index nets idx) here) ∙
+      or-true (is_member nat_eq (take idx nets) e)
 
   still : (i : ℕ) → i ≢ e → is_member nat_eq (take (idx + 1) nets) i ≡ is_member nat_eq (take idx nets) i
   still i q =
@@ -218,7 +230,8 @@ module _ (h : Hyper) (k : ℕ) (p : List ℕ) (v to e idx : ℕ) (nets : List �
   changed_counts c =
       let once = times_of-once (net_of h e).pins v rising at_pin in
       let change =
-      subst (λ n. pins_in (slice_set p v to) (net_of h e).pins c + n * weight_if (block_of p v) c 1 ≡ pins_in p (net_of h e).pins c + n * weight_if to c 1) once
+      subst (λ n. pins_in (slice_set p v to) (net_of h e).pins c + n * weight_if (block_of p v) c 1 ≡ pins_in p (net_of h e).pins c + n * weight_if to c 1)
+      once
       (pins_in-set p (net_of h e).pins v to c inside) in
       let a = one_flip c (block_of p v) in
       let b = one_flip c to in
@@ -227,7 +240,8 @@ module _ (h : Hyper) (k : ℕ) (p : List ℕ) (v to e idx : ℕ) (nets : List �
   old_held : 0 < counts_of h p e (block_of p v)
   old_held = let change = pins_in-set_old p (net_of h e).pins v to inside rising at_pin other in omega arith
 
-  module _ (words : List ℕ) (start bits : ℕ) (es : start ≡ net_start h k e) (eb : bits ≡ net_bits h e) (held : HoldsCounts h k words (counts_between h p (moved p v to) (take idx nets))) where
+  module _ (words : List ℕ) (start bits : ℕ) (es : start ≡ net_start h k e) (eb : bits ≡ net_bits h e)
+      (held : HoldsCounts h k words (counts_between h p (moved p v to) (take idx nets))) where
     old_block : block_of p v < k
     old_block = whole.blocks v 0 inside
 
@@ -245,7 +259,8 @@ module _ (h : Hyper) (k : ℕ) (p : List ℕ) (v to e idx : ℕ) (nets : List �
       pin_room few =
           let n = now_at to (within to block) in
           let l = lowered to in
-          let two = pins_in-two p (net_of h e).pins (block_of p v) to k old_block block other (blocks_of_pins k p (net_of h e).pins whole.blocks (subst (λ n. All (λ u. u < n) (net_of h e).pins) (sym whole.vertices) (good.nets e (record { weight = 0; pins = [] }) at_net).pins)) in
+          let two = pins_in-two p (net_of h e).pins (block_of p v) to k old_block block other (blocks_of_pins k p (net_of h e).pins whole.blocks
+          (subst (λ n. All (λ u. u < n) (net_of h e).pins) (sym whole.vertices) (good.nets e (record { weight = 0; pins = [] }) at_net).pins)) in
           let z = old_held in
           let room = bits_room (length (net_of h e).pins) few in
           let width = ap (λ w. 2 ^ w) eb in
@@ -258,7 +273,8 @@ module _ (h : Hyper) (k : ℕ) (p : List ℕ) (v to e idx : ℕ) (nets : List �
           → ((i : ℕ) → i ≢ start + to / fields_of bits → slice_index new i ≡ slice_index mid i)
           → HoldsCounts h k new (counts_between h p (moved p v to) (take (idx + 1) nets))
       pin_moved new mid_others raised new_others =
-          HoldsCounts-net h k words new (counts_between h p (moved p v to) (take idx nets)) (counts_between h p (moved p v to) (take (idx + 1) nets)) e held at_net
+          HoldsCounts-net h k words new (counts_between h p (moved p v to) (take idx nets)) (counts_between h p (moved p v to) (take (idx + 1) nets)) e held
+          at_net
           (λ b low.
           let a = count_same h k e start bits es eb new b in
           let n = now_at b low in
@@ -284,25 +300,31 @@ member_filter : (test : ℕ → Bool) (xs : List ℕ) (e : ℕ) → test e ≡ t
 member_filter test [] e t m = m
 member_filter test (x ∷ xs) e t m = by (nat_eq e x) (test x) refl refl m (member_filter test xs e t)
   where
-    by : (s u : Bool) → nat_eq e x ≡ s → test x ≡ u → (s || is_member nat_eq xs e) ≡ true → (is_member nat_eq xs e ≡ true → is_member nat_eq (filter test xs) e ≡ true) → is_member nat_eq (cond u (x ∷ filter test xs) (filter test xs)) e ≡ true
+    by : (s u : Bool) → nat_eq e x ≡ s → test x ≡ u → (s || is_member nat_eq xs e) ≡ true →
+        (is_member nat_eq xs e ≡ true → is_member nat_eq (filter test xs) e ≡ true) → is_member nat_eq (cond u (x ∷ filter test xs) (filter test xs)) e ≡
+        true
     by true true q r m f = ap (λ b. b || is_member nat_eq (filter test xs) e) q
     by true false q r m f = absurd (true≢false (sym t ∙ ap test (eqb-true e x q) ∙ r))
     by false true q r m f = ap (λ b. nat_eq e x || b) (f m) ∙ or-true (nat_eq e x)
     by false false q r m f = f m
 
-between_all : (h : Hyper) (p : List ℕ) (v to e b : ℕ) → v < length p → e < net_count h → counts_between h p (moved p v to) (nets_of h v) e b ≡ counts_of h (moved p v to) e b
+between_all : (h : Hyper) (p : List ℕ) (v to e b : ℕ) → v < length p → e < net_count h → counts_between h p (moved p v to) (nets_of h v) e b ≡ counts_of h
+    (moved p v to) e b
 between_all h p v to e b inside l = by (is_member nat_eq (nets_of h v) e) refl
   where
-    by : (t : Bool) → is_member nat_eq (nets_of h v) e ≡ t → (if t then counts_of h (moved p v to) e b else counts_of h p e b) ≡ counts_of h (moved p v to) e b
+    by : (t : Bool) → is_member nat_eq (nets_of h v) e ≡ t → (if t then counts_of h (moved p v to) e b else counts_of h p e b) ≡ counts_of h (moved p v to)
+        e b
     by true q = refl
     by false q =
         sym
         (pins_in-set_apart p (net_of h e).pins v to inside
         (λ c.
         let on = (is_member-Decides Decides-eqb (net_of h e).pins v).1 c in
-        let listed = list_any_at (nat_eq e) (range_with_len 0 (net_count h)) e 0 (let n = length-range_with_len 0 (net_count h) in omega arith) (eq-eqb e (get_or (range_with_len 0 (net_count h)) e 0) (let g = get_or-range_with_len 0 (net_count h) e 0 l in omega arith)) in
+        let listed = list_any_at (nat_eq e) (range_with_len 0 (net_count h)) e 0 (let n = length-range_with_len 0 (net_count h) in omega arith)
+        (eq-eqb e (get_or (range_with_len 0 (net_count h)) e 0) (let g = get_or-range_with_len 0 (net_count h) e 0 l in omega arith)) in
         absurd (true≢false (sym (member_filter (is_on h v) (range_with_len 0 (net_count h)) e on listed) ∙ q)))
         b)
 
-pub all_moved : (h : Hyper) (k : ℕ) (p words : List ℕ) (v to : ℕ) → v < length p → HoldsCounts h k words (counts_between h p (moved p v to) (nets_of h v)) → HoldsCounts h k words (counts_of h (moved p v to))
+pub all_moved : (h : Hyper) (k : ℕ) (p words : List ℕ) (v to : ℕ) → v < length p → HoldsCounts h k words (counts_between h p (moved p v to) (nets_of h v)) →
+    HoldsCounts h k words (counts_of h (moved p v to))
 all_moved h k p words v to inside held e b l low = held e b l low ∙ between_all h p v to e b inside l

@@ -1,5 +1,6 @@
 -- Laws of counts in words: one more or one less in the count of a block, and the other counts.
-use Rattle.std.proofs.Common.{◌≡◌, ◌≢◌, ℕ, ◌+◌, ◌/◌, ◌%◌, ◌<◌, Bool, true, false, if◌then◌else◌, nat_eq, List, length, set, slice_index, refl, sym, ap, ◌∙◌, arith, add-zero}
+use Rattle.std.proofs.Common.{◌≡◌, ◌≢◌, ℕ, ◌+◌, ◌/◌, ◌%◌, ◌<◌, Bool, true, false, if◌then◌else◌, nat_eq, List}
+use Rattle.std.proofs.Common.{length, set, slice_index, refl, sym, ap, ◌∙◌, arith, add-zero}
 use Rattle.std.proofs.lemmas.List.{get_or-set_same, get_or-set_other}
 use Rattle.std.proofs.lemmas.Bool.{eqb-true, eqb-false, ne_eqb, eq-eqb}
 use Rattle.hg_base.specs.Packed.{fields_of, field, count_at}
@@ -32,25 +33,31 @@ module _ (words : List ℕ) (start bits b word : ℕ) (inside : start + b / fiel
       ap (λ w. field w bits (c % fields_of bits)) (get_or-set_other words (start + b / fields_of bits) (start + c / fields_of bits) word 0 other)
 
   -- a word whose field is one more
-  pub raise_count : ((q : ℕ) → field word bits q ≡ field before bits q + (if nat_eq q (b % fields_of bits) then 1 else 0)) → (c : ℕ) → count_at after start bits c ≡ count_at words start bits c + (if nat_eq c b then 1 else 0)
+  pub raise_count : ((q : ℕ) → field word bits q ≡ field before bits q + (if nat_eq q (b % fields_of bits) then 1 else 0)) → (c : ℕ) →
+      count_at after start bits c ≡ count_at words start bits c + (if nat_eq c b then 1 else 0)
   raise_count fields c = by (nat_eq (c / fields_of bits) (b / fields_of bits)) refl
     where
-      by : (t : Bool) → nat_eq (c / fields_of bits) (b / fields_of bits) ≡ t → count_at after start bits c ≡ count_at words start bits c + (if nat_eq c b then 1 else 0)
+      by : (t : Bool) → nat_eq (c / fields_of bits) (b / fields_of bits) ≡ t → count_at after start bits c ≡ count_at words start bits c +
+          (if nat_eq c b then 1 else 0)
       by true e =
           let quotient = eqb-true (c / fields_of bits) (b / fields_of bits) e in
           ap (λ w. field w bits (c % fields_of bits)) (read c quotient)
           ∙ fields (c % fields_of bits)
-          ∙ ap (λ x. field (slice_index words (start + x)) bits (c % fields_of bits) + (if nat_eq (c % fields_of bits) (b % fields_of bits) then 1 else 0)) (sym quotient)
+          ∙ ap (λ x. field (slice_index words (start + x)) bits (c % fields_of bits) + (if nat_eq (c % fields_of bits) (b % fields_of bits) then 1 else 0))
+          (sym quotient)
           ∙ ap (λ t. count_at words start bits c + (if t then 1 else 0)) (same_place (fields_of bits) b c quotient)
       by false e =
           let apart = eqb-false (c / fields_of bits) (b / fields_of bits) e in
-          far c apart ∙ sym (add-zero (count_at words start bits c)) ∙ ap (λ t. count_at words start bits c + (if t then 1 else 0)) (sym (other_place (fields_of bits) b c apart))
+          far c apart ∙ sym (add-zero (count_at words start bits c)) ∙ ap (λ t. count_at words start bits c + (if t then 1 else 0))
+          (sym (other_place (fields_of bits) b c apart))
 
   -- a word whose field is one less
-  pub lower_count : ((q : ℕ) → field word bits q + (if nat_eq q (b % fields_of bits) then 1 else 0) ≡ field before bits q) → (c : ℕ) → count_at after start bits c + (if nat_eq c b then 1 else 0) ≡ count_at words start bits c
+  pub lower_count : ((q : ℕ) → field word bits q + (if nat_eq q (b % fields_of bits) then 1 else 0) ≡ field before bits q) → (c : ℕ) →
+      count_at after start bits c + (if nat_eq c b then 1 else 0) ≡ count_at words start bits c
   lower_count fields c = by (nat_eq (c / fields_of bits) (b / fields_of bits)) refl
     where
-      by : (t : Bool) → nat_eq (c / fields_of bits) (b / fields_of bits) ≡ t → count_at after start bits c + (if nat_eq c b then 1 else 0) ≡ count_at words start bits c
+      by : (t : Bool) → nat_eq (c / fields_of bits) (b / fields_of bits) ≡ t → count_at after start bits c + (if nat_eq c b then 1 else 0) ≡ count_at words
+          start bits c
       by true e =
           let quotient = eqb-true (c / fields_of bits) (b / fields_of bits) e in
           ap (λ w. field w bits (c % fields_of bits) + (if nat_eq c b then 1 else 0)) (read c quotient)

@@ -1,5 +1,6 @@
 -- A gain by the pin counts: what the nets of the vertex save, less what they lose.
-use Rattle.std.proofs.Common.{◌≡◌, ◌≢◌, ℕ, zero, suc, ◌+◌, ◌*◌, ◌<◌, ◌≤◌, Bool, true, false, not, ◌&&◌, if◌then◌else◌, nat_eq, nat_lt, List, [], ◌∷◌, length, map, All, Contains, get_or, slice_set, pos, ◌-ℤ◌, refl, sym, ap, ◌∙◌, subst, arith}
+use Rattle.std.proofs.Common.{◌≡◌, ◌≢◌, ℕ, zero, suc, ◌+◌, ◌*◌, ◌<◌, ◌≤◌, Bool, true, false, not, ◌&&◌, if◌then◌else◌, nat_eq, nat_lt, List, [], ◌∷◌}
+use Rattle.std.proofs.Common.{length, map, All, Contains, get_or, slice_set, pos, ◌-ℤ◌, refl, sym, ap, ◌∙◌, subst, arith}
 use Rattle.std.proofs.lemmas.Bool.{eqb-true, eqb-false, ne_eqb, eq-eqb, ltb-true, ltb-false}
 use Rattle.std.proofs.lemmas.List.{length-set}
 use Rattle.std.proofs.lemmas.List.Elements.{All-set, filter_passes}
@@ -17,7 +18,8 @@ use Rattle.hg_defs.specs.Pins.{pins_in, present}
 use Rattle.hg_defs.specs.Moves.{moved, gain}
 use Rattle.hg_defs.specs.MoveLaws.{connectivity_after, net_gain}
 use Rattle.hg_defs.proofs.SumLaws.{sum_below-only, sum_below-change, sum_below-zero_each, sum_below_at-le, total_z-difference, total_z-same}
-use Rattle.hg_defs.proofs.DistinctLaws.{present-zero, present-positive, pins_in-sum, connectivity-sum, pins_in-set_new, connectivity-set, blocks_of_pins, pins_in-times, times_of-positive, Contains-map, connectivity-positive}
+use Rattle.hg_defs.proofs.DistinctLaws.{present-zero, present-positive, pins_in-sum, connectivity-sum, pins_in-set_new, connectivity-set}
+use Rattle.hg_defs.proofs.DistinctLaws.{blocks_of_pins, pins_in-times, times_of-positive, Contains-map, connectivity-positive}
 use Rattle.hg_defs.proofs.SortLaws.{Contains-nil}
 use Rattle.hg_defs.proofs.MoveLaws.{gain_is_local}
 use Rattle.hg_defs.specs.Incidence.{is_on, nets_of}
@@ -52,13 +54,17 @@ record Moves (d d' a b size : ℕ) : Type 0 where
   whole_before : nat_eq d 1 ≡ nat_eq a size
   whole_after : nat_eq d' 1 ≡ nat_eq (b + 1) size
 
-connectivity_change : (d d' a b size : ℕ) → Moves d d' a b size → price Connectivity d' + saved Connectivity b size ≡ price Connectivity d + lost Connectivity a size
+connectivity_change : (d d' a b size : ℕ) → Moves d d' a b size → price Connectivity d' + saved Connectivity b size ≡ price Connectivity d + lost
+    Connectivity
+    a size
 connectivity_change d d' a b size m =
     let x = price_connectivity d m.before in
     let y = price_connectivity d' m.after in
     by (nat_eq a 1) (nat_eq b 0) (nat_lt 0 b) refl refl refl m.change x y
   where
-    by : (s t u : Bool) → nat_eq a 1 ≡ s → nat_eq b 0 ≡ t → nat_lt 0 b ≡ u → d' + (if s then 1 else 0) ≡ d + (if t then 1 else 0) → price Connectivity d + 1 ≡ d → price Connectivity d' + 1 ≡ d' → price Connectivity d' + (if u then 1 else 0) ≡ price Connectivity d + (if s then 0 else 1)
+    by : (s t u : Bool) → nat_eq a 1 ≡ s → nat_eq b 0 ≡ t → nat_lt 0 b ≡ u → d' + (if s then 1 else 0) ≡ d + (if t then 1 else 0) →
+        price Connectivity d + 1 ≡ d → price Connectivity d' + 1 ≡ d' → price Connectivity d' + (if u then 1 else 0) ≡ price Connectivity d +
+        (if s then 0 else 1)
     by s true true e f g c x y = let r = eqb-true b 0 f in let q = ltb-true 0 b g in absurd (omega arith)
     by s false false e f g c x y = let r = eqb-false b 0 f in let q = ltb-false 0 b g in absurd (r (omega arith))
     by true true false e f g c x y = omega arith
@@ -75,22 +81,39 @@ cut_change d d' a b size m =
     by : (s t u w : Bool) → nat_eq a size ≡ s → nat_eq (b + 1) size ≡ t → nat_eq size 1 ≡ u → nat_lt 0 b ≡ w
         → price CutNet d ≡ (if s then 0 else 1) → price CutNet d' ≡ (if t then 0 else 1)
         → price CutNet d' + (if w && t then 1 else 0) ≡ price CutNet d + (if s && not u then 1 else 0)
-    by true true true true e f g i x y = let p = eqb-true a size e in let q = eqb-true (b + 1) size f in let r = eqb-true size 1 g in let z = ltb-true 0 b i in let all = m.all in let old = m.old in omega arith
-    by true true true false e f g i x y = let p = eqb-true a size e in let q = eqb-true (b + 1) size f in let r = eqb-true size 1 g in let z = ltb-false 0 b i in let all = m.all in let old = m.old in omega arith
-    by true true false true e f g i x y = let p = eqb-true a size e in let q = eqb-true (b + 1) size f in let r = eqb-false size 1 g in let z = ltb-true 0 b i in let all = m.all in let old = m.old in omega arith
-    by true true false false e f g i x y = let p = eqb-true a size e in let q = eqb-true (b + 1) size f in let r = eqb-false size 1 g in let z = ltb-false 0 b i in let all = m.all in let old = m.old in omega arith
-    by true false true true e f g i x y = let p = eqb-true a size e in let q = eqb-false (b + 1) size f in let r = eqb-true size 1 g in let z = ltb-true 0 b i in let all = m.all in let old = m.old in omega arith
-    by true false true false e f g i x y = let p = eqb-true a size e in let q = eqb-false (b + 1) size f in let r = eqb-true size 1 g in let z = ltb-false 0 b i in let all = m.all in let old = m.old in omega arith
-    by true false false true e f g i x y = let p = eqb-true a size e in let q = eqb-false (b + 1) size f in let r = eqb-false size 1 g in let z = ltb-true 0 b i in let all = m.all in let old = m.old in omega arith
-    by true false false false e f g i x y = let p = eqb-true a size e in let q = eqb-false (b + 1) size f in let r = eqb-false size 1 g in let z = ltb-false 0 b i in let all = m.all in let old = m.old in omega arith
-    by false true true true e f g i x y = let p = eqb-false a size e in let q = eqb-true (b + 1) size f in let r = eqb-true size 1 g in let z = ltb-true 0 b i in let all = m.all in let old = m.old in omega arith
-    by false true true false e f g i x y = let p = eqb-false a size e in let q = eqb-true (b + 1) size f in let r = eqb-true size 1 g in let z = ltb-false 0 b i in let all = m.all in let old = m.old in omega arith
-    by false true false true e f g i x y = let p = eqb-false a size e in let q = eqb-true (b + 1) size f in let r = eqb-false size 1 g in let z = ltb-true 0 b i in let all = m.all in let old = m.old in omega arith
-    by false true false false e f g i x y = let p = eqb-false a size e in let q = eqb-true (b + 1) size f in let r = eqb-false size 1 g in let z = ltb-false 0 b i in let all = m.all in let old = m.old in omega arith
-    by false false true true e f g i x y = let p = eqb-false a size e in let q = eqb-false (b + 1) size f in let r = eqb-true size 1 g in let z = ltb-true 0 b i in let all = m.all in let old = m.old in omega arith
-    by false false true false e f g i x y = let p = eqb-false a size e in let q = eqb-false (b + 1) size f in let r = eqb-true size 1 g in let z = ltb-false 0 b i in let all = m.all in let old = m.old in omega arith
-    by false false false true e f g i x y = let p = eqb-false a size e in let q = eqb-false (b + 1) size f in let r = eqb-false size 1 g in let z = ltb-true 0 b i in let all = m.all in let old = m.old in omega arith
-    by false false false false e f g i x y = let p = eqb-false a size e in let q = eqb-false (b + 1) size f in let r = eqb-false size 1 g in let z = ltb-false 0 b i in let all = m.all in let old = m.old in omega arith
+    by true true true true e f g i x y = let p = eqb-true a size e in let q = eqb-true (b + 1) size f in let r = eqb-true size 1 g in
+        let z = ltb-true 0 b i in
+        let all = m.all in let old = m.old in omega arith
+    by true true true false e f g i x y = let p = eqb-true a size e in let q = eqb-true (b + 1) size f in let r = eqb-true size 1 g in
+        let z = ltb-false 0 b i in let all = m.all in let old = m.old in omega arith
+    by true true false true e f g i x y = let p = eqb-true a size e in let q = eqb-true (b + 1) size f in let r = eqb-false size 1 g in
+        let z = ltb-true 0 b i in let all = m.all in let old = m.old in omega arith
+    by true true false false e f g i x y = let p = eqb-true a size e in let q = eqb-true (b + 1) size f in let r = eqb-false size 1 g in
+        let z = ltb-false 0 b i in let all = m.all in let old = m.old in omega arith
+    by true false true true e f g i x y = let p = eqb-true a size e in let q = eqb-false (b + 1) size f in let r = eqb-true size 1 g in
+        let z = ltb-true 0 b i in let all = m.all in let old = m.old in omega arith
+    by true false true false e f g i x y = let p = eqb-true a size e in let q = eqb-false (b + 1) size f in let r = eqb-true size 1 g in
+        let z = ltb-false 0 b i in let all = m.all in let old = m.old in omega arith
+    by true false false true e f g i x y = let p = eqb-true a size e in let q = eqb-false (b + 1) size f in let r = eqb-false size 1 g in
+        let z = ltb-true 0 b i in let all = m.all in let old = m.old in omega arith
+    by true false false false e f g i x y = let p = eqb-true a size e in let q = eqb-false (b + 1) size f in let r = eqb-false size 1 g in
+        let z = ltb-false 0 b i in let all = m.all in let old = m.old in omega arith
+    by false true true true e f g i x y = let p = eqb-false a size e in let q = eqb-true (b + 1) size f in let r = eqb-true size 1 g in
+        let z = ltb-true 0 b i in let all = m.all in let old = m.old in omega arith
+    by false true true false e f g i x y = let p = eqb-false a size e in let q = eqb-true (b + 1) size f in let r = eqb-true size 1 g in
+        let z = ltb-false 0 b i in let all = m.all in let old = m.old in omega arith
+    by false true false true e f g i x y = let p = eqb-false a size e in let q = eqb-true (b + 1) size f in let r = eqb-false size 1 g in
+        let z = ltb-true 0 b i in let all = m.all in let old = m.old in omega arith
+    by false true false false e f g i x y = let p = eqb-false a size e in let q = eqb-true (b + 1) size f in let r = eqb-false size 1 g in
+        let z = ltb-false 0 b i in let all = m.all in let old = m.old in omega arith
+    by false false true true e f g i x y = let p = eqb-false a size e in let q = eqb-false (b + 1) size f in let r = eqb-true size 1 g in
+        let z = ltb-true 0 b i in let all = m.all in let old = m.old in omega arith
+    by false false true false e f g i x y = let p = eqb-false a size e in let q = eqb-false (b + 1) size f in let r = eqb-true size 1 g in
+        let z = ltb-false 0 b i in let all = m.all in let old = m.old in omega arith
+    by false false false true e f g i x y = let p = eqb-false a size e in let q = eqb-false (b + 1) size f in let r = eqb-false size 1 g in
+        let z = ltb-true 0 b i in let all = m.all in let old = m.old in omega arith
+    by false false false false e f g i x y = let p = eqb-false a size e in let q = eqb-false (b + 1) size f in let r = eqb-false size 1 g in
+        let z = ltb-false 0 b i in let all = m.all in let old = m.old in omega arith
 
 one_change : (o : Objective) (d d' a b size : ℕ) → Moves d d' a b size → price o d' + saved o b size ≡ price o d + lost o a size
 one_change Connectivity d d' a b size m = connectivity_change d d' a b size m
@@ -171,7 +194,8 @@ nets_of-hold h v i d l =
 
 -- ---- a net that holds the moved vertex
 
-module _ (h : Hyper) (k : ℕ) (p : List ℕ) (v b e : ℕ) (good : IsHypergraph h) (whole : IsPartition h k p) (vertex : v < vertex_count h) (block : b < k) (other : b ≢ block_of p v) (net : e < net_count h) (pin : Contains (net_of h e).pins v) where
+module _ (h : Hyper) (k : ℕ) (p : List ℕ) (v b e : ℕ) (good : IsHypergraph h) (whole : IsPartition h k p) (vertex : v < vertex_count h) (block : b < k)
+    (other : b ≢ block_of p v) (net : e < net_count h) (pin : Contains (net_of h e).pins v) where
   pins : List ℕ
   pins = (net_of h e).pins
 
@@ -193,7 +217,8 @@ module _ (h : Hyper) (k : ℕ) (p : List ℕ) (v b e : ℕ) (good : IsHypergraph
   moved_below : All (λ u. u < length (slice_set p v b)) (net_of h e).pins
   moved_below = subst (λ n. All (λ u. u < n) (net_of h e).pins) (sym (length-set p v b)) below
 
-  moves : Moves (connectivity p (net_of h e).pins) (connectivity (moved p v b) (net_of h e).pins) (pins_in p (net_of h e).pins (block_of p v)) (pins_in p (net_of h e).pins b) (length (net_of h e).pins)
+  moves : Moves (connectivity p (net_of h e).pins) (connectivity (moved p v b) (net_of h e).pins) (pins_in p (net_of h e).pins (block_of p v))
+      (pins_in p (net_of h e).pins b) (length (net_of h e).pins)
   moves = record {
     before = some_blocks p (net_of h e).pins v pin;
     after = some_blocks (moved p v b) (net_of h e).pins v pin;
@@ -226,9 +251,11 @@ module _ (h : Hyper) (k : ℕ) (p : List ℕ) (v b e : ℕ) (good : IsHypergraph
   pub net_gain_counted : net_gain h p v b (net_of h e) ≡ pos (net_saved h p b e) -ℤ pos (net_lost h p (block_of p v) e)
   net_gain_counted =
       let m = moves in
-      let after : connectivity_after p (net_of h e).pins (block_of p v) b ≡ connectivity (moved p v b) (net_of h e).pins = let c = m.change in omega arith in
+      let after : connectivity_after p (net_of h e).pins (block_of p v) b ≡ connectivity (moved p v b) (net_of h e).pins = let c = m.change in
+      omega arith in
       let one =
-      one_change h.objective (connectivity p (net_of h e).pins) (connectivity (moved p v b) (net_of h e).pins) (pins_in p (net_of h e).pins (block_of p v)) (pins_in p (net_of h e).pins b)
+      one_change h.objective (connectivity p (net_of h e).pins) (connectivity (moved p v b) (net_of h e).pins) (pins_in p (net_of h e).pins (block_of p v))
+      (pins_in p (net_of h e).pins b)
       (length (net_of h e).pins) m in
       ap (λ c. pos ((net_of h e).weight * price h.objective (connectivity p (net_of h e).pins)) -ℤ pos ((net_of h e).weight * price h.objective c)) after
       ∙ scaled (net_of h e).weight (price h.objective (connectivity p (net_of h e).pins)) (price h.objective (connectivity (moved p v b) (net_of h e).pins))
@@ -237,7 +264,8 @@ module _ (h : Hyper) (k : ℕ) (p : List ℕ) (v b e : ℕ) (good : IsHypergraph
 
 -- ---- all nets of the vertex
 
-pub gain_counted : (h : Hyper) (k : ℕ) (p : List ℕ) (v b : ℕ) → IsHypergraph h → IsPartition h k p → v < vertex_count h → b < k → b ≢ block_of p v → gain h p v b ≡ pos (total (net_saved h p b) (nets_of h v)) -ℤ pos (total (net_lost h p (block_of p v)) (nets_of h v))
+pub gain_counted : (h : Hyper) (k : ℕ) (p : List ℕ) (v b : ℕ) → IsHypergraph h → IsPartition h k p → v < vertex_count h → b < k → b ≢ block_of p v →
+    gain h p v b ≡ pos (total (net_saved h p b) (nets_of h v)) -ℤ pos (total (net_lost h p (block_of p v)) (nets_of h v))
 gain_counted h k p v b good whole vertex block other =
     gain_is_local h p v b good whole.vertices vertex other
     ∙ total_z-same (λ e. net_gain h p v b (net_of h e)) (λ e. pos (net_saved h p b e) -ℤ pos (net_lost h p (block_of p v) e)) (nets_of h v)

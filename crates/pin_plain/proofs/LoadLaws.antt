@@ -1,5 +1,6 @@
 -- Laws of the loads that a partition keeps.
-use Rattle.std.proofs.Common.{◌≡◌, ◌≢◌, ◌⊎◌, inl, inr, pos, ◌-ℤ◌, ◌^◌, ℕ, ◌+◌, ◌-◌, ◌<◌, ◌≤◌, List, ◌++◌, All, length, take, drop, get_or, slice_index, slice_set, refl, sym, ap, subst, ◌∙◌, arith}
+use Rattle.std.proofs.Common.{◌≡◌, ◌≢◌, ◌⊎◌, inl, inr, pos, ◌-ℤ◌, ◌^◌, ℕ, ◌+◌, ◌-◌, ◌<◌, ◌≤◌, List, ◌++◌, All, length, take}
+use Rattle.std.proofs.Common.{drop, get_or, slice_index, slice_set, refl, sym, ap, subst, ◌∙◌, arith}
 use Rattle.std.proofs.lemmas.List.{length-set, length-map, get_or-set_same, get_or-set_other}
 use Rattle.std.proofs.lemmas.Bool.{cases_eq}
 use Rattle.std.proofs.lemmas.Int.{ints}
@@ -24,15 +25,20 @@ pub weight_added :
     (ws p loads : List ℕ) (v : ℕ) → v < length ws → v < length p → slice_index p v < length loads
     → ((b : ℕ) → b < length loads → slice_index loads b ≡ weight_in (take v ws) (take v p) b)
     → (b : ℕ) → b < length (slice_set loads (slice_index p v) (slice_index loads (slice_index p v) + slice_index ws v))
-    → slice_index (slice_set loads (slice_index p v) (slice_index loads (slice_index p v) + slice_index ws v)) b ≡ weight_in (take (v + 1) ws) (take (v + 1) p) b
+    → slice_index (slice_set loads (slice_index p v) (slice_index loads (slice_index p v) + slice_index ws v)) b ≡ weight_in (take (v + 1) ws)
+    (take (v + 1) p)
+    b
 weight_added ws p loads v l m low known b inside = by (cases_eq b (slice_index p v))
   where
     new : ℕ
     new = slice_index loads (slice_index p v) + slice_index ws v
 
-    by : (b ≡ slice_index p v) ⊎ (b ≢ slice_index p v) → slice_index (slice_set loads (slice_index p v) (slice_index loads (slice_index p v) + slice_index ws v)) b ≡ weight_in (take (v + 1) ws) (take (v + 1) p) b
+    by : (b ≡ slice_index p v) ⊎ (b ≢ slice_index p v) →
+        slice_index (slice_set loads (slice_index p v) (slice_index loads (slice_index p v) + slice_index ws v)) b ≡ weight_in (take (v + 1) ws)
+        (take (v + 1) p) b
     by (inl e) =
-        subst (λ c. slice_index (slice_set loads (slice_index p v) (slice_index loads (slice_index p v) + slice_index ws v)) c ≡ weight_in (take (v + 1) ws) (take (v + 1) p) c) (sym e)
+        subst (λ c. slice_index (slice_set loads (slice_index p v) (slice_index loads (slice_index p v) + slice_index ws v)) c ≡ weight_in (take (v + 1) ws)
+        (take (v + 1) p) c) (sym e)
         (let at = get_or-set_same loads (slice_index p v) (slice_index loads (slice_index p v) + slice_index ws v) 0 low in
         let more = weight_in-take_more ws p v (slice_index p v) l m in
         let was = known (slice_index p v) low in
@@ -48,10 +54,12 @@ weight_added ws p loads v l m low known b inside = by (cases_eq b (slice_index p
 
 -- the weight of a vertex moved from the load of its block to that of another one
 pub weight_moved :
-    (h : Hyper) (k : ℕ) (p loads : List ℕ) (v to : ℕ) → IsLoaded h k p loads → length p ≡ vertex_count h → v < vertex_count h → block_of p v < k → to < k → to ≢ block_of p v
+    (h : Hyper) (k : ℕ) (p loads : List ℕ) (v to : ℕ) → IsLoaded h k p loads → length p ≡ vertex_count h → v < vertex_count h → block_of p v < k → to < k →
+    to ≢ block_of p v
     → IsLoaded h k (moved p v to) (loads_after loads (block_of p v) to (weight_of h v))
 weight_moved h k p loads v to loaded long vertex from block other = record {
-  all = length-set (slice_set loads (block_of p v) (slice_index loads (block_of p v) - weight_of h v)) to _ ∙ length-set loads (block_of p v) _ ∙ loaded.all;
+  all = length-set (slice_set loads (block_of p v) (slice_index loads (block_of p v) - weight_of h v)) to _ ∙ length-set loads (block_of p v) _ ∙
+      loaded.all;
   each = λ b low. by b low (cases_eq b to) (cases_eq b (block_of p v));
 }
   where
@@ -59,40 +67,47 @@ weight_moved h k p loads v to loaded long vertex from block other = record {
     less = slice_index loads (block_of p v) - weight_of h v
 
     by : (b : ℕ) → b < k → (b ≡ to) ⊎ (b ≢ to) → (b ≡ block_of p v) ⊎ (b ≢ block_of p v)
-        → slice_index (slice_set (slice_set loads (block_of p v) (slice_index loads (block_of p v) - weight_of h v)) to (slice_index (slice_set loads (block_of p v) (slice_index loads (block_of p v) - weight_of h v)) to + weight_of h v)) b
+        → slice_index (slice_set (slice_set loads (block_of p v) (slice_index loads (block_of p v) - weight_of h v)) to
+        (slice_index (slice_set loads (block_of p v) (slice_index loads (block_of p v) - weight_of h v)) to + weight_of h v)) b
         ≡ load h (moved p v to) b
     by b low (inl e) f =
         subst
-        (λ c. slice_index (slice_set (slice_set loads (block_of p v) (slice_index loads (block_of p v) - weight_of h v)) to (slice_index (slice_set loads (block_of p v) (slice_index loads (block_of p v) - weight_of h v)) to + weight_of h v)) c
+        (λ c. slice_index (slice_set (slice_set loads (block_of p v) (slice_index loads (block_of p v) - weight_of h v)) to
+        (slice_index (slice_set loads (block_of p v) (slice_index loads (block_of p v) - weight_of h v)) to + weight_of h v)) c
         ≡ load h (moved p v to) c)
         (sym e)
         (let len = length-set loads (block_of p v) (slice_index loads (block_of p v) - weight_of h v) in
         let all = loaded.all in
-        let at = get_or-set_same (slice_set loads (block_of p v) (slice_index loads (block_of p v) - weight_of h v)) to (slice_index (slice_set loads (block_of p v) (slice_index loads (block_of p v) - weight_of h v)) to + weight_of h v) 0 (omega arith) in
+        let at = get_or-set_same (slice_set loads (block_of p v) (slice_index loads (block_of p v) - weight_of h v)) to
+        (slice_index (slice_set loads (block_of p v) (slice_index loads (block_of p v) - weight_of h v)) to + weight_of h v) 0 (omega arith) in
         let was = get_or-set_other loads (block_of p v) to (slice_index loads (block_of p v) - weight_of h v) 0 other in
         let known = loaded.each to block in
         let law = load-moved_new h p v to long vertex other in
         omega arith)
     by b low (inr q) (inl f) =
         subst
-        (λ c. slice_index (slice_set (slice_set loads (block_of p v) (slice_index loads (block_of p v) - weight_of h v)) to (slice_index (slice_set loads (block_of p v) (slice_index loads (block_of p v) - weight_of h v)) to + weight_of h v)) c
+        (λ c. slice_index (slice_set (slice_set loads (block_of p v) (slice_index loads (block_of p v) - weight_of h v)) to
+        (slice_index (slice_set loads (block_of p v) (slice_index loads (block_of p v) - weight_of h v)) to + weight_of h v)) c
         ≡ load h (moved p v to) c)
         (sym f)
         (let all = loaded.all in
-        let at = get_or-set_other (slice_set loads (block_of p v) (slice_index loads (block_of p v) - weight_of h v)) to (block_of p v) (slice_index (slice_set loads (block_of p v) (slice_index loads (block_of p v) - weight_of h v)) to + weight_of h v) 0 (λ r. other (sym r)) in
+        let at = get_or-set_other (slice_set loads (block_of p v) (slice_index loads (block_of p v) - weight_of h v)) to (block_of p v)
+        (slice_index (slice_set loads (block_of p v) (slice_index loads (block_of p v) - weight_of h v)) to + weight_of h v) 0 (λ r. other (sym r)) in
         let was = get_or-set_same loads (block_of p v) (slice_index loads (block_of p v) - weight_of h v) 0 (omega arith) in
         let known = loaded.each (block_of p v) from in
         let law = load-moved_old h p v to long vertex other in
         omega arith)
     by b low (inr q) (inr r) =
-        let at = get_or-set_other (slice_set loads (block_of p v) (slice_index loads (block_of p v) - weight_of h v)) to b (slice_index (slice_set loads (block_of p v) (slice_index loads (block_of p v) - weight_of h v)) to + weight_of h v) 0 q in
+        let at = get_or-set_other (slice_set loads (block_of p v) (slice_index loads (block_of p v) - weight_of h v)) to b
+        (slice_index (slice_set loads (block_of p v) (slice_index loads (block_of p v) - weight_of h v)) to + weight_of h v) 0 q in
         let was = get_or-set_other loads (block_of p v) b (slice_index loads (block_of p v) - weight_of h v) 0 r in
         let known = loaded.each b low in
         let law = load-moved_other h p v to b long vertex r q in
         omega arith
 
 -- a vertex weighs no more than its block
-pub weight_within : (h : Hyper) (k : ℕ) (p loads : List ℕ) (v to : ℕ) → IsLoaded h k p loads → length p ≡ vertex_count h → v < vertex_count h → block_of p v < k → to ≢ block_of p v → weight_of h v ≤ slice_index loads (block_of p v)
+pub weight_within : (h : Hyper) (k : ℕ) (p loads : List ℕ) (v to : ℕ) → IsLoaded h k p loads → length p ≡ vertex_count h → v < vertex_count h →
+    block_of p v < k → to ≢ block_of p v → weight_of h v ≤ slice_index loads (block_of p v)
 weight_within h k p loads v to loaded long vertex from other =
     let law = load-moved_old h p v to long vertex other in
     let known = loaded.each (block_of p v) from in
@@ -102,7 +117,9 @@ weight_within h k p loads v to loaded long vertex from other =
 pub kept_shifted :
     (h : Hyper) (k : ℕ) (p q loads starts widths words : List ℕ) (v to n m : ℕ) (new_loads old_loads new_words old_words : List ℕ)
     → IsTallied h k p loads starts widths words → to < k → q ≡ moved p v to
-    → IsLoaded h k (moved p v to) new_loads → HoldsCounts h k new_words (counts_of h (moved p v to)) → length new_words ≡ length words → length new_loads ≡ n → length new_words ≡ m
+    → IsLoaded h k (moved p v to) new_loads → HoldsCounts h k new_words (counts_of h (moved p v to)) → length new_words ≡ length words →
+    length new_loads ≡ n →
+    length new_words ≡ m
     → IsTallied h k q (take n (new_loads ++ drop (length new_loads) old_loads)) starts widths (take m (new_words ++ drop (length new_words) old_words))
 kept_shifted h k p q loads starts widths words v to n m new_loads old_loads new_words old_words kept low same loaded counted long ln lm =
     subst (λ ls. IsTallied h k q ls starts widths (take m (new_words ++ drop (length new_words) old_words))) (sym (written_back n new_loads old_loads ln))
@@ -133,16 +150,22 @@ signed_difference a b l m = omega (arith, ints)
 
 -- ---- a partition after a map
 
-pub after_partition : (h fine : Hyper) (k : ℕ) (p clusters : List ℕ) → IsPartition h k p → length clusters ≡ vertex_count fine → All (λ v. v < vertex_count h) clusters → IsPartition fine k (after p clusters)
+pub after_partition : (h fine : Hyper) (k : ℕ) (p clusters : List ℕ) → IsPartition h k p → length clusters ≡ vertex_count fine →
+    All (λ v. v < vertex_count h)
+    clusters → IsPartition fine k (after p clusters)
 after_partition h fine k p clusters whole long low = record {
   vertices = length-map clusters (block_of p) ∙ long;
-  blocks = All-map (λ b. b < k) (block_of p) clusters (λ i d l. whole.blocks (get_or clusters i d) 0 (let n = whole.vertices in let m = low i d l in omega arith));
+  blocks = All-map (λ b. b < k) (block_of p) clusters (λ i d l. whole.blocks (get_or clusters i d) 0 (let n = whole.vertices in let m = low i d l in
+      omega arith));
 }
 
 pub after_keeps : (coarse fine : Hyper) (p clusters : List ℕ) → length p ≡ vertex_count coarse → KeepsCost coarse p fine clusters (after p clusters)
 after_keeps coarse fine p clusters long count ready same =
-    let size : length p ≡ count = long ∙ ap vertex_count same ∙ contract_size fine clusters count in
-    (cost_kept fine clusters count p ready ∙ ap (λ (x : Hyper). cost x p) (sym same), λ b. loads_kept fine clusters count p b ready size ∙ ap (λ (x : Hyper). load x p b) (sym same))
+    let size : length p ≡ count = long ∙ ap vertex_count same ∙ contract_size fine clusters count in (
+      cost_kept fine clusters count p ready ∙ ap (λ (x : Hyper). cost x p) (sym same),
+      λ b. loads_kept fine clusters count p b ready size ∙
+          ap (λ (x : Hyper). load x p b) (sym same),
+    )
   where
     contract_size : (h : Hyper) (map_ : List ℕ) (n : ℕ) → vertex_count (contract h map_ n) ≡ n
     contract_size h map_ n = length-map-range_with_len (weight_in h.weights map_) 0 n

@@ -1,5 +1,7 @@
 -- Laws of what nets save and lose: by the counts that are read, and their bounds.
-use Rattle.std.proofs.Common.{◌≡◌, ◌≢◌, ◌⊎◌, inl, inr, ℕ, zero, suc, ◌+◌, ◌-◌, ◌*◌, ◌/◌, ◌%◌, ◌<◌, ◌≤◌, ◌^◌, Bool, true, false, cond, not, ◌&&◌, if◌then◌else◌, nat_eq, nat_lt, List, [], ◌∷◌, length, filter, All, take, drop, get_or, slice_index, sym, ap, subst, ◌∙◌, arith}
+use Rattle.std.proofs.Common.{◌≡◌, ◌≢◌, ◌⊎◌, inl, inr, ℕ, zero, suc, ◌+◌, ◌-◌, ◌*◌, ◌/◌, ◌%◌, ◌<◌, ◌≤◌, ◌^◌}
+use Rattle.std.proofs.Common.{Bool, true, false, cond, not, ◌&&◌, if◌then◌else◌}
+use Rattle.std.proofs.Common.{nat_eq, nat_lt, List, [], ◌∷◌, length, filter, All, take, drop, get_or, slice_index, sym, ap, subst, ◌∙◌, arith}
 use Rattle.std.specs.List.{range_with_len}
 use Rattle.hg_base.specs.Packed.{count_at, fields_of, bits_of, words_of, field}
 use Rattle.hg_defs.specs.declared.objective.Objective.{Objective}
@@ -24,7 +26,8 @@ use Rattle.std.proofs.lemmas.List.FromFn.{length-range_with_len}
 
 -- ---- a count that is read
 
-module _ (h : Hyper) (k : ℕ) (p starts words : List ℕ) (told : IsTold h k p starts words) (e size bits : ℕ) (pins : List ℕ) (net : e < net_count h) (is : pins ≡ (net_of h e).pins) (width : bits ≡ bits_of (length pins)) where
+module _ (h : Hyper) (k : ℕ) (p starts words : List ℕ) (told : IsTold h k p starts words) (e size bits : ℕ) (pins : List ℕ) (net : e < net_count h)
+    (is : pins ≡ (net_of h e).pins) (width : bits ≡ bits_of (length pins)) where
   pub told_bits : bits ≡ net_bits h e
   told_bits = width ∙ ap (λ ps. bits_of (length ps)) is
 
@@ -44,14 +47,18 @@ told_few h k p starts words told =
 
 -- ---- what is saved and lost, of the numbers that are read
 
-pub saved_is : (h : Hyper) (p : List ℕ) (b e w s count size : ℕ) (o : Objective) → w ≡ (net_of h e).weight → o ≡ h.objective → count ≡ counts_of h p e b → size ≡ length (net_of h e).pins → s ≡ saved o count size → w * s ≡ net_saved h p b e
+pub saved_is : (h : Hyper) (p : List ℕ) (b e w s count size : ℕ) (o : Objective) → w ≡ (net_of h e).weight → o ≡ h.objective → count ≡ counts_of h p e b →
+    size ≡ length (net_of h e).pins → s ≡ saved o count size → w * s ≡ net_saved h p b e
 saved_is h p b e w s count size o ew eo ec es is =
-    ap (λ x. w * x) is ∙ ap (λ x. x * saved o count size) ew ∙ ap (λ x. (net_of h e).weight * saved x count size) eo ∙ ap (λ x. (net_of h e).weight * saved h.objective x size) ec
+    ap (λ x. w * x) is ∙ ap (λ x. x * saved o count size) ew ∙ ap (λ x. (net_of h e).weight * saved x count size) eo ∙
+    ap (λ x. (net_of h e).weight * saved h.objective x size) ec
     ∙ ap (λ x. (net_of h e).weight * saved h.objective (counts_of h p e b) x) es
 
-pub lost_is : (h : Hyper) (p : List ℕ) (b e w s count size : ℕ) (o : Objective) → w ≡ (net_of h e).weight → o ≡ h.objective → count ≡ counts_of h p e b → size ≡ length (net_of h e).pins → s ≡ lost o count size → w * s ≡ net_lost h p b e
+pub lost_is : (h : Hyper) (p : List ℕ) (b e w s count size : ℕ) (o : Objective) → w ≡ (net_of h e).weight → o ≡ h.objective → count ≡ counts_of h p e b →
+    size ≡ length (net_of h e).pins → s ≡ lost o count size → w * s ≡ net_lost h p b e
 lost_is h p b e w s count size o ew eo ec es is =
-    ap (λ x. w * x) is ∙ ap (λ x. x * lost o count size) ew ∙ ap (λ x. (net_of h e).weight * lost x count size) eo ∙ ap (λ x. (net_of h e).weight * lost h.objective x size) ec
+    ap (λ x. w * x) is ∙ ap (λ x. x * lost o count size) ew ∙ ap (λ x. (net_of h e).weight * lost x count size) eo ∙
+    ap (λ x. (net_of h e).weight * lost h.objective x size) ec
     ∙ ap (λ x. (net_of h e).weight * lost h.objective (counts_of h p e b) x) es
 
 -- ---- bounds
@@ -90,7 +97,8 @@ chosen false n = omega arith
 nets_weigh : (h : Hyper) (v : ℕ) → total (λ e. (net_of h e).weight) (nets_of h v) ≤ total_net_weight h
 nets_weigh h v =
     let filtered = total-filter (λ e. (net_of h e).weight) (is_on h v) (range_with_len 0 (net_count h)) in
-    let less = total-le (λ e. if is_on h v e then (net_of h e).weight else 0) (λ e. (net_of h e).weight) (range_with_len 0 (net_count h)) (λ i d l. chosen (is_on h v (get_or (range_with_len 0 (net_count h)) i d)) _) in
+    let less = total-le (λ e. if is_on h v e then (net_of h e).weight else 0) (λ e. (net_of h e).weight) (range_with_len 0 (net_count h))
+    (λ i d l. chosen (is_on h v (get_or (range_with_len 0 (net_count h)) i d)) _) in
     let all = total-range (λ e. (net_of h e).weight) (net_count h) in
     let nets = total-by_index (λ e. e.weight) (record { weight = 0; pins = [] }) h.nets in
     omega arith
@@ -109,14 +117,16 @@ saved_bound h p b v bounds = within_twice h v (net_saved h p b) bounds (λ e. tw
 pub lost_bound : (h : Hyper) (p : List ℕ) (a v : ℕ) → IsWithinLimits h → total (net_lost h p a) (nets_of h v) < 2 ^ 55
 lost_bound h p a v bounds = within_twice h v (net_lost h p a) bounds (λ e. twice (net_of h e).weight _ (lost-le h.objective _ _))
 
-pub saved_so_far : (h : Hyper) (p : List ℕ) (b v i : ℕ) (nets : List ℕ) → IsWithinLimits h → nets ≡ nets_of h v → i < length nets → total (net_saved h p b) (take i nets) + net_saved h p b (slice_index nets i) < 2 ^ 55
+pub saved_so_far : (h : Hyper) (p : List ℕ) (b v i : ℕ) (nets : List ℕ) → IsWithinLimits h → nets ≡ nets_of h v → i < length nets →
+    total (net_saved h p b) (take i nets) + net_saved h p b (slice_index nets i) < 2 ^ 55
 saved_so_far h p b v i nets bounds is l =
     let more = total_more-le (net_saved h p b) nets i 0 l in
     let all = ap (total (net_saved h p b)) is in
     let bound = saved_bound h p b v bounds in
     omega arith
 
-pub lost_so_far : (h : Hyper) (p : List ℕ) (a v i : ℕ) (nets : List ℕ) → IsWithinLimits h → nets ≡ nets_of h v → i < length nets → total (net_lost h p a) (take i nets) + net_lost h p a (slice_index nets i) < 2 ^ 55
+pub lost_so_far : (h : Hyper) (p : List ℕ) (a v i : ℕ) (nets : List ℕ) → IsWithinLimits h → nets ≡ nets_of h v → i < length nets →
+    total (net_lost h p a) (take i nets) + net_lost h p a (slice_index nets i) < 2 ^ 55
 lost_so_far h p a v i nets bounds is l =
     let more = total_more-le (net_lost h p a) nets i 0 l in
     let all = ap (total (net_lost h p a)) is in
@@ -140,81 +150,89 @@ split_div i f place l = div-mul-add i f place l
 split_mod : (i f place : ℕ) → place < f → (i * f + place) % f ≡ place
 split_mod i f place l = mod-mul-add i f place l
 
-module _ (h : Hyper) (k : ℕ) (p starts words : List ℕ) (told : IsTold h k p starts words) (e start count bits : ℕ) (pins : List ℕ) (net : e < net_count h) (is : pins ≡ (net_of h e).pins) (width : bits ≡ bits_of (length pins)) (at : start ≡ slice_index starts e) (size : count ≡ words_of (length pins) k) where
-  part_start : start ≡ net_start h k e
-  part_start = at ∙ told.laid.starts_at e net
+module _ (h : Hyper) (k : ℕ) (p starts words : List ℕ) (told : IsTold h k p starts words) (e start count bits : ℕ) (pins : List ℕ) (net : e < net_count h)
+    (is : pins ≡ (net_of h e).pins) (width : bits ≡ bits_of (length pins)) (at : start ≡ slice_index starts e) (size : count ≡ words_of (length pins) k)
+  where
+    part_start : start ≡ net_start h k e
+    part_start = at ∙ told.laid.starts_at e net
 
-  part_size : count ≡ net_words h k e
-  part_size = size ∙ ap (λ ps. words_of (length ps) k) is
+    part_size : count ≡ net_words h k e
+    part_size = size ∙ ap (λ ps. words_of (length ps) k) is
 
-  part_bits : bits ≡ net_bits h e
-  part_bits = width ∙ ap (λ ps. bits_of (length ps)) is
+    part_bits : bits ≡ net_bits h e
+    part_bits = width ∙ ap (λ ps. bits_of (length ps)) is
 
-  pub part_within : start + count ≤ length words
-  part_within =
-      let part = net_part h k e net in
-      let all = told.laid.all in
-      let a = part_start in
-      let b = part_size in
-      omega arith
+    pub part_within : start + count ≤ length words
+    part_within =
+        let part = net_part h k e net in
+        let all = told.laid.all in
+        let a = part_start in
+        let b = part_size in
+        omega arith
 
-  pub length-part : length (take (start + count - start) (drop start words)) ≡ count
-  length-part =
-      let within = part_within in
-      let left = length-drop start words in
-      let n : start + count - start ≡ count = omega arith in
-      length-take-le (start + count - start) (drop start words) (omega arith) ∙ n
+    pub length-part : length (take (start + count - start) (drop start words)) ≡ count
+    length-part =
+        let within = part_within in
+        let left = length-drop start words in
+        let n : start + count - start ≡ count = omega arith in
+        length-take-le (start + count - start) (drop start words) (omega arith) ∙ n
 
-  fields_same : fields_of bits ≡ fields_of (net_bits h e)
-  fields_same = ap fields_of part_bits
+    fields_same : fields_of bits ≡ fields_of (net_bits h e)
+    fields_same = ap fields_of part_bits
 
-  pub part_counts : (i place : ℕ) → i < length (take (start + count - start) (drop start words)) → place < fields_of bits → field (slice_index (take (start + count - start) (drop start words)) i) bits place ≡ pins_in p pins (i * fields_of bits + place)
-  part_counts i place l m =
-      let len = length-part in
-      let inside : i < count = omega arith in
-      let f = fields_of bits in
-      let taken = get_or-take (start + count - start) (drop start words) i 0 (omega arith) ∙ get_or-drop start words i 0 in
-      let low : i * fields_of (net_bits h e) + place < net_words h k e * fields_of (net_bits h e) =
-      subst (λ g. i * g + place < net_words h k e * g) fields_same (subst (λ w. i * fields_of bits + place < w * fields_of bits) part_size (within_product i count (fields_of bits) place inside m)) in
-      let held = told.counted e (i * fields_of (net_bits h e) + place) net low in
-      ap (λ w. field w bits place) taken
-      ∙ ap (λ x. field (slice_index words (start + x)) bits place) (sym (split_div i f place m))
-      ∙ ap (λ x. field (slice_index words (start + (i * f + place) / f)) bits x) (sym (split_mod i f place m))
-      ∙ count_same h k e start bits part_start part_bits words (i * f + place)
-      ∙ ap (λ g. count_at words (net_start h k e) (net_bits h e) (i * g + place)) fields_same
-      ∙ held
-      ∙ ap (λ ps. pins_in p ps (i * fields_of (net_bits h e) + place)) (sym is)
-      ∙ ap (λ g. pins_in p pins (i * g + place)) (sym fields_same)
-    where
-      within_product : (i n f place : ℕ) → i < n → place < f → i * f + place < n * f
-      within_product i n f place l m =
-          let a = mul-le-mul_right f (let x : suc i ≤ n = l in x) in
-          let b : suc i * f ≡ i * f + f = omega arith in
-          omega arith
+    pub part_counts : (i place : ℕ) → i < length (take (start + count - start) (drop start words)) → place < fields_of bits →
+        field (slice_index (take (start + count - start) (drop start words)) i) bits place ≡ pins_in p pins (i * fields_of bits + place)
+    part_counts i place l m =
+        let len = length-part in
+        let inside : i < count = omega arith in
+        let f = fields_of bits in
+        let taken = get_or-take (start + count - start) (drop start words) i 0 (omega arith) ∙ get_or-drop start words i 0 in
+        let low : i * fields_of (net_bits h e) + place < net_words h k e * fields_of (net_bits h e) =
+        subst (λ g. i * g + place < net_words h k e * g) fields_same (subst (λ w. i * fields_of bits + place < w * fields_of bits) part_size
+        (within_product i count (fields_of bits) place inside m)) in
+        let held = told.counted e (i * fields_of (net_bits h e) + place) net low in
+        ap (λ w. field w bits place) taken
+        ∙ ap (λ x. field (slice_index words (start + x)) bits place) (sym (split_div i f place m))
+        ∙ ap (λ x. field (slice_index words (start + (i * f + place) / f)) bits x) (sym (split_mod i f place m))
+        ∙ count_same h k e start bits part_start part_bits words (i * f + place)
+        ∙ ap (λ g. count_at words (net_start h k e) (net_bits h e) (i * g + place)) fields_same
+        ∙ held
+        ∙ ap (λ ps. pins_in p ps (i * fields_of (net_bits h e) + place)) (sym is)
+        ∙ ap (λ g. pins_in p pins (i * g + place)) (sym fields_same)
+      where
+        within_product : (i n f place : ℕ) → i < n → place < f → i * f + place < n * f
+        within_product i n f place l m =
+            let a = mul-le-mul_right f (let x : suc i ≤ n = l in x) in
+            let b : suc i * f ≡ i * f + f = omega arith in
+            omega arith
 
-  pins_below : All (λ v. v < length p) pins
-  pins_below = subst (λ ps. All (λ v. v < length p) ps) (sym is) (subst (λ n. All (λ v. v < n) (net_of h e).pins) (sym told.parted.partition.vertices) (told.parted.sound.nets e (record { weight = 0; pins = [] }) net).pins)
+    pins_below : All (λ v. v < length p) pins
+    pins_below = subst (λ ps. All (λ v. v < length p) ps) (sym is) (subst (λ n. All (λ v. v < n) (net_of h e).pins) (sym told.parted.partition.vertices)
+        (told.parted.sound.nets e (record { weight = 0; pins = [] }) net).pins)
 
-  pub part_all : (b : ℕ) → length (take (start + count - start) (drop start words)) * fields_of bits ≤ b → pins_in p pins b ≡ 0
-  part_all b past =
-      none_past k p pins b pins_below told.parted.partition.blocks
-      (let enough = fields_enough (length (net_of h e).pins) k in
-      let n : length (take (start + count - start) (drop start words)) * fields_of bits ≡ net_words h k e * fields_of (net_bits h e) = ap (λ x. x * fields_of bits) (length-part ∙ part_size) ∙ ap (λ g. net_words h k e * g) fields_same in
-      omega arith)
+    pub part_all : (b : ℕ) → length (take (start + count - start) (drop start words)) * fields_of bits ≤ b → pins_in p pins b ≡ 0
+    part_all b past =
+        none_past k p pins b pins_below told.parted.partition.blocks
+        (let enough = fields_enough (length (net_of h e).pins) k in
+        let n : length (take (start + count - start) (drop start words)) * fields_of bits ≡ net_words h k e * fields_of (net_bits h e) =
+        ap (λ x. x * fields_of bits) (length-part ∙ part_size) ∙ ap (λ g. net_words h k e * g) fields_same in
+        omega arith)
 
-  -- where all pins are in one block, none is in another
-  pub whole_elsewhere : (from b : ℕ) → from < k → b ≢ from → counts_of h p e from ≡ length pins → counts_of h p e b ≡ 0
-  whole_elsewhere from b low other own = by (cases_lt b k)
-    where
-      below : All (λ v. block_of p v < k) (net_of h e).pins
-      below = blocks_of_pins k p (net_of h e).pins told.parted.partition.blocks (subst (λ n. All (λ v. v < n) (net_of h e).pins) (sym told.parted.partition.vertices) (told.parted.sound.nets e (record { weight = 0; pins = [] }) net).pins)
+    -- where all pins are in one block, none is in another
+    pub whole_elsewhere : (from b : ℕ) → from < k → b ≢ from → counts_of h p e from ≡ length pins → counts_of h p e b ≡ 0
+    whole_elsewhere from b low other own = by (cases_lt b k)
+      where
+        below : All (λ v. block_of p v < k) (net_of h e).pins
+        below = blocks_of_pins k p (net_of h e).pins told.parted.partition.blocks (subst (λ n. All (λ v. v < n) (net_of h e).pins)
+            (sym told.parted.partition.vertices) (told.parted.sound.nets e (record { weight = 0; pins = [] }) net).pins)
 
-      by : (b < k) ⊎ (k ≤ b) → counts_of h p e b ≡ 0
-      by (inl l) =
-          let two = pins_in-two p (net_of h e).pins from b k low l other below in
-          let len = ap length is in
-          omega arith
-      by (inr g) = none_past k p (net_of h e).pins b (subst (λ n. All (λ v. v < n) (net_of h e).pins) (sym told.parted.partition.vertices) (told.parted.sound.nets e (record { weight = 0; pins = [] }) net).pins) told.parted.partition.blocks g
+        by : (b < k) ⊎ (k ≤ b) → counts_of h p e b ≡ 0
+        by (inl l) =
+            let two = pins_in-two p (net_of h e).pins from b k low l other below in
+            let len = ap length is in
+            omega arith
+        by (inr g) = none_past k p (net_of h e).pins b (subst (λ n. All (λ v. v < n) (net_of h e).pins) (sym told.parted.partition.vertices)
+            (told.parted.sound.nets e (record { weight = 0; pins = [] }) net).pins) told.parted.partition.blocks g
 
 -- ---- all nets of a vertex
 

@@ -1,5 +1,8 @@
 -- Laws of the sweeps that settle a partition.
-use Rattle.std.proofs.Common.{◌≡◌, ◌≢◌, inl, inr, ℕ, suc, ◌+◌, ◌<◌, ◌≤◌, ◌^◌, ◌≤ℤ◌, ◌<ℤ◌, negsuc, nat_abs, FitsSigned, drop, get_or, All, to_z, of_z, Option, Some, None, option_map, option_to_list, false, List, [], ◌∷◌, ◌++◌, ℤ, pos, ◌-ℤ◌, length, take, refl, sym, ap, subst, ◌∙◌, arith}
+use Rattle.std.proofs.Common.{◌≡◌, ◌≢◌, inl, inr, ℕ, suc, ◌+◌, ◌<◌, ◌≤◌, ◌^◌, ◌≤ℤ◌, ◌<ℤ◌, negsuc, nat_abs}
+use Rattle.std.proofs.Common.{FitsSigned, drop, get_or, All, to_z, of_z, Option}
+use Rattle.std.proofs.Common.{Some, None, option_map, option_to_list, false, List, [], ◌∷◌, ◌++◌, ℤ, pos}
+use Rattle.std.proofs.Common.{◌-ℤ◌, length, take, refl, sym, ap, subst, ◌∙◌, arith}
 use Rattle.std.proofs.lemmas.List.{append_assoc, append-nil, length-append, take_all}
 use Rattle.std.specs.Int.{w64}
 use Rattle.std.proofs.lemmas.Int.{ints, to_z-of_z}
@@ -27,7 +30,8 @@ length_visits h k l [] p = omega arith
 length_visits h k l (v ∷ vs) p = by (best_block h l p v k) (λ q. length_visits h k l vs q)
   where
     by : (o : Option ℕ) → ((q : List ℕ) → length (visits h k l q vs) ≤ length vs)
-        → length (option_to_list (option_map (move_of h p v) o) ++ visits h k l (replay p (option_to_list (option_map (move_of h p v) o))) vs) ≤ suc (length vs)
+        → length (option_to_list (option_map (move_of h p v) o) ++ visits h k l (replay p (option_to_list (option_map (move_of h p v) o))) vs) ≤ suc
+        (length vs)
     by None r = let a = r p in omega arith
     by (Some b) r = let a = r (replay p (move_of h p v b ∷ [])) in omega arith
 
@@ -58,7 +62,8 @@ not_negative (m ∷ moves) a =
     omega (arith, ints)
 
 -- the first moves save no more than all of them
-pub saved_first : (moves : List Move) (i : ℕ) → All (λ m. pos 0 ≤ℤ m.booked) moves → total_z (λ (m : Move). m.booked) (take i moves) ≤ℤ total_z (λ (m : Move). m.booked) moves
+pub saved_first : (moves : List Move) (i : ℕ) → All (λ m. pos 0 ≤ℤ m.booked) moves → total_z (λ (m : Move). m.booked) (take i moves) ≤ℤ total_z
+    (λ (m : Move). m.booked) moves
 saved_first moves i a =
     let whole = total_z-take-drop (λ (m : Move). m.booked) moves i in
     let rest = not_negative (drop i moves) (All-drop (λ (m : Move). pos 0 ≤ℤ m.booked) i moves a) in
@@ -76,7 +81,9 @@ gain_read z low high = ap (λ (x : ℤ). pos (nat_abs x)) (to_z-of_z w64 z (smal
     whole (negsuc n) low = absurd (omega (arith, ints))
 
 -- the saving after one move more
-pub saved_more : (moves : List Move) (i saved : ℕ) (d : Move) → i < length moves → All (λ m. pos 0 ≤ℤ m.booked) moves → total_z (λ (m : Move). m.booked) moves <ℤ pos (2 ^ 57)
+pub saved_more : (moves : List Move) (i saved : ℕ) (d : Move) → i < length moves → All (λ m. pos 0 ≤ℤ m.booked) moves → total_z (λ (m : Move). m.booked)
+    moves
+    <ℤ pos (2 ^ 57)
     → pos saved ≡ total_z (λ (m : Move). m.booked) (take i moves)
     → (pos (saved + nat_abs (to_z w64 (of_z w64 (get_or moves i d).booked))) ≡ total_z (λ (m : Move). m.booked) (take (i + 1) moves))
     × (saved + nat_abs (to_z w64 (of_z w64 (get_or moves i d).booked)) < 2 ^ 57)
@@ -99,7 +106,8 @@ pub sweep_bound : (h : Hyper) (k l : ℕ) (p : List ℕ) → cost h p < 2 ^ 57 �
 sweep_bound h k l p small = let all = sweep_saves h k l p in omega (arith, ints)
 
 -- the cost after a sweep is the cost before it less what its moves save
-pub sweep_after : (h : Hyper) (k l : ℕ) (p : List ℕ) (moves : List Move) (saved : ℕ) → moves ≡ sweep h k l p → pos saved ≡ total_z (λ (m : Move). m.booked) moves
+pub sweep_after : (h : Hyper) (k l : ℕ) (p : List ℕ) (moves : List Move) (saved : ℕ) → moves ≡ sweep h k l p → pos saved ≡ total_z (λ (m : Move). m.booked)
+    moves
     → cost h (replay p (sweep h k l p)) + saved ≡ cost h p
 sweep_after h k l p moves saved e s =
     let all = sweep_saves h k l p in
@@ -126,7 +134,8 @@ round_of moves before after = record {
   tabled = false;
 }
 
-pub round_swept : (h : Hyper) (k l : ℕ) (p : List ℕ) → (IsSettled h k l p → ⊥) → IsSwept h k l p (round_of (sweep h k l p) (cost h p) (cost h (replay p (sweep h k l p))))
+pub round_swept : (h : Hyper) (k l : ℕ) (p : List ℕ) → (IsSettled h k l p → ⊥) →
+    IsSwept h k l p (round_of (sweep h k l p) (cost h p) (cost h (replay p (sweep h k l p))))
 round_swept h k l p unsettled = record {
   moves = refl;
   some = sweep_some h k l p unsettled;
@@ -141,7 +150,8 @@ round_swept h k l p unsettled = record {
 after_swept : (p : List ℕ) (moves : List Move) → replay p (take (length moves) moves) ≡ replay p moves
 after_swept p moves = ap (replay p) (take_all (length moves) moves (omega arith))
 
-follow_more : (h : Hyper) (k l : ℕ) (p q : List ℕ) (rounds : List LoggedRound) → FollowSweeps h k l p rounds q → (IsSettled h k l q → ⊥) → FollowSweeps h k l p (rounds ++ round_of (sweep h k l q) (cost h q) (cost h (replay q (sweep h k l q))) ∷ []) (replay q (sweep h k l q))
+follow_more : (h : Hyper) (k l : ℕ) (p q : List ℕ) (rounds : List LoggedRound) → FollowSweeps h k l p rounds q → (IsSettled h k l q → ⊥) →
+    FollowSweeps h k l p (rounds ++ round_of (sweep h k l q) (cost h q) (cost h (replay q (sweep h k l q))) ∷ []) (replay q (sweep h k l q))
 follow_more h k l p q [] e unsettled =
     subst (λ (r : List ℕ). FollowSweeps h k l r (round_of (sweep h k l q) (cost h q) (cost h (replay q (sweep h k l q))) ∷ []) (replay q (sweep h k l q))) e
     (refl, refl, refl, round_swept h k l q unsettled, sym (after_swept q (sweep h k l q)))
@@ -153,7 +163,8 @@ pub added_more :
     → AddsSweeps h k l p (replay q (sweep h k l q)) old later (number + 1)
 added_more h k l p q old now later number a unsettled e = record {
   rounds = a.rounds ++ round_of (sweep h k l q) (cost h q) (cost h (replay q (sweep h k l q))) ∷ [];
-  log = e ∙ ap (λ xs. xs ++ round_of (sweep h k l q) (cost h q) (cost h (replay q (sweep h k l q))) ∷ []) a.log ∙ append_assoc old a.rounds (round_of (sweep h k l q) (cost h q) (cost h (replay q (sweep h k l q))) ∷ []);
+  log = e ∙ ap (λ xs. xs ++ round_of (sweep h k l q) (cost h q) (cost h (replay q (sweep h k l q))) ∷ []) a.log ∙ append_assoc old a.rounds
+      (round_of (sweep h k l q) (cost h q) (cost h (replay q (sweep h k l q))) ∷ []);
   sweeps = follow_more h k l p q a.rounds a.sweeps unsettled;
   count = let n = a.count in let len = length-append a.rounds (round_of (sweep h k l q) (cost h q) (cost h (replay q (sweep h k l q))) ∷ []) in omega arith;
 }
@@ -163,22 +174,32 @@ added_none h k l p old = record { rounds = []; log = sym (append-nil old); sweep
 
 -- ---- the end
 
-settled_sweeps : (h : Hyper) (k l : ℕ) (p q : List ℕ) (rounds : List LoggedRound) → FollowSweeps h k l p rounds q → IsSettled h k l q → AreSweeps h k l p rounds q
+settled_sweeps : (h : Hyper) (k l : ℕ) (p q : List ℕ) (rounds : List LoggedRound) → FollowSweeps h k l p rounds q → IsSettled h k l q →
+    AreSweeps h k l p rounds q
 settled_sweeps h k l p q [] e settled = (e, subst (IsSettled h k l) e settled)
 settled_sweeps h k l p q (r ∷ rounds) f settled = (f.0, f.1, f.2, f.3, settled_sweeps h k l (after_round p r) q rounds f.4 settled)
 
-pub settles : (h : Hyper) (k l : ℕ) (p q : List ℕ) (old new : List LoggedRound) (number : ℕ) → AddsSweeps h k l p q old new number → IsSettled h k l q → Settles h k l p q old new number
-settles h k l p q old new number a settled = record { rounds = a.rounds; log = a.log; sweeps = settled_sweeps h k l p q a.rounds a.sweeps settled; count = a.count }
+pub settles : (h : Hyper) (k l : ℕ) (p q : List ℕ) (old new : List LoggedRound) (number : ℕ) → AddsSweeps h k l p q old new number → IsSettled h k l q →
+    Settles h k l p q old new number
+settles h k l p q old new number a settled = record {
+  rounds = a.rounds;
+  log = a.log;
+  sweeps = settled_sweeps h k l p q a.rounds a.sweeps settled;
+  count = a.count;
+}
 
-pub breaks_before : (h : Hyper) (k l : ℕ) (p q : List ℕ) (old new : List LoggedRound) (number : ℕ) → AddsSweeps h k l p q old new number → BreaksOff h k l p q old new
+pub breaks_before : (h : Hyper) (k l : ℕ) (p q : List ℕ) (old new : List LoggedRound) (number : ℕ) → AddsSweeps h k l p q old new number →
+    BreaksOff h k l p q old new
 breaks_before h k l p q old new number a = record { number = number; last = q; added = a; now = inl refl }
 
-pub breaks_after : (h : Hyper) (k l : ℕ) (p q r : List ℕ) (old new : List LoggedRound) (number : ℕ) → AddsSweeps h k l p q old new number → r ≡ replay q (sweep h k l q) → BreaksOff h k l p r old new
+pub breaks_after : (h : Hyper) (k l : ℕ) (p q r : List ℕ) (old new : List LoggedRound) (number : ℕ) → AddsSweeps h k l p q old new number →
+    r ≡ replay q (sweep h k l q) → BreaksOff h k l p r old new
 breaks_after h k l p q r old new number a e = record { number = number; last = q; added = a; now = inr e }
 
 -- ---- one turn, of the partition as it is now
 
-module _ (h : Hyper) (first now new : Parted) (same : now ≡ record first { blocks = now.blocks }) (after : new ≡ record now { blocks = replay now.blocks (sweep h now.k now.limit now.blocks) }) where
+module _ (h : Hyper) (first now new : Parted) (same : now ≡ record first { blocks = now.blocks })
+    (after : new ≡ record now { blocks = replay now.blocks (sweep h now.k now.limit now.blocks) }) where
   new_blocks : new.blocks ≡ replay now.blocks (sweep h now.k now.limit now.blocks)
   new_blocks = ap (λ (x : Parted). x.blocks) after
 
@@ -195,25 +216,37 @@ module _ (h : Hyper) (first now new : Parted) (same : now ≡ record first { blo
   pub settle_less : (IsSettled h now.k now.limit now.blocks → ⊥) → cost h new.blocks < cost h now.blocks
   settle_less unsettled = subst (λ (q : List ℕ). cost h q < cost h now.blocks) (sym new_blocks) (sweep_less h now.k now.limit now.blocks unsettled)
 
-  pub settle_after : (moves : List Move) (saved : ℕ) → moves ≡ sweep h now.k now.limit now.blocks → pos saved ≡ total_z (λ (m : Move). m.booked) moves → cost h new.blocks + saved ≡ cost h now.blocks
-  settle_after moves saved e s = subst (λ (q : List ℕ). cost h q + saved ≡ cost h now.blocks) (sym new_blocks) (sweep_after h now.k now.limit now.blocks moves saved e s)
+  pub settle_after : (moves : List Move) (saved : ℕ) → moves ≡ sweep h now.k now.limit now.blocks → pos saved ≡ total_z (λ (m : Move). m.booked) moves →
+      cost h new.blocks + saved ≡ cost h now.blocks
+  settle_after moves saved e s = subst (λ (q : List ℕ). cost h q + saved ≡ cost h now.blocks) (sym new_blocks)
+      (sweep_after h now.k now.limit now.blocks moves
+      saved e s)
 
-  pub settle_end : (old logged : List LoggedRound) (number : ℕ) → IsSettled h now.k now.limit now.blocks → AddsSweeps h first.k first.limit first.blocks now.blocks old logged number → Settles h first.k first.limit first.blocks new.blocks old logged number
+  pub settle_end : (old logged : List LoggedRound) (number : ℕ) → IsSettled h now.k now.limit now.blocks → AddsSweeps h first.k first.limit first.blocks
+      now.blocks old logged number → Settles h first.k first.limit first.blocks new.blocks old logged number
   settle_end old logged number settled added =
-      subst (λ (q : List ℕ). Settles h first.k first.limit first.blocks q old logged number) (sym (new_blocks ∙ ap (replay now.blocks) (settled_sweep h now.k now.limit now.blocks settled)))
+      subst (λ (q : List ℕ). Settles h first.k first.limit first.blocks q old logged number)
+      (sym (new_blocks ∙ ap (replay now.blocks) (settled_sweep h now.k now.limit now.blocks settled)))
       (settles h first.k first.limit first.blocks now.blocks old logged number added (at_first (λ n m. IsSettled h n m now.blocks) settled))
 
   pub settle_more :
-      (old logged later : List LoggedRound) (number : ℕ) (moves : List Move) (before after_cost : ℕ) (round : LoggedRound) → (IsSettled h now.k now.limit now.blocks → ⊥)
-      → moves ≡ sweep h now.k now.limit now.blocks → before ≡ cost h now.blocks → after_cost ≡ cost h new.blocks → round ≡ round_of moves before after_cost → later ≡ logged ++ round ∷ []
+      (old logged later : List LoggedRound) (number : ℕ) (moves : List Move) (before after_cost : ℕ) (round : LoggedRound) →
+      (IsSettled h now.k now.limit now.blocks → ⊥)
+      → moves ≡ sweep h now.k now.limit now.blocks → before ≡ cost h now.blocks → after_cost ≡ cost h new.blocks → round ≡ round_of moves before
+      after_cost →
+      later ≡ logged ++ round ∷ []
       → AddsSweeps h first.k first.limit first.blocks now.blocks old logged number
       → AddsSweeps h first.k first.limit first.blocks new.blocks old later (number + 1)
   settle_more old logged later number moves before after_cost round unsettled em eb ea er el added =
-      subst (λ (q : List ℕ). AddsSweeps h first.k first.limit first.blocks q old later (number + 1)) (sym (new_blocks ∙ at_first (λ n m. replay now.blocks (sweep h now.k now.limit now.blocks) ≡ replay now.blocks (sweep h n m now.blocks)) refl))
+      subst (λ (q : List ℕ). AddsSweeps h first.k first.limit first.blocks q old later (number + 1))
+      (sym (new_blocks ∙ at_first (λ n m. replay now.blocks (sweep h now.k now.limit now.blocks) ≡ replay now.blocks (sweep h n m now.blocks)) refl))
       (added_more h first.k first.limit first.blocks now.blocks old logged later number added (λ settled. unsettled (back settled))
-      (el ∙ ap (λ (r : LoggedRound). logged ++ r ∷ []) (er ∙ ap (λ (ms : List Move). round_of ms before after_cost) em ∙ ap (λ (b : ℕ). round_of (sweep h now.k now.limit now.blocks) b after_cost) eb
+      (el ∙ ap (λ (r : LoggedRound). logged ++ r ∷ []) (er ∙ ap (λ (ms : List Move). round_of ms before after_cost) em ∙
+      ap (λ (b : ℕ). round_of (sweep h now.k now.limit now.blocks) b after_cost) eb
       ∙ ap (round_of (sweep h now.k now.limit now.blocks) (cost h now.blocks)) (ea ∙ ap (cost h) new_blocks)
-      ∙ at_first (λ n m. round_of (sweep h now.k now.limit now.blocks) (cost h now.blocks) (cost h (replay now.blocks (sweep h now.k now.limit now.blocks))) ≡ round_of (sweep h n m now.blocks) (cost h now.blocks) (cost h (replay now.blocks (sweep h n m now.blocks)))) refl)))
+      ∙ at_first (λ n m. round_of (sweep h now.k now.limit now.blocks) (cost h now.blocks)
+      (cost h (replay now.blocks (sweep h now.k now.limit now.blocks))) ≡
+      round_of (sweep h n m now.blocks) (cost h now.blocks) (cost h (replay now.blocks (sweep h n m now.blocks)))) refl)))
     where
       back : IsSettled h first.k first.limit now.blocks → IsSettled h now.k now.limit now.blocks
       back s = subst (λ n. IsSettled h n now.limit now.blocks) (sym same_k) (subst (λ m. IsSettled h first.k m now.blocks) (sym same_limit) s)

@@ -1,5 +1,6 @@
 -- Laws of a sweep, vertex by vertex.
-use Rattle.std.proofs.Common.{◌≡◌, ℕ, suc, ◌+◌, ◌-◌, ◌<◌, ◌≤◌, List, [], ◌∷◌, ◌++◌, Option, option_map, option_to_list, Bool, true, false, nat_lt, length, refl, sym, ap, subst, ◌∙◌, arith}
+use Rattle.std.proofs.Common.{◌≡◌, ℕ, suc, ◌+◌, ◌-◌, ◌<◌, ◌≤◌, List, [], ◌∷◌, ◌++◌, Option, option_map, option_to_list}
+use Rattle.std.proofs.Common.{Bool, true, false, nat_lt, length, refl, sym, ap, subst, ◌∙◌, arith}
 use Rattle.std.proofs.lemmas.List.{append_assoc, append-nil, length-append}
 use Rattle.std.specs.List.{range_with_len}
 use Rattle.hg_defs.specs.declared.moves.Move.{Move}
@@ -26,7 +27,8 @@ sweeping_first h k l p logged = record {
   blocks = refl;
 }
 
-pub sweeping_more : (h : Hyper) (k l : ℕ) (p q : List ℕ) (v : ℕ) (logged now got : List Move) → v < vertex_count h → got ≡ visit h k l q v → IsSweeping h k l p q v logged now → IsSweeping h k l p (replay q got) (v + 1) logged (now ++ got)
+pub sweeping_more : (h : Hyper) (k l : ℕ) (p q : List ℕ) (v : ℕ) (logged now got : List Move) → v < vertex_count h → got ≡ visit h k l q v →
+    IsSweeping h k l p q v logged now → IsSweeping h k l p (replay q got) (v + 1) logged (now ++ got)
 sweeping_more h k l p q v logged now got inside is s = record {
   made = s.made ++ got;
   log = ap (λ xs. xs ++ got) s.log ∙ append_assoc logged s.made got;
@@ -37,7 +39,8 @@ sweeping_more h k l p q v logged now got inside is s = record {
     next : got ++ visits h k l (replay q got) (range_with_len (v + 1) (vertex_count h - (v + 1))) ≡ visits h k l q (range_with_len v (vertex_count h - v))
     next =
         ap (λ (xs : List Move). xs ++ visits h k l (replay q xs) (range_with_len (v + 1) (vertex_count h - (v + 1)))) is
-        ∙ ap (λ n. visits h k l q (range_with_len v n)) (let e : 1 + (vertex_count h - (v + 1)) ≡ vertex_count h - v = omega arith in sym (one_more (vertex_count h - (v + 1))) ∙ e)
+        ∙ ap (λ n. visits h k l q (range_with_len v n)) (let e : 1 + (vertex_count h - (v + 1)) ≡ vertex_count h - v = omega arith in
+        sym (one_more (vertex_count h - (v + 1))) ∙ e)
       where
         one_more : (n : ℕ) → 1 + n ≡ suc n
         one_more n = omega arith
@@ -55,7 +58,8 @@ module _ (h : Hyper) (k l : ℕ) (p q : List ℕ) (v : ℕ) (logged now : List M
   swept_blocks = s.blocks ∙ ap (replay p) made_all
 
 -- a log that didn't grow
-pub unmoved_settled : (h : Hyper) (k l : ℕ) (p : List ℕ) (logged now : List Move) → now ≡ logged ++ sweep h k l p → length now ≤ length logged → IsSettled h k l p
+pub unmoved_settled : (h : Hyper) (k l : ℕ) (p : List ℕ) (logged now : List Move) → now ≡ logged ++ sweep h k l p → length now ≤ length logged →
+    IsSettled h k l p
 unmoved_settled h k l p logged now e less =
     empty_sweep h k l p (none (sweep h k l p) (let a = ap length e in let b = length-append logged (sweep h k l p) in omega arith))
   where
@@ -63,7 +67,8 @@ unmoved_settled h k l p logged now e less =
     none [] h = refl
     none (x ∷ xs) h = absurd (omega arith)
 
-pub settled_unmoved : (h : Hyper) (k l : ℕ) (p : List ℕ) (logged now : List Move) → now ≡ logged ++ sweep h k l p → IsSettled h k l p → length now ≤ length logged
+pub settled_unmoved : (h : Hyper) (k l : ℕ) (p : List ℕ) (logged now : List Move) → now ≡ logged ++ sweep h k l p → IsSettled h k l p →
+    length now ≤ length logged
 settled_unmoved h k l p logged now e settled =
     let a = ap length e in
     let b = length-append logged (sweep h k l p) in
@@ -72,12 +77,14 @@ settled_unmoved h k l p logged now e settled =
 
 -- ---- one visit, of the partition as it is now
 
-pub same_step : (first now next : Parted) (bs : List ℕ) → now ≡ record first { blocks = now.blocks } → next ≡ record now { blocks = bs } → next ≡ record first { blocks = next.blocks }
+pub same_step : (first now next : Parted) (bs : List ℕ) → now ≡ record first { blocks = now.blocks } → next ≡ record now { blocks = bs } →
+    next ≡ record first { blocks = next.blocks }
 same_step first now next bs e f =
     f ∙ ap (λ (x : Parted). record x { blocks = bs }) e ∙ ap (λ (b : List ℕ). record first { blocks = b }) (sym (ap (λ (x : Parted). x.blocks) f))
 
 pub visit_more :
-    (h : Hyper) (first now next : Parted) (v : ℕ) (logged items later : List Move) (r : Option Move) → now ≡ record first { blocks = now.blocks } → v < vertex_count h
+    (h : Hyper) (first now next : Parted) (v : ℕ) (logged items later : List Move) (r : Option Move) → now ≡ record first { blocks = now.blocks } →
+    v < vertex_count h
     → r ≡ option_map (move_of h now.blocks v) (best_block h now.limit now.blocks v now.k)
     → next ≡ record now { blocks = replay now.blocks (option_to_list r) }
     → later ≡ items ++ option_to_list r
@@ -85,7 +92,8 @@ pub visit_more :
     → IsSweeping h first.k first.limit first.blocks next.blocks (v + 1) logged later
 visit_more h first now next v logged items later r same inside made after log s =
     subst (λ (xs : List Move). IsSweeping h first.k first.limit first.blocks next.blocks (v + 1) logged xs) (sym log)
-    (subst (λ (q : List ℕ). IsSweeping h first.k first.limit first.blocks q (v + 1) logged (items ++ option_to_list r)) (sym (ap (λ (x : Parted). x.blocks) after))
+    (subst (λ (q : List ℕ). IsSweeping h first.k first.limit first.blocks q (v + 1) logged (items ++ option_to_list r))
+    (sym (ap (λ (x : Parted). x.blocks) after))
     (sweeping_more h first.k first.limit first.blocks now.blocks v logged items (option_to_list r) inside
     (ap option_to_list made
     ∙ ap (λ (n : ℕ). option_to_list (option_map (move_of h now.blocks v) (best_block h now.limit now.blocks v n))) (ap (λ (x : Parted). x.k) same)

@@ -1,7 +1,10 @@
 -- Laws of the sums that are kept for blocks.
-use Rattle.std.proofs.Common.{◌≡◌, ◌≢◌, ◌⊎◌, inl, inr, ℕ, ◌+◌, ◌-◌, ◌*◌, ◌<◌, ◌≤◌, Bool, true, false, ◌||◌, ◌&&◌, nat_le, if◌then◌else◌, nat_eq, nat_lt, List, [], ◌∷◌, length, take, replicate, get_or, slice_index, slice_set, All, Option, Some, None, refl, sym, ap, subst, ◌∙◌, arith, true≢false}
+use Rattle.std.proofs.Common.{◌≡◌, ◌≢◌, ◌⊎◌, inl, inr, ℕ, ◌+◌, ◌-◌, ◌*◌, ◌<◌, ◌≤◌, Bool, true, false, ◌||◌, ◌&&◌, nat_le}
+use Rattle.std.proofs.Common.{if◌then◌else◌, nat_eq, nat_lt, List, [], ◌∷◌, length, take, replicate, get_or, slice_index, slice_set}
+use Rattle.std.proofs.Common.{All, Option, Some, None, refl, sym, ap, subst, ◌∙◌, arith, true≢false}
 use Rattle.std.proofs.Math.Bool.{or-true, or-false}
-use Rattle.std.proofs.lemmas.List.{length-set, get_or-set_same, get_or-set_other, take_more_set, set-get_or, get_or_default, get_or_past, get_or-replicate, length-replicate}
+use Rattle.std.proofs.lemmas.List.{length-set, get_or-set_same, get_or-set_other, take_more_set, set-get_or}
+use Rattle.std.proofs.lemmas.List.{get_or_default, get_or_past, get_or-replicate, length-replicate}
 use Rattle.std.proofs.lemmas.List.Folds.{list_any-append, list_any_more}
 use Rattle.std.proofs.lemmas.List.Elements.{All-head, All-tail}
 use Rattle.std.proofs.lemmas.Bool.{cases_eq, cases_lt, eq-eqb, ne_eqb, eqb-true, eqb-false, ltb-true, ltb-false, lt-ltb, leb-true, leb-false, le-leb}
@@ -52,11 +55,13 @@ module _ (sums touched : List ℕ) (count block amount : ℕ) (tracked : IsTrack
   kept_positive b h = by (cases_eq b block)
     where
       by : (b ≡ block) ⊎ (b ≢ block) → 0 < slice_index (slice_set sums block (slice_index sums block + amount)) b
-      by (inl e) = subst (λ c. 0 < slice_index (slice_set sums block (slice_index sums block + amount)) c) (sym e) (more_positive block (let size = tracked.blocks in omega arith))
+      by (inl e) = subst (λ c. 0 < slice_index (slice_set sums block (slice_index sums block + amount)) c) (sym e)
+          (more_positive block (let size = tracked.blocks in omega arith))
       by (inr q) = let at = get_or-set_other sums block b (slice_index sums block + amount) 0 q in omega arith
 
   -- a block that had no sum is listed
-  pub tracked_new : slice_index sums block ≡ 0 → IsTracked (slice_set sums block (slice_index sums block + amount)) (slice_set touched count block) (count + 1)
+  pub tracked_new : slice_index sums block ≡ 0 → IsTracked (slice_set sums block (slice_index sums block + amount)) (slice_set touched count block)
+      (count + 1)
   tracked_new z = record {
     blocks = length-set sums block (slice_index sums block + amount) ∙ tracked.blocks;
     places = length-set touched count block ∙ tracked.places;
@@ -70,23 +75,31 @@ module _ (sums touched : List ℕ) (count block amount : ℕ) (tracked : IsTrack
       long = let room = tracked_room z in let places = tracked.places in omega arith
 
       below : (i : ℕ) → i < count + 1 → (i ≡ count) ⊎ (i ≢ count) → slice_index (slice_set touched count block) i < 256
-      below i l (inl e) = subst (λ j. slice_index (slice_set touched count block) j < 256) (sym e) (let at = get_or-set_same touched count block 0 long in omega arith)
-      below i l (inr q) = let at = get_or-set_other touched count i block 0 q in let was = tracked.below i (let n : i ≢ count = q in omega arith) in omega arith
+      below i l (inl e) = subst (λ j. slice_index (slice_set touched count block) j < 256) (sym e) (let at = get_or-set_same touched count block 0 long in
+          omega arith)
+      below i l (inr q) = let at = get_or-set_other touched count i block 0 q in let was = tracked.below i (let n : i ≢ count = q in omega arith) in
+          omega arith
 
-      real : (i : ℕ) → i < count + 1 → (i ≡ count) ⊎ (i ≢ count) → 0 < slice_index (slice_set sums block (slice_index sums block + amount)) (slice_index (slice_set touched count block) i)
+      real : (i : ℕ) → i < count + 1 → (i ≡ count) ⊎ (i ≢ count) → 0 < slice_index (slice_set sums block (slice_index sums block + amount))
+          (slice_index (slice_set touched count block) i)
       real i l (inl e) =
           let at = ap (slice_index (slice_set touched count block)) e ∙ get_or-set_same touched count block 0 long in
-          subst (λ x. 0 < slice_index (slice_set sums block (slice_index sums block + amount)) x) (sym at) (more_positive block (let size = tracked.blocks in omega arith))
+          subst (λ x. 0 < slice_index (slice_set sums block (slice_index sums block + amount)) x) (sym at)
+          (more_positive block (let size = tracked.blocks in omega arith))
       real i l (inr q) =
           let at = get_or-set_other touched count i block 0 q in
           let m : i < count = let n : i ≢ count = q in omega arith in
-          subst (λ x. 0 < slice_index (slice_set sums block (slice_index sums block + amount)) x) (sym at) (kept_positive (slice_index touched i) (tracked.real i m))
+          subst (λ x. 0 < slice_index (slice_set sums block (slice_index sums block + amount)) x) (sym at)
+          (kept_positive (slice_index touched i) (tracked.real i m))
 
-      member : (b : ℕ) → is_member nat_eq (take (count + 1) (slice_set touched count block)) b ≡ (is_member nat_eq (take count touched) b || (nat_eq b block || false))
+      member : (b : ℕ) → is_member nat_eq (take (count + 1) (slice_set touched count block)) b ≡ (is_member nat_eq (take count touched) b ||
+          (nat_eq b block || false))
       member b = ap (λ xs. is_member nat_eq xs b) (take_more_set touched count block long) ∙ list_any-append (nat_eq b) (take count touched) (block ∷ [])
 
-      listed : (b : ℕ) → 0 < slice_index (slice_set sums block (slice_index sums block + amount)) b → (b ≡ block) ⊎ (b ≢ block) → is_member nat_eq (take (count + 1) (slice_set touched count block)) b ≡ true
-      listed b h (inl e) = member b ∙ ap (λ t. is_member nat_eq (take count touched) b || (t || false)) (eq-eqb b block e) ∙ or-true (is_member nat_eq (take count touched) b)
+      listed : (b : ℕ) → 0 < slice_index (slice_set sums block (slice_index sums block + amount)) b → (b ≡ block) ⊎ (b ≢ block) →
+          is_member nat_eq (take (count + 1) (slice_set touched count block)) b ≡ true
+      listed b h (inl e) = member b ∙ ap (λ t. is_member nat_eq (take count touched) b || (t || false)) (eq-eqb b block e) ∙
+          or-true (is_member nat_eq (take count touched) b)
       listed b h (inr q) =
           let at = get_or-set_other sums block b (slice_index sums block + amount) 0 q in
           member b ∙ ap (λ t. t || (nat_eq b block || false)) (tracked.listed b (omega arith))
@@ -102,44 +115,55 @@ module _ (sums touched : List ℕ) (count block amount : ℕ) (tracked : IsTrack
     listed = λ b k. listed b k (cases_eq b block);
   }
     where
-      listed : (b : ℕ) → 0 < slice_index (slice_set sums block (slice_index sums block + amount)) b → (b ≡ block) ⊎ (b ≢ block) → is_member nat_eq (take count touched) b ≡ true
+      listed : (b : ℕ) → 0 < slice_index (slice_set sums block (slice_index sums block + amount)) b → (b ≡ block) ⊎ (b ≢ block) →
+          is_member nat_eq (take count touched) b ≡ true
       listed b k (inl e) = subst (λ c. is_member nat_eq (take count touched) c ≡ true) (sym e) (tracked.listed block h)
       listed b k (inr q) = tracked.listed b (let at = get_or-set_other sums block b (slice_index sums block + amount) 0 q in omega arith)
 
 -- a sum to which nothing is added
 pub same_sum : (sums : List ℕ) (block amount : ℕ) → amount ≡ 0 → sums ≡ slice_set sums block (slice_index sums block + amount)
-same_sum sums block amount z = sym (ap (λ x. slice_set sums block x) (let e : slice_index sums block + amount ≡ slice_index sums block = omega arith in e) ∙ set-get_or sums block 0)
+same_sum sums block amount z = sym (ap (λ x. slice_set sums block x) (let e : slice_index sums block + amount ≡ slice_index sums block = omega arith in e) ∙
+    set-get_or sums block 0)
 
 -- ---- the blocks of the first pins
 
-pub touched_more : (p pins : List ℕ) (i b : ℕ) → i < length pins → nat_lt 0 (pins_in p (take (i + 1) pins) b) ≡ (nat_lt 0 (pins_in p (take i pins) b) || nat_eq (block_of p (slice_index pins i)) b)
+pub touched_more : (p pins : List ℕ) (i b : ℕ) → i < length pins → nat_lt 0 (pins_in p (take (i + 1) pins) b) ≡ (nat_lt 0 (pins_in p (take i pins) b) ||
+    nat_eq (block_of p (slice_index pins i)) b)
 touched_more p pins i b l = by (cases_eq (block_of p (slice_index pins i)) b)
   where
     more : pins_in p (take (i + 1) pins) b ≡ pins_in p (take i pins) b + weight_if (block_of p (slice_index pins i)) b 1
     more = total-take_more (λ u. weight_if (block_of p u) b 1) pins i 0 l
 
-    by : (block_of p (slice_index pins i) ≡ b) ⊎ (block_of p (slice_index pins i) ≢ b) → nat_lt 0 (pins_in p (take (i + 1) pins) b) ≡ (nat_lt 0 (pins_in p (take i pins) b) || nat_eq (block_of p (slice_index pins i)) b)
+    by : (block_of p (slice_index pins i) ≡ b) ⊎ (block_of p (slice_index pins i) ≢ b) → nat_lt 0 (pins_in p (take (i + 1) pins) b) ≡
+        (nat_lt 0 (pins_in p (take i pins) b) || nat_eq (block_of p (slice_index pins i)) b)
     by (inl e) =
         let one = weight_if-same (block_of p (slice_index pins i)) b 1 e in
         let m = more in
         lt-ltb 0 (pins_in p (take (i + 1) pins) b) (omega arith)
-        ∙ sym (ap (λ t. nat_lt 0 (pins_in p (take i pins) b) || t) (eq-eqb (block_of p (slice_index pins i)) b e) ∙ or-true (nat_lt 0 (pins_in p (take i pins) b)))
+        ∙ sym (ap (λ t. nat_lt 0 (pins_in p (take i pins) b) || t) (eq-eqb (block_of p (slice_index pins i)) b e) ∙
+        or-true (nat_lt 0 (pins_in p (take i pins) b)))
     by (inr q) =
         let none = weight_if-other (block_of p (slice_index pins i)) b 1 q in
         let m = more in
         ap (nat_lt 0) (let e : pins_in p (take (i + 1) pins) b ≡ pins_in p (take i pins) b = omega arith in e)
-        ∙ sym (ap (λ t. nat_lt 0 (pins_in p (take i pins) b) || t) (ne_eqb (block_of p (slice_index pins i)) b q) ∙ or-false (nat_lt 0 (pins_in p (take i pins) b)))
+        ∙ sym (ap (λ t. nat_lt 0 (pins_in p (take i pins) b) || t) (ne_eqb (block_of p (slice_index pins i)) b q) ∙
+        or-false (nat_lt 0 (pins_in p (take i pins) b)))
 
 -- a pin whose block was touched before, or isn't b, touches b no more than the pins before it
-pub touched_kept : (p pins : List ℕ) (i b : ℕ) → i < length pins → (block_of p (slice_index pins i) ≡ b → nat_lt 0 (pins_in p (take i pins) b) ≡ true) → nat_lt 0 (pins_in p (take (i + 1) pins) b) ≡ nat_lt 0 (pins_in p (take i pins) b)
+pub touched_kept : (p pins : List ℕ) (i b : ℕ) → i < length pins → (block_of p (slice_index pins i) ≡ b → nat_lt 0 (pins_in p (take i pins) b) ≡ true) →
+    nat_lt 0 (pins_in p (take (i + 1) pins) b) ≡ nat_lt 0 (pins_in p (take i pins) b)
 touched_kept p pins i b l old = touched_more p pins i b l ∙ by (cases_eq (block_of p (slice_index pins i)) b)
   where
-    by : (block_of p (slice_index pins i) ≡ b) ⊎ (block_of p (slice_index pins i) ≢ b) → (nat_lt 0 (pins_in p (take i pins) b) || nat_eq (block_of p (slice_index pins i)) b) ≡ nat_lt 0 (pins_in p (take i pins) b)
+    by : (block_of p (slice_index pins i) ≡ b) ⊎ (block_of p (slice_index pins i) ≢ b) →
+        (nat_lt 0 (pins_in p (take i pins) b) || nat_eq (block_of p (slice_index pins i)) b) ≡ nat_lt 0 (pins_in p (take i pins) b)
     by (inl e) = ap (λ t. t || nat_eq (block_of p (slice_index pins i)) b) (old e) ∙ sym (old e)
-    by (inr q) = ap (λ t. nat_lt 0 (pins_in p (take i pins) b) || t) (ne_eqb (block_of p (slice_index pins i)) b q) ∙ or-false (nat_lt 0 (pins_in p (take i pins) b))
+    by (inr q) = ap (λ t. nat_lt 0 (pins_in p (take i pins) b) || t) (ne_eqb (block_of p (slice_index pins i)) b q) ∙
+        or-false (nat_lt 0 (pins_in p (take i pins) b))
 
 pub touched_now : (p pins : List ℕ) (i b : ℕ) → i < length pins → block_of p (slice_index pins i) ≡ b → nat_lt 0 (pins_in p (take (i + 1) pins) b) ≡ true
-touched_now p pins i b l e = touched_more p pins i b l ∙ ap (λ t. nat_lt 0 (pins_in p (take i pins) b) || t) (eq-eqb (block_of p (slice_index pins i)) b e) ∙ or-true (nat_lt 0 (pins_in p (take i pins) b))
+touched_now p pins i b l e = touched_more p pins i b l ∙ ap (λ t. nat_lt 0 (pins_in p (take i pins) b) || t)
+    (eq-eqb (block_of p (slice_index pins i)) b e) ∙
+    or-true (nat_lt 0 (pins_in p (take i pins) b))
 
 -- one mark
 pub marked_before : (seen : List ℕ) (stamp block : ℕ) → IsBefore seen (stamp + 1) → block < 256 → IsBefore (slice_set seen block stamp) (stamp + 1)
@@ -149,11 +173,13 @@ marked_before seen stamp block before low = record {
 }
   where
     by : (b : ℕ) → b < 256 → (b ≡ block) ⊎ (b ≢ block) → slice_index (slice_set seen block stamp) b < stamp + 1
-    by b l (inl e) = subst (λ c. slice_index (slice_set seen block stamp) c < stamp + 1) (sym e) (let at = get_or-set_same seen block stamp 0 (let s = before.size in omega arith) in omega arith)
+    by b l (inl e) = subst (λ c. slice_index (slice_set seen block stamp) c < stamp + 1) (sym e)
+        (let at = get_or-set_same seen block stamp 0 (let s = before.size in omega arith) in omega arith)
     by b l (inr q) = let at = get_or-set_other seen block b stamp 0 q in let was = before.all b l in omega arith
 
 -- a block without pins adds nothing
-pub amount_all : (o : Objective) (w : ℕ) (p pins : List ℕ) (b : ℕ) → (if nat_lt 0 (pins_in p pins b) then amount_for o w p pins b else 0) ≡ amount_for o w p pins b
+pub amount_all : (o : Objective) (w : ℕ) (p pins : List ℕ) (b : ℕ) → (if nat_lt 0 (pins_in p pins b) then amount_for o w p pins b else 0) ≡ amount_for o w p
+    pins b
 amount_all o w p pins b = by (nat_lt 0 (pins_in p pins b)) refl
   where
     none : (q : Objective) → w * saved q 0 (length pins) ≡ 0
@@ -169,26 +195,33 @@ amount_all o w p pins b = by (nat_lt 0 (pins_in p pins b)) refl
         sym (ap (λ c. w * saved o c (length pins)) z ∙ none o)
 
 -- what is added at a block, where nothing was added before
-pub amount_first : (p pins : List ℕ) (i b : ℕ) (o : Objective) (w : ℕ) → nat_lt 0 (pins_in p (take i pins) b) ≡ false → (if nat_lt 0 (pins_in p (take i pins) b) then amount_for o w p pins b else 0) ≡ 0
+pub amount_first : (p pins : List ℕ) (i b : ℕ) (o : Objective) (w : ℕ) → nat_lt 0 (pins_in p (take i pins) b) ≡ false →
+    (if nat_lt 0 (pins_in p (take i pins) b) then amount_for o w p pins b else 0) ≡ 0
 amount_first p pins i b o w e = ap (λ t. if t then amount_for o w p pins b else 0) e
 
-pub amount_now : (p pins : List ℕ) (i b : ℕ) (o : Objective) (w : ℕ) → nat_lt 0 (pins_in p (take i pins) b) ≡ true → (if nat_lt 0 (pins_in p (take i pins) b) then amount_for o w p pins b else 0) ≡ amount_for o w p pins b
+pub amount_now : (p pins : List ℕ) (i b : ℕ) (o : Objective) (w : ℕ) → nat_lt 0 (pins_in p (take i pins) b) ≡ true →
+    (if nat_lt 0 (pins_in p (take i pins) b) then amount_for o w p pins b else 0) ≡ amount_for o w p pins b
 amount_now p pins i b o w e = ap (λ t. if t then amount_for o w p pins b else 0) e
 
-pub amount_is : (o : Objective) (w s count size : ℕ) (p pins : List ℕ) (b : ℕ) → s ≡ saved o count size → count ≡ pins_in p pins b → size ≡ length pins → w * s ≡ amount_for o w p pins b
+pub amount_is : (o : Objective) (w s count size : ℕ) (p pins : List ℕ) (b : ℕ) → s ≡ saved o count size → count ≡ pins_in p pins b → size ≡ length pins →
+    w * s ≡ amount_for o w p pins b
 amount_is o w s count size p pins b is ec es = ap (λ x. w * x) is ∙ ap (λ x. w * saved o x size) ec ∙ ap (λ x. w * saved o (pins_in p pins b) x) es
 
 -- the sums after a pin in a block that was not touched yet
 pub sums_step :
-    (p pins : List ℕ) (i block from : ℕ) (o : Objective) (w amount : ℕ) (sums first : List ℕ) → i < length pins → block ≡ block_of p (slice_index pins i) → block < length sums → amount ≡ amount_for o w p pins block
+    (p pins : List ℕ) (i block from : ℕ) (o : Objective) (w amount : ℕ) (sums first : List ℕ) → i < length pins → block ≡ block_of p (slice_index pins i) →
+    block < length sums → amount ≡ amount_for o w p pins block
     → nat_lt 0 (pins_in p (take i pins) block) ≡ false
     → ((b : ℕ) → b ≢ from → slice_index sums b ≡ slice_index first b + (if nat_lt 0 (pins_in p (take i pins) b) then amount_for o w p pins b else 0))
-    → (b : ℕ) → b ≢ from → slice_index (slice_set sums block (slice_index sums block + amount)) b ≡ slice_index first b + (if nat_lt 0 (pins_in p (take (i + 1) pins) b) then amount_for o w p pins b else 0)
+    → (b : ℕ) → b ≢ from → slice_index (slice_set sums block (slice_index sums block + amount)) b ≡ slice_index first b +
+    (if nat_lt 0 (pins_in p (take (i + 1) pins) b) then amount_for o w p pins b else 0)
 sums_step p pins i block from o w amount sums first l is inside same new known b q = by (cases_eq b block)
   where
-    by : (b ≡ block) ⊎ (b ≢ block) → slice_index (slice_set sums block (slice_index sums block + amount)) b ≡ slice_index first b + (if nat_lt 0 (pins_in p (take (i + 1) pins) b) then amount_for o w p pins b else 0)
+    by : (b ≡ block) ⊎ (b ≢ block) → slice_index (slice_set sums block (slice_index sums block + amount)) b ≡ slice_index first b +
+        (if nat_lt 0 (pins_in p (take (i + 1) pins) b) then amount_for o w p pins b else 0)
     by (inl e) =
-        subst (λ c. slice_index (slice_set sums block (slice_index sums block + amount)) c ≡ slice_index first c + (if nat_lt 0 (pins_in p (take (i + 1) pins) c) then amount_for o w p pins c else 0)) (sym e)
+        subst (λ c. slice_index (slice_set sums block (slice_index sums block + amount)) c ≡ slice_index first c +
+        (if nat_lt 0 (pins_in p (take (i + 1) pins) c) then amount_for o w p pins c else 0)) (sym e)
         (let at = get_or-set_same sums block (slice_index sums block + amount) 0 inside in
         let was = known block (subst (λ c. c ≢ from) e q) in
         let none = amount_first p pins i block o w new in
@@ -268,32 +301,41 @@ none_past k p pins b low blocks past = by (cases_eq (pins_in p pins b) 0)
 
 -- the sums after the block at a place of a word
 pub word_step :
-    (o : Objective) (w amount : ℕ) (p pins : List ℕ) (first place from : ℕ) (sums before : List ℕ) → first + place < length sums → amount ≡ amount_for o w p pins (first + place)
+    (o : Objective) (w amount : ℕ) (p pins : List ℕ) (first place from : ℕ) (sums before : List ℕ) → first + place < length sums → amount ≡ amount_for o w p
+    pins (first + place)
     → ((b : ℕ) → b ≢ from → slice_index sums b ≡ slice_index before b + (if is_between first place b then amount_for o w p pins b else 0))
-    → (b : ℕ) → b ≢ from → slice_index (slice_set sums (first + place) (slice_index sums (first + place) + amount)) b ≡ slice_index before b + (if is_between first (place + 1) b then amount_for o w p pins b else 0)
+    → (b : ℕ) → b ≢ from → slice_index (slice_set sums (first + place) (slice_index sums (first + place) + amount)) b ≡ slice_index before b +
+    (if is_between first (place + 1) b then amount_for o w p pins b else 0)
 word_step o w amount p pins first place from sums before inside same known b q = by (cases_eq b (first + place))
   where
-    more : (if is_between first place b then amount_for o w p pins b else 0) + (if nat_eq b (first + place) then amount_for o w p pins b else 0) ≡ (if is_between first (place + 1) b then amount_for o w p pins b else 0)
+    more : (if is_between first place b then amount_for o w p pins b else 0) + (if nat_eq b (first + place) then amount_for o w p pins b else 0) ≡
+        (if is_between first (place + 1) b then amount_for o w p pins b else 0)
     more = let a = between_more first place 1 b (amount_for o w p pins b) in let c = between_one (first + place) b (amount_for o w p pins b) in omega arith
 
-    by : (b ≡ first + place) ⊎ (b ≢ first + place) → slice_index (slice_set sums (first + place) (slice_index sums (first + place) + amount)) b ≡ slice_index before b + (if is_between first (place + 1) b then amount_for o w p pins b else 0)
+    by : (b ≡ first + place) ⊎ (b ≢ first + place) → slice_index (slice_set sums (first + place) (slice_index sums (first + place) + amount)) b ≡
+        slice_index
+        before b + (if is_between first (place + 1) b then amount_for o w p pins b else 0)
     by (inl e) =
-        let at = ap (slice_index (slice_set sums (first + place) (slice_index sums (first + place) + amount))) e ∙ get_or-set_same sums (first + place) (slice_index sums (first + place) + amount) 0 inside in
+        let at = ap (slice_index (slice_set sums (first + place) (slice_index sums (first + place) + amount))) e ∙ get_or-set_same sums (first + place)
+        (slice_index sums (first + place) + amount) 0 inside in
         let here = ap (slice_index sums) e in
         let was = known b q in
         let m = more in
-        let one : (if nat_eq b (first + place) then amount_for o w p pins b else 0) ≡ amount_for o w p pins b = ap (λ t. if t then amount_for o w p pins b else 0) (eq-eqb b (first + place) e) in
+        let one : (if nat_eq b (first + place) then amount_for o w p pins b else 0) ≡ amount_for o w p pins b =
+        ap (λ t. if t then amount_for o w p pins b else 0) (eq-eqb b (first + place) e) in
         let a = same ∙ sym (ap (amount_for o w p pins) e) in
         omega arith
     by (inr r) =
         let at = get_or-set_other sums (first + place) b (slice_index sums (first + place) + amount) 0 r in
         let was = known b q in
         let m = more in
-        let none : (if nat_eq b (first + place) then amount_for o w p pins b else 0) ≡ 0 = ap (λ t. if t then amount_for o w p pins b else 0) (ne_eqb b (first + place) r) in
+        let none : (if nat_eq b (first + place) then amount_for o w p pins b else 0) ≡ 0 = ap (λ t. if t then amount_for o w p pins b else 0)
+        (ne_eqb b (first + place) r) in
         omega arith
 
 -- the blocks of a whole word
-pub words_more : (o : Objective) (w : ℕ) (p pins : List ℕ) (i f b : ℕ) → (if is_between 0 (i * f) b then amount_for o w p pins b else 0) + (if is_between (i * f) f b then amount_for o w p pins b else 0) ≡ (if is_between 0 ((i + 1) * f) b then amount_for o w p pins b else 0)
+pub words_more : (o : Objective) (w : ℕ) (p pins : List ℕ) (i f b : ℕ) → (if is_between 0 (i * f) b then amount_for o w p pins b else 0) +
+    (if is_between (i * f) f b then amount_for o w p pins b else 0) ≡ (if is_between 0 ((i + 1) * f) b then amount_for o w p pins b else 0)
 words_more o w p pins i f b =
     let e : (i + 1) * f ≡ i * f + f = omega arith in
     let z : 0 + i * f ≡ i * f = omega arith in
@@ -303,7 +345,8 @@ words_more o w p pins i f b =
     omega arith
 
 -- a word of counts of 0
-pub words_none : (o : Objective) (w : ℕ) (p pins : List ℕ) (i f b : ℕ) → ((place : ℕ) → place < f → pins_in p pins (i * f + place) ≡ 0) → (if is_between (i * f) f b then amount_for o w p pins b else 0) ≡ 0
+pub words_none : (o : Objective) (w : ℕ) (p pins : List ℕ) (i f b : ℕ) → ((place : ℕ) → place < f → pins_in p pins (i * f + place) ≡ 0) →
+    (if is_between (i * f) f b then amount_for o w p pins b else 0) ≡ 0
 words_none o w p pins i f b none = by (nat_le (i * f) b) (nat_lt b (i * f + f)) refl refl
   where
     by : (s t : Bool) → nat_le (i * f) b ≡ s → nat_lt b (i * f + f) ≡ t → (if s && t then amount_for o w p pins b else 0) ≡ 0
@@ -315,7 +358,8 @@ words_none o w p pins i f b none = by (nat_le (i * f) b) (nat_lt b (i * f + f)) 
     by true false e g = refl
     by false t e g = refl
 
-pub words_all : (o : Objective) (w : ℕ) (p pins : List ℕ) (n b : ℕ) → (n ≤ b → pins_in p pins b ≡ 0) → (if is_between 0 n b then amount_for o w p pins b else 0) ≡ amount_for o w p pins b
+pub words_all : (o : Objective) (w : ℕ) (p pins : List ℕ) (n b : ℕ) → (n ≤ b → pins_in p pins b ≡ 0) →
+    (if is_between 0 n b then amount_for o w p pins b else 0) ≡ amount_for o w p pins b
 words_all o w p pins n b past =
     ap (λ t. if t && nat_lt b (0 + n) then amount_for o w p pins b else 0) (le-leb 0 b (omega arith)) ∙ by (nat_lt b (0 + n)) refl
   where
@@ -344,7 +388,8 @@ tracked_none sums touched size places clear = record {
   listed = λ b h. let z = clear b in absurd (omega arith);
 }
 
-pub clear_after : (first sums touched : List ℕ) (count : ℕ) → IsTracked first touched count → ((b : ℕ) → slice_index sums b ≤ slice_index first b) → ((b : ℕ) → is_member nat_eq (take count touched) b ≡ true → slice_index sums b ≡ 0) → IsClear sums
+pub clear_after : (first sums touched : List ℕ) (count : ℕ) → IsTracked first touched count → ((b : ℕ) → slice_index sums b ≤ slice_index first b) →
+    ((b : ℕ) → is_member nat_eq (take count touched) b ≡ true → slice_index sums b ≡ 0) → IsClear sums
 clear_after first sums touched count tracked less cleared b = by (cases_eq (slice_index sums b) 0)
   where
     by : (slice_index sums b ≡ 0) ⊎ (slice_index sums b ≢ 0) → slice_index sums b ≡ 0
@@ -353,20 +398,25 @@ clear_after first sums touched count tracked less cleared b = by (cases_eq (slic
 
 -- ---- the best of the first blocks
 
-member_more : (touched : List ℕ) (i b : ℕ) → i < length touched → is_member nat_eq (take (i + 1) touched) b ≡ true → (is_member nat_eq (take i touched) b ≡ true) ⊎ (b ≡ slice_index touched i)
-member_more touched i b l h = by (is_member nat_eq (take i touched) b) (nat_eq b (slice_index touched i)) refl refl (sym (list_any_more (nat_eq b) touched i 0 l) ∙ h)
+member_more : (touched : List ℕ) (i b : ℕ) → i < length touched → is_member nat_eq (take (i + 1) touched) b ≡ true →
+    (is_member nat_eq (take i touched) b ≡ true) ⊎ (b ≡ slice_index touched i)
+member_more touched i b l h = by (is_member nat_eq (take i touched) b) (nat_eq b (slice_index touched i)) refl refl
+    (sym (list_any_more (nat_eq b) touched i 0 l) ∙ h)
   where
-    by : (s t : Bool) → is_member nat_eq (take i touched) b ≡ s → nat_eq b (slice_index touched i) ≡ t → (s || t) ≡ true → (is_member nat_eq (take i touched) b ≡ true) ⊎ (b ≡ slice_index touched i)
+    by : (s t : Bool) → is_member nat_eq (take i touched) b ≡ s → nat_eq b (slice_index touched i) ≡ t → (s || t) ≡ true →
+        (is_member nat_eq (take i touched) b ≡ true) ⊎ (b ≡ slice_index touched i)
     by true t e f g = inl e
     by false true e f g = inr (eqb-true b (slice_index touched i) f)
     by false false e f g = absurd (true≢false (sym g))
 
 module _ (sums loads : List ℕ) (limit weight from loss : ℕ) (touched : List ℕ) (i : ℕ) (inside : i < length touched) where
   -- a block that is no target, or isn't higher, leaves the best one
-  pub top_kept : (best : Option ℕ) → (IsTarget loads limit weight from (slice_index touched i) → IsHigher sums loss best (slice_index touched i) → ⊥) → IsTopAmong sums loads limit weight from loss (take i touched) best → IsTopAmong sums loads limit weight from loss (take (i + 1) touched) best
+  pub top_kept : (best : Option ℕ) → (IsTarget loads limit weight from (slice_index touched i) → IsHigher sums loss best (slice_index touched i) → ⊥) →
+      IsTopAmong sums loads limit weight from loss (take i touched) best → IsTopAmong sums loads limit weight from loss (take (i + 1) touched) best
   top_kept None none top = λ b m t. by b t (member_more touched i b inside m)
     where
-      by : (b : ℕ) → IsTarget loads limit weight from b → (is_member nat_eq (take i touched) b ≡ true) ⊎ (b ≡ slice_index touched i) → slice_index sums b ≤ loss
+      by : (b : ℕ) → IsTarget loads limit weight from b → (is_member nat_eq (take i touched) b ≡ true) ⊎ (b ≡ slice_index touched i) →
+          slice_index sums b ≤ loss
       by b t (inl q) = top b q t
       by b t (inr e) = at (cases_lt loss (slice_index sums b))
         where
@@ -376,10 +426,13 @@ module _ (sums loads : List ℕ) (limit weight from loss : ℕ) (touched : List 
   top_kept (Some a) none top =
       (top.0, top.1, λ b m t. least b t (member_more touched i b inside m), λ b m l t. first b l t (member_more touched i b inside m))
     where
-      not_higher : (b : ℕ) → b ≡ slice_index touched i → IsTarget loads limit weight from b → (slice_index sums a < slice_index sums b) ⊎ ((slice_index sums b ≡ slice_index sums a) × (b < a)) → ⊥
-      not_higher b e t h = none (subst (IsTarget loads limit weight from) e t) (subst (λ c. (slice_index sums a < slice_index sums c) ⊎ ((slice_index sums c ≡ slice_index sums a) × (c < a))) e h)
+      not_higher : (b : ℕ) → b ≡ slice_index touched i → IsTarget loads limit weight from b → (slice_index sums a < slice_index sums b) ⊎
+          ((slice_index sums b ≡ slice_index sums a) × (b < a)) → ⊥
+      not_higher b e t h = none (subst (IsTarget loads limit weight from) e t)
+          (subst (λ c. (slice_index sums a < slice_index sums c) ⊎ ((slice_index sums c ≡ slice_index sums a) × (c < a))) e h)
 
-      least : (b : ℕ) → IsTarget loads limit weight from b → (is_member nat_eq (take i touched) b ≡ true) ⊎ (b ≡ slice_index touched i) → slice_index sums b ≤ slice_index sums a
+      least : (b : ℕ) → IsTarget loads limit weight from b → (is_member nat_eq (take i touched) b ≡ true) ⊎ (b ≡ slice_index touched i) →
+          slice_index sums b ≤ slice_index sums a
       least b t (inl q) = top.2 b q t
       least b t (inr e) = at (cases_lt (slice_index sums a) (slice_index sums b))
         where
@@ -387,7 +440,8 @@ module _ (sums loads : List ℕ) (limit weight from loss : ℕ) (touched : List 
           at (inl h) = absurd (not_higher b e t (inl h))
           at (inr g) = g
 
-      first : (b : ℕ) → b < a → IsTarget loads limit weight from b → (is_member nat_eq (take i touched) b ≡ true) ⊎ (b ≡ slice_index touched i) → slice_index sums b < slice_index sums a
+      first : (b : ℕ) → b < a → IsTarget loads limit weight from b → (is_member nat_eq (take i touched) b ≡ true) ⊎ (b ≡ slice_index touched i) →
+          slice_index sums b < slice_index sums a
       first b l t (inl q) = top.3 b q l t
       first b l t (inr e) = at (cases_lt (slice_index sums b) (slice_index sums a))
         where
@@ -396,41 +450,51 @@ module _ (sums loads : List ℕ) (limit weight from loss : ℕ) (touched : List 
           at (inr g) = let less = least b t (inr e) in absurd (not_higher b e t (inr (omega arith, l)))
 
   -- a higher target is the best one
-  pub top_taken : (best : Option ℕ) → IsTarget loads limit weight from (slice_index touched i) → IsHigher sums loss best (slice_index touched i) → IsTopAmong sums loads limit weight from loss (take i touched) best → IsTopAmong sums loads limit weight from loss (take (i + 1) touched) (Some (slice_index touched i))
+  pub top_taken : (best : Option ℕ) → IsTarget loads limit weight from (slice_index touched i) → IsHigher sums loss best (slice_index touched i) →
+      IsTopAmong sums loads limit weight from loss (take i touched) best → IsTopAmong sums loads limit weight from loss (take (i + 1) touched)
+      (Some (slice_index touched i))
   top_taken None target higher top =
       (target, higher, λ b m t. least b t (member_more touched i b inside m), λ b m l t. first b l t (member_more touched i b inside m))
     where
-      least : (b : ℕ) → IsTarget loads limit weight from b → (is_member nat_eq (take i touched) b ≡ true) ⊎ (b ≡ slice_index touched i) → slice_index sums b ≤ slice_index sums (slice_index touched i)
+      least : (b : ℕ) → IsTarget loads limit weight from b → (is_member nat_eq (take i touched) b ≡ true) ⊎ (b ≡ slice_index touched i) →
+          slice_index sums b ≤ slice_index sums (slice_index touched i)
       least b t (inl q) = let was = top b q t in omega arith
       least b t (inr e) = let same = ap (slice_index sums) e in omega arith
 
-      first : (b : ℕ) → b < slice_index touched i → IsTarget loads limit weight from b → (is_member nat_eq (take i touched) b ≡ true) ⊎ (b ≡ slice_index touched i) → slice_index sums b < slice_index sums (slice_index touched i)
+      first : (b : ℕ) → b < slice_index touched i → IsTarget loads limit weight from b → (is_member nat_eq (take i touched) b ≡ true) ⊎
+          (b ≡ slice_index touched i) → slice_index sums b < slice_index sums (slice_index touched i)
       first b l t (inl q) = let was = top b q t in omega arith
       first b l t (inr e) = absurd (omega arith)
   top_taken (Some a) target higher top =
       (target, above higher, λ b m t. least b t (member_more touched i b inside m), λ b m l t. first b l t (member_more touched i b inside m))
     where
-      no_less : (slice_index sums a < slice_index sums (slice_index touched i)) ⊎ ((slice_index sums (slice_index touched i) ≡ slice_index sums a) × (slice_index touched i < a)) → slice_index sums a ≤ slice_index sums (slice_index touched i)
+      no_less : (slice_index sums a < slice_index sums (slice_index touched i)) ⊎ ((slice_index sums (slice_index touched i) ≡ slice_index sums a) ×
+          (slice_index touched i < a)) → slice_index sums a ≤ slice_index sums (slice_index touched i)
       no_less (inl h) = omega arith
       no_less (inr h) = let e = h.0 in omega arith
 
-      above : (slice_index sums a < slice_index sums (slice_index touched i)) ⊎ ((slice_index sums (slice_index touched i) ≡ slice_index sums a) × (slice_index touched i < a)) → loss < slice_index sums (slice_index touched i)
+      above : (slice_index sums a < slice_index sums (slice_index touched i)) ⊎ ((slice_index sums (slice_index touched i) ≡ slice_index sums a) ×
+          (slice_index touched i < a)) → loss < slice_index sums (slice_index touched i)
       above h = let n = no_less h in let t = top.1 in omega arith
 
-      least : (b : ℕ) → IsTarget loads limit weight from b → (is_member nat_eq (take i touched) b ≡ true) ⊎ (b ≡ slice_index touched i) → slice_index sums b ≤ slice_index sums (slice_index touched i)
+      least : (b : ℕ) → IsTarget loads limit weight from b → (is_member nat_eq (take i touched) b ≡ true) ⊎ (b ≡ slice_index touched i) →
+          slice_index sums b ≤ slice_index sums (slice_index touched i)
       least b t (inl q) = let was = top.2 b q t in let n = no_less higher in omega arith
       least b t (inr e) = let same = ap (slice_index sums) e in omega arith
 
-      first : (b : ℕ) → b < slice_index touched i → IsTarget loads limit weight from b → (is_member nat_eq (take i touched) b ≡ true) ⊎ (b ≡ slice_index touched i) → slice_index sums b < slice_index sums (slice_index touched i)
+      first : (b : ℕ) → b < slice_index touched i → IsTarget loads limit weight from b → (is_member nat_eq (take i touched) b ≡ true) ⊎
+          (b ≡ slice_index touched i) → slice_index sums b < slice_index sums (slice_index touched i)
       first b l t (inl q) = by higher
         where
-          by : (slice_index sums a < slice_index sums (slice_index touched i)) ⊎ ((slice_index sums (slice_index touched i) ≡ slice_index sums a) × (slice_index touched i < a)) → slice_index sums b < slice_index sums (slice_index touched i)
+          by : (slice_index sums a < slice_index sums (slice_index touched i)) ⊎ ((slice_index sums (slice_index touched i) ≡ slice_index sums a) ×
+              (slice_index touched i < a)) → slice_index sums b < slice_index sums (slice_index touched i)
           by (inl h) = let was = top.2 b q t in omega arith
           by (inr h) = let e = h.0 in let m = h.1 in let was = top.3 b q (omega arith) t in omega arith
       first b l t (inr e) = absurd (omega arith)
 
 -- a listed block has a load
-pub target_block : (sums touched loads : List ℕ) (count i : ℕ) → IsTracked sums touched count → i < count → ((b : ℕ) → length loads ≤ b → slice_index sums b ≡ 0) → slice_index touched i < length loads
+pub target_block : (sums touched loads : List ℕ) (count i : ℕ) → IsTracked sums touched count → i < count →
+    ((b : ℕ) → length loads ≤ b → slice_index sums b ≡ 0) → slice_index touched i < length loads
 target_block sums touched loads count i tracked l past = by (cases_lt (slice_index touched i) (length loads))
   where
     by : (slice_index touched i < length loads) ⊎ (length loads ≤ slice_index touched i) → slice_index touched i < length loads

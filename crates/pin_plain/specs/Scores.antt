@@ -1,5 +1,6 @@
 -- The sums that are kept for the blocks while the moves of one vertex are scored.
-use Rattle.std.specs.Prelude.{◌≡◌, ◌≢◌, ℕ, ◌+◌, ◌*◌, ◌<◌, ◌≤◌, ◌⊎◌, Option, Some, None, List, length, take, slice_index, Bool, true, ◌&&◌, nat_eq, nat_lt, nat_le}
+use Rattle.std.specs.Prelude.{◌≡◌, ◌≢◌, ℕ, ◌+◌, ◌*◌, ◌<◌, ◌≤◌, ◌⊎◌, Option, Some, None, List, length, take}
+use Rattle.std.specs.Prelude.{slice_index, Bool, true, ◌&&◌, nat_eq, nat_lt, nat_le}
 use Rattle.std.specs.Set.{is_member}
 use Rattle.hg_defs.specs.declared.objective.Objective.{Objective}
 use Rattle.hg_defs.specs.Sums.{total}

@@ -1,6 +1,7 @@
 //! Pin counts packed into words: one count raised or lowered, and the pins of one net counted or moved.
 
-ghost use Rattle.std.specs.Prelude.{◌≡◌, ◌≢◌, ℕ, ◌+◌, ◌*◌, ◌/◌, ◌%◌, ◌^◌, ◌<◌, ◌≤◌, All, length, slice_index, replicate, IfOk, if◌then◌else◌, nat_eq};
+ghost use Rattle.std.specs.Prelude.{◌≡◌, ◌≢◌, ℕ, ◌+◌, ◌*◌, ◌/◌, ◌%◌, ◌^◌, ◌<◌, ◌≤◌, All, length};
+ghost use Rattle.std.specs.Prelude.{slice_index, replicate, IfOk, if◌then◌else◌, nat_eq};
 ghost use Rattle.hg_base.specs.Packed.{count_at, IsWidth, fields_of};
 ghost use Rattle.hg_defs.specs.Hypergraph.{vertex_count, net_count, Suits};
 ghost use Rattle.hg_defs.specs.Partition.{block_of};
@@ -43,7 +44,8 @@ pub fn raise(words: &mut [u64], start: u32, bits: u32, b: u32)
     requires inside { start + b / fields_of bits < length words.old }
     requires few { length words.old < 2 ^ 32 }
     requires room { count_at words.old start bits b + 1 < 2 ^ bits }
-    ensures counts { (c : ℕ) → count_at words.new start bits c ≡ count_at words.old start bits c + (if nat_eq c b then 1 else 0) }
+    ensures counts { (c : ℕ) → count_at words.new start bits c ≡ count_at words.old start bits c +
+        (if nat_eq c b then 1 else 0) }
     ensures others { (i : ℕ) → i ≢ start + b / fields_of bits → slice_index words.new i ≡ slice_index words.old i }
 {
     let (word, place) = split(bits, b);
@@ -57,7 +59,8 @@ pub fn lower(words: &mut [u64], start: u32, bits: u32, b: u32)
     requires inside { start + b / fields_of bits < length words.old }
     requires few { length words.old < 2 ^ 32 }
     requires held { 0 < count_at words.old start bits b }
-    ensures counts { (c : ℕ) → count_at words.new start bits c + (if nat_eq c b then 1 else 0) ≡ count_at words.old start bits c }
+    ensures counts { (c : ℕ) → count_at words.new start bits c + (if nat_eq c b then 1 else 0) ≡ count_at words.old
+        start bits c }
     ensures others { (i : ℕ) → i ≢ start + b / fields_of bits → slice_index words.new i ≡ slice_index words.old i }
 {
     let (word, place) = split(bits, b);
@@ -72,8 +75,10 @@ fn count_net(words: &mut [u64], start: u32, bits: u32, pins: &[u32], blocks: &[u
     requires pins { All (λ v. v < length blocks.now) pins.now }
     requires inside { All (λ b. start + b / fields_of bits < length words.old) blocks.now }
     requires room { All (λ b. count_at words.old start bits b + length pins.now < 2 ^ bits) blocks.now }
-    ensures counts { (b : ℕ) → count_at words.new start bits b ≡ count_at words.old start bits b + pins_in blocks.now pins.now b }
-    ensures others { (i : ℕ) → All (λ b. i ≢ start + b / fields_of bits) blocks.now → slice_index words.new i ≡ slice_index words.old i }
+    ensures counts { (b : ℕ) → count_at words.new start bits b ≡ count_at words.old start bits b + pins_in blocks.now
+        pins.now b }
+    ensures others { (i : ℕ) → All (λ b. i ≢ start + b / fields_of bits) blocks.now →
+        slice_index words.new i ≡ slice_index words.old i }
 {
     for v in pins {
         raise(words, start, bits, blocks[*v as usize]);

@@ -46,7 +46,8 @@ pub fn saved_and_lost(lent: &Lent<'_>, v: u32, to: u32) -> (u64, u64)
     requires vertex { v < vertex_count lent.now.h.now }
     requires block { to < lent.now.k }
     ensures saved { result.0 ≡ total (net_saved lent.now.h.now lent.now.blocks.now to) (nets_of lent.now.h.now v) }
-    ensures lost { result.1 ≡ total (net_lost lent.now.h.now lent.now.blocks.now (block_of lent.now.blocks.now v)) (nets_of lent.now.h.now v) }
+    ensures lost { result.1 ≡ total (net_lost lent.now.h.now lent.now.blocks.now (block_of lent.now.blocks.now v))
+        (nets_of lent.now.h.now v) }
     ensures saved_bound { result.0 < 2 ^ 55 }
     ensures lost_bound { result.1 < 2 ^ 55 }
 {

@@ -1,6 +1,7 @@
 //! The plain partition.
 
-ghost use Rattle.std.specs.Prelude.{◌≡◌, ◌≢◌, ℕ, ◌+◌, ◌-◌, ◌<◌, ◌≤◌, ◌^◌, All, length, map, slice_index, slice_set, replicate, IsTrue, ◌↔◌, IfOk};
+ghost use Rattle.std.specs.Prelude.{◌≡◌, ◌≢◌, ℕ, ◌+◌, ◌-◌, ◌<◌, ◌≤◌, ◌^◌, All, length, map, slice_index};
+ghost use Rattle.std.specs.Prelude.{slice_set, replicate, IsTrue, ◌↔◌, IfOk};
 ghost use Rattle.hg_defs.specs.Hypergraph.{vertex_count, net_count, net_of, Suits, IsFixedWithin};
 ghost use Rattle.hg_defs.specs.Partition.{IsPartition, block_of, load, Fits};
 ghost use Rattle.hg_defs.specs.Cost.{cost};
@@ -43,7 +44,8 @@ impl Model for Partition {
 
     ghost view = { λ p. record { hyper = p.hyper.value; k = p.k; limit = p.limit; blocks = p.blocks } };
 
-    ghost invariant = { λ p. IsTallied p.hyper.value p.k p.blocks p.loads.items p.starts.items p.widths.items p.words.items };
+    ghost invariant = { λ p. IsTallied p.hyper.value p.k p.blocks p.loads.items p.starts.items p.widths.items
+        p.words.items };
 }
 
 /// Adds the weight of each vertex to the load of its block.

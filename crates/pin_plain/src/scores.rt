@@ -1,6 +1,7 @@
 //! Scores of the moves of one vertex: what its nets save for each block that they touch.
 
-ghost use Rattle.std.specs.Prelude.{◌≡◌, ◌≢◌, ℕ, ◌+◌, ◌*◌, ◌/◌, ◌<◌, ◌≤◌, ◌^◌, ◌-◌, All, length, slice_index, if◌then◌else◌, pos, IfSome, option_map};
+ghost use Rattle.std.specs.Prelude.{◌≡◌, ◌≢◌, ℕ, ◌+◌, ◌*◌, ◌/◌, ◌<◌, ◌≤◌, ◌^◌, ◌-◌, All, length};
+ghost use Rattle.std.specs.Prelude.{slice_index, if◌then◌else◌, pos, IfSome, option_map};
 ghost use Rattle.std.specs.Option.{ForSome};
 ghost use Rattle.hg_base.specs.Packed as packed;
 ghost use Rattle.hg_base.specs.Packed.{IsWidth, count_at, fields_of};
@@ -45,9 +46,11 @@ impl Scores {
         requires width { IsWidth net.now.bits }
         requires few { length words.now < 2 ^ 32 }
         requires inside { All (λ b. net.now.start + b / fields_of net.now.bits < length words.now) net.now.blocks.now }
-        requires counts { All (λ b. count_at words.now net.now.start net.now.bits b ≡ pins_in net.now.blocks.now net.now.pins.now b) net.now.blocks.now }
+        requires counts { All (λ b. count_at words.now net.now.start net.now.bits b ≡ pins_in net.now.blocks.now
+            net.now.pins.now b) net.now.blocks.now }
         requires room { (b : ℕ) → slice_index self.old.sums b + amount_of net.now b < 2 ^ 64 }
-        ensures sums { (b : ℕ) → b ≢ from → slice_index self.new.sums b ≡ slice_index self.old.sums b + amount_of net.now b }
+        ensures sums { (b : ℕ) → b ≢ from → slice_index self.new.sums b ≡ slice_index self.old.sums b + amount_of
+            net.now b }
         ensures own { slice_index self.new.sums from ≡ slice_index self.old.sums from }
     {
         let size = net.pins.len() as u32;
@@ -101,9 +104,11 @@ impl Scores {
         requires counts { (i place : ℕ) → i < length words.now → place < fields_of net.now.bits
             → packed.field (slice_index words.now i) net.now.bits place
             ≡ pins_in net.now.blocks.now net.now.pins.now (i * fields_of net.now.bits + place) }
-        requires all { (b : ℕ) → length words.now * fields_of net.now.bits ≤ b → pins_in net.now.blocks.now net.now.pins.now b ≡ 0 }
+        requires all { (b : ℕ) → length words.now * fields_of net.now.bits ≤ b → pins_in net.now.blocks.now
+            net.now.pins.now b ≡ 0 }
         requires room { (b : ℕ) → slice_index self.old.sums b + amount_of net.now b < 2 ^ 64 }
-        ensures sums { (b : ℕ) → b ≢ from → slice_index self.new.sums b ≡ slice_index self.old.sums b + amount_of net.now b }
+        ensures sums { (b : ℕ) → b ≢ from → slice_index self.new.sums b ≡ slice_index self.old.sums b + amount_of
+            net.now b }
         ensures own { slice_index self.new.sums from ≡ slice_index self.old.sums from }
     {
         let fields = 64 / net.bits;
@@ -122,10 +127,12 @@ impl Scores {
     fn add_net(&mut self, lent: &Lent<'_>, e: u32, from: u32) -> u64
         requires net { e < net_count lent.now.h.now }
         requires from { from < lent.now.k }
-        requires room { (b : ℕ) → slice_index self.old.sums b + net_saved lent.now.h.now lent.now.blocks.now b e < 2 ^ 64 }
+        requires room { (b : ℕ) → slice_index self.old.sums b + net_saved lent.now.h.now lent.now.blocks.now b e < 2 ^
+            64 }
         ensures lost { result ≡ net_lost lent.now.h.now lent.now.blocks.now from e }
         ensures sums { (b : ℕ) → b ≢ from
-            → slice_index self.new.sums b ≡ slice_index self.old.sums b + net_saved lent.now.h.now lent.now.blocks.now b e }
+            → slice_index self.new.sums b ≡ slice_index self.old.sums b + net_saved lent.now.h.now lent.now.blocks.now
+            b e }
         ensures own { slice_index self.new.sums from ≡ slice_index self.old.sums from }
     {
         let pins = lent.h.pins(e);
@@ -157,7 +164,8 @@ impl Scores {
     pub fn best_move(&mut self, lent: &Lent<'_>, v: u32) -> Option<(u32, u64)>
         requires clear { IsClear self.old.sums }
         requires vertex { v < vertex_count lent.now.h.now }
-        ensures best { option_map (λ m. m.0) result ≡ best_block lent.now.h.now lent.now.limit lent.now.blocks.now v lent.now.k }
+        ensures best { option_map (λ m. m.0) result ≡ best_block lent.now.h.now lent.now.limit lent.now.blocks.now v
+            lent.now.k }
         ensures gain { IfSome result (λ m. pos m.1 ≡ gain lent.now.h.now lent.now.blocks.now v m.0) }
         ensures bound { IfSome result (λ m. m.1 < 2 ^ 55) }
         ensures clear { IsClear self.new.sums }
@@ -195,10 +203,12 @@ impl Scores {
     fn score(&mut self, lent: &Lent<'_>, v: u32) -> u64
         requires clear { IsClear self.old.sums }
         requires vertex { v < vertex_count lent.now.h.now }
-        ensures lost { result ≡ total (net_lost lent.now.h.now lent.now.blocks.now (block_of lent.now.blocks.now v)) (nets_of lent.now.h.now v) }
+        ensures lost { result ≡ total (net_lost lent.now.h.now lent.now.blocks.now (block_of lent.now.blocks.now v))
+            (nets_of lent.now.h.now v) }
         ensures bound { result < 2 ^ 55 }
         ensures sums { (b : ℕ) → b ≢ block_of lent.now.blocks.now v
-            → slice_index self.new.sums b ≡ total (net_saved lent.now.h.now lent.now.blocks.now b) (nets_of lent.now.h.now v) }
+            → slice_index self.new.sums b ≡ total (net_saved lent.now.h.now lent.now.blocks.now b)
+            (nets_of lent.now.h.now v) }
         ensures own { slice_index self.new.sums (block_of lent.now.blocks.now v) ≡ 0 }
     {
         let from = lent.blocks[v as usize];

@@ -29,7 +29,8 @@ before_is f s o m r a b c d e = omega (arith, ints)
 
 pub replayed_again : (h : Hyper) (k : ℕ) (p : List ℕ) (moves : List Move) → IsPartition h k p → EndAt h k p moves → replay (undone p moves) moves ≡ p
 replayed_again h k p moves whole ends =
-    moves_are_redone p moves ends.once (λ j d l. let a = (ends.each j d l).vertex in let b = whole.vertices in omega arith) (λ j d l. (ends.each j d l).stands)
+    moves_are_redone p moves ends.once (λ j d l. let a = (ends.each j d l).vertex in let b = whole.vertices in omega arith)
+    (λ j d l. (ends.each j d l).stands)
 
 -- ---- a closed round
 
@@ -50,7 +51,8 @@ ends_there e s = record {
     vertex = (s.raced.each j d l).vertex;
     from = subst (λ x. x < e.part.k) (sym (s.raced.each j d l).from) (s.whole.blocks (get_or e.moves j d).vertex 0 (low_vertices e s j d l));
     to = (s.raced.each j d l).to;
-    stands = sym (replay-once e.opening e.moves (get_or e.moves j d) s.raced.once (low_vertices e s) (Contains-get_or e.moves j d l)) ∙ ap (λ (q : List ℕ). block_of q (get_or e.moves j d).vertex) (sym s.replayed);
+    stands = sym (replay-once e.opening e.moves (get_or e.moves j d) s.raced.once (low_vertices e s) (Contains-get_or e.moves j d l)) ∙
+        ap (λ (q : List ℕ). block_of q (get_or e.moves j d).vertex) (sym s.replayed);
   };
 }
 
@@ -69,7 +71,9 @@ ready e s = record {
   sum = s.sum ∙ ap (λ (o : List ℕ). pos (cost e.part.hyper o) -ℤ pos (cost e.part.hyper e.part.blocks)) (sym (opening_left e s));
 }
 
-module _ (e : RacedEnd) (s : IsRacedEnd e) (h : Hyper) (same : e.part.hyper ≡ h) (p : Parted) (part : p ≡ e.part) (moves : List Move) (made : moves ≡ e.moves) (gains : List ℤ) (booked : gains ≡ e.gains) where
+module _ (e : RacedEnd) (s : IsRacedEnd e) (h : Hyper) (same : e.part.hyper ≡ h) (p : Parted) (part : p ≡ e.part) (moves : List Move)
+    (made : moves ≡ e.moves)
+    (gains : List ℤ) (booked : gains ≡ e.gains) where
   pub closed_ready : IsReady h p moves gains
   closed_ready =
       subst (λ (x : Parted). IsReady h x moves gains) (sym part)
@@ -85,7 +89,8 @@ module _ (e : RacedEnd) (s : IsRacedEnd e) (h : Hyper) (same : e.part.hyper ≡ 
       (subst (λ (xs : List Move). RecordsRace kind level h e.part.k e.part.limit (undone e.part.blocks xs) xs gains r) made
       (subst (λ (x : Parted). RecordsRace kind level h x.k x.limit (undone x.blocks moves) moves gains r) part q)))
 
-  pub closed_leads : (r : LoggedRound) (q : Parted) → q ≡ record p { blocks = after_round (undone p.blocks moves) r } → q ≡ record e.part { blocks = after_round e.opening r }
+  pub closed_leads : (r : LoggedRound) (q : Parted) → q ≡ record p { blocks = after_round (undone p.blocks moves) r } →
+      q ≡ record e.part { blocks = after_round e.opening r }
   closed_leads r q is =
       is
       ∙ ap (λ (x : Parted). record x { blocks = after_round (undone x.blocks moves) r }) part

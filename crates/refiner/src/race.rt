@@ -45,9 +45,12 @@ pub(crate) fn record_race<R: Threads + Sync>(
     requires raced { AreRacedMoves h.now part.old.k (undone part.old.blocks moves) moves gains }
     requires opened { Fits h.now part.old.k part.old.limit (undone part.old.blocks moves) }
     requires fits { Fits h.now part.old.k part.old.limit part.old.blocks }
-    requires sum { total_z (λ g. g) gains ≡ pos (cost h.now (undone part.old.blocks moves)) -ℤ pos (cost h.now part.old.blocks) }
-    ensures round { IfOk result (RecordsRace kind level h.now part.old.k part.old.limit (undone part.old.blocks moves) moves gains) }
-    ensures partition { IfOk result (λ r. part.new ≡ record part.old { blocks = after_round (undone part.old.blocks moves) r }) }
+    requires sum { total_z (λ g. g) gains ≡ pos (cost h.now (undone part.old.blocks moves)) -ℤ pos
+        (cost h.now part.old.blocks) }
+    ensures round { IfOk result (RecordsRace kind level h.now part.old.k part.old.limit (undone part.old.blocks moves)
+        moves gains) }
+    ensures partition { IfOk result (λ r. part.new ≡ record part.old
+        { blocks = after_round (undone part.old.blocks moves) r }) }
 {
     let _parted = part.blocks();
     let made = part.cost(h);

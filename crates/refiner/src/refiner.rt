@@ -53,6 +53,8 @@ pub trait Refiner: Drop {
         requires tallied { ((tally self.old).rounds < 2 ^ 62) × ((tally self.old).gain < 2 ^ 62) }
         ensures may_run { may_run self.new }
         ensures kind { kind self.new ≡ kind self.old }
-        ensures pass { IfOk result (λ q. LogsPass (kind self.old) h.now task.now p (tally self.old) (tally self.new) log.old log.new q) }
-        ensures part { OnErr result (LogsRounds false (kind self.old) h.now task.now p (tally self.old) (tally self.new) log.old log.new) };
+        ensures pass { IfOk result (λ q. LogsPass (kind self.old) h.now task.now p (tally self.old) (tally self.new)
+            log.old log.new q) }
+        ensures part { OnErr result (LogsRounds false (kind self.old) h.now task.now p (tally self.old)
+            (tally self.new) log.old log.new) };
 }

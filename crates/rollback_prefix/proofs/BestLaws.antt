@@ -28,7 +28,8 @@ module _ (h : Hyper) (k l : ℕ) (p : List ℕ) (moves : List Move) where
   }
 
   -- the next prefix is better
-  pub best_new : (i j : ℕ) → IsBestUpTo h k l p moves i j → Fits h k l (replay_first p moves (i + 1)) → cost h (replay_first p moves (i + 1)) < cost h (replay_first p moves j)
+  pub best_new : (i j : ℕ) → IsBestUpTo h k l p moves i j → Fits h k l (replay_first p moves (i + 1)) → cost h (replay_first p moves (i + 1)) < cost h
+      (replay_first p moves j)
       → IsBestUpTo h k l p moves (i + 1) (i + 1)
   best_new i j b f c = record {
     within = omega arith;
@@ -37,12 +38,14 @@ module _ (h : Hyper) (k l : ℕ) (p : List ℕ) (moves : List Move) where
     shortest = λ x m g. let a = b.cheapest x (omega arith) g in omega arith;
   }
     where
-      by : (x : ℕ) → x ≤ i + 1 → Fits h k l (replay_first p moves x) → (x ≡ i + 1) ⊎ (x ≡ i + 1 → ⊥) → cost h (replay_first p moves (i + 1)) ≤ cost h (replay_first p moves x)
+      by : (x : ℕ) → x ≤ i + 1 → Fits h k l (replay_first p moves x) → (x ≡ i + 1) ⊎ (x ≡ i + 1 → ⊥) → cost h (replay_first p moves (i + 1)) ≤ cost h
+          (replay_first p moves x)
       by x m g (inl e) = let q = ap (λ y. cost h (replay_first p moves y)) e in omega arith
       by x m g (inr q) = let a = b.cheapest x (omega arith) g in omega arith
 
   -- the next prefix doesn't fit, or isn't cheaper
-  pub best_same : (i j : ℕ) → IsBestUpTo h k l p moves i j → (Fits h k l (replay_first p moves (i + 1)) → cost h (replay_first p moves j) ≤ cost h (replay_first p moves (i + 1)))
+  pub best_same : (i j : ℕ) → IsBestUpTo h k l p moves i j → (Fits h k l (replay_first p moves (i + 1)) → cost h (replay_first p moves j) ≤ cost h
+      (replay_first p moves (i + 1)))
       → IsBestUpTo h k l p moves (i + 1) j
   best_same i j b c = record {
     within = let w = b.within in omega arith;
@@ -51,7 +54,8 @@ module _ (h : Hyper) (k l : ℕ) (p : List ℕ) (moves : List Move) where
     shortest = b.shortest;
   }
     where
-      by : (x : ℕ) → x ≤ i + 1 → Fits h k l (replay_first p moves x) → (x ≡ i + 1) ⊎ (x ≡ i + 1 → ⊥) → cost h (replay_first p moves j) ≤ cost h (replay_first p moves x)
+      by : (x : ℕ) → x ≤ i + 1 → Fits h k l (replay_first p moves x) → (x ≡ i + 1) ⊎ (x ≡ i + 1 → ⊥) → cost h (replay_first p moves j) ≤ cost h
+          (replay_first p moves x)
       by x m g (inl e) =
           let q = ap (λ y. cost h (replay_first p moves y)) e in
           let a = c (subst (λ y. Fits h k l (replay_first p moves y)) e g) in

@@ -1,5 +1,8 @@
 -- Laws of loads: how many are past the limit, and what a move changes, also one that leaves its vertex where it is.
-use Rattle.std.proofs.Common.{◌≡◌, ◌≢◌, ℕ, ◌+◌, ◌-◌, ◌^◌, ◌<◌, ◌≤◌, ◌⊎◌, inl, inr, Bool, true, false, if◌then◌else◌, nat_lt, List, length, get_or, set, take, drop, ℤ, pos, ◌+ℤ◌, ◌-ℤ◌, AllPairs, slice_set, refl, sym, ap, ◌∙◌, subst, arith, length-set, get_or-set_same, get_or-set_other}
+use Rattle.std.proofs.Common.{◌≡◌, ◌≢◌, ℕ, ◌+◌, ◌-◌, ◌^◌, ◌<◌, ◌≤◌, ◌⊎◌, inl, inr, Bool, true, false}
+use Rattle.std.proofs.Common.{if◌then◌else◌, nat_lt, List, length, get_or, set, take}
+use Rattle.std.proofs.Common.{drop, ℤ, pos, ◌+ℤ◌, ◌-ℤ◌, AllPairs, slice_set, refl, sym, ap, ◌∙◌, subst}
+use Rattle.std.proofs.Common.{arith, length-set, get_or-set_same, get_or-set_other}
 use Rattle.std.proofs.lemmas.List.{set-get_or, get_or_default, drop_more}
 use Rattle.std.proofs.lemmas.List.Elements.{All-set}
 use Rattle.std.proofs.lemmas.Bool.{cases_eq, ltb-true, ltb-false}
@@ -42,7 +45,9 @@ overloaded-le limit loads =
 
 -- one load replaced
 pub overloaded_set : (limit : ℕ) (loads : List ℕ) (b x : ℕ) → b < length loads
-    → (past limit (get_or loads b 0) ≤ overloaded limit loads) × (overloaded limit (set loads b x) + past limit (get_or loads b 0) ≡ overloaded limit loads + past limit x)
+    → (past limit (get_or loads b 0) ≤ overloaded limit loads) × (overloaded limit (set loads b x) + past limit (get_or loads b 0) ≡ overloaded limit
+    loads +
+    past limit x)
 overloaded_set limit loads b x l = (total_at-le (past limit) loads b 0 l, total-set (past limit) loads b x 0 l)
 
 -- none is past the limit exactly where the partition fits
@@ -79,16 +84,20 @@ weight_held h p v long vertex =
     let law = weight_in-set_old h.weights p v (block_of p v + 1) (block_of p v) vertex (omega arith) refl (omega arith) in
     omega arith
 
-pub loaded_moved : (h : Hyper) (k : ℕ) (p loads : List ℕ) (v a b : ℕ) → IsLoaded h k p loads → length p ≡ vertex_count h → v < vertex_count h → a ≡ block_of p v → a < k → b < k
+pub loaded_moved : (h : Hyper) (k : ℕ) (p loads : List ℕ) (v a b : ℕ) → IsLoaded h k p loads → length p ≡ vertex_count h → v < vertex_count h →
+    a ≡ block_of p v → a < k → b < k
     → IsLoaded h k (slice_set p v b) (loads_after loads a b (weight_of h v))
 loaded_moved h k p loads v a b loaded long vertex is from to = by (cases_eq b (block_of p v))
   where
     by : (b ≡ block_of p v) ⊎ (b ≡ block_of p v → ⊥) → IsLoaded h k (slice_set p v b) (loads_after loads a b (weight_of h v))
-    by (inr q) = subst (λ (x : ℕ). IsLoaded h k (slice_set p v b) (loads_after loads x b (weight_of h v))) (sym is) (weight_moved h k p loads v b loaded long vertex (subst (λ x. x < k) is from) to q)
+    by (inr q) = subst (λ (x : ℕ). IsLoaded h k (slice_set p v b) (loads_after loads x b (weight_of h v))) (sym is)
+        (weight_moved h k p loads v b loaded long vertex (subst (λ x. x < k) is from) to q)
     by (inl e) =
         subst (λ (q : List ℕ). IsLoaded h k q (loads_after loads a b (weight_of h v))) (sym same)
         (record {
-          all = length-set (set loads a (get_or loads a 0 - weight_of h v)) b (get_or (set loads a (get_or loads a 0 - weight_of h v)) b 0 + weight_of h v) ∙ length-set loads a (get_or loads a 0 - weight_of h v) ∙ loaded.all;
+          all = length-set (set loads a (get_or loads a 0 - weight_of h v)) b (get_or (set loads a (get_or loads a 0 - weight_of h v)) b 0 + weight_of h
+              v) ∙
+              length-set loads a (get_or loads a 0 - weight_of h v) ∙ loaded.all;
           each = λ c low. each c low (cases_eq c b);
         })
       where
@@ -101,7 +110,8 @@ loaded_moved h k p loads v a b loaded long vertex is from to = by (cases_eq b (b
         each : (c : ℕ) → c < k → (c ≡ b) ⊎ (c ≡ b → ⊥) → get_or (loads_after loads a b (weight_of h v)) c 0 ≡ load h p c
         each c low (inl f) =
             let n = loaded.all in
-            let at = get_or-set_same (set loads a (get_or loads a 0 - weight_of h v)) b (get_or (set loads a (get_or loads a 0 - weight_of h v)) b 0 + weight_of h v) 0 (omega (arith, length-set loads a (get_or loads a 0 - weight_of h v))) in
+            let at = get_or-set_same (set loads a (get_or loads a 0 - weight_of h v)) b (get_or (set loads a (get_or loads a 0 - weight_of h v)) b 0 +
+            weight_of h v) 0 (omega (arith, length-set loads a (get_or loads a 0 - weight_of h v))) in
             let was = get_or-set_same loads a (get_or loads a 0 - weight_of h v) 0 (omega arith) in
             let held = weight_held h p v long vertex in
             let known = loaded.each a from in
@@ -111,7 +121,8 @@ loaded_moved h k p loads v a b loaded long vertex is from to = by (cases_eq b (b
             let u = ap (load h p) (f ∙ sym equal) in
             omega arith
         each c low (inr q) =
-            let at = get_or-set_other (set loads a (get_or loads a 0 - weight_of h v)) b c (get_or (set loads a (get_or loads a 0 - weight_of h v)) b 0 + weight_of h v) 0 q in
+            let at = get_or-set_other (set loads a (get_or loads a 0 - weight_of h v)) b c (get_or (set loads a (get_or loads a 0 - weight_of h v)) b 0 +
+            weight_of h v) 0 q in
             let was = get_or-set_other loads a c (get_or loads a 0 - weight_of h v) 0 (λ r. q (r ∙ equal)) in
             let known = loaded.each c low in
             omega arith
@@ -130,7 +141,8 @@ pub joined_small : (loads : List ℕ) (a b w : ℕ) → a < length loads → get
 joined_small loads a b w inside l m n = by (cases_eq b a)
   where
     by : (b ≡ a) ⊎ (b ≡ a → ⊥) → get_or (set loads a (get_or loads a 0 - w)) b 0 + w < 2 ^ 64
-    by (inl e) = let s = get_or-set_same loads a (get_or loads a 0 - w) 0 inside in let t = ap (λ x. get_or (set loads a (get_or loads a 0 - w)) x 0) e in omega arith
+    by (inl e) = let s = get_or-set_same loads a (get_or loads a 0 - w) 0 inside in let t = ap (λ x. get_or (set loads a (get_or loads a 0 - w)) x 0) e in
+        omega arith
     by (inr q) = let s = get_or-set_other loads a b (get_or loads a 0 - w) 0 q in omega arith
 
 -- ---- moves undone one after the other
@@ -143,8 +155,10 @@ pub record IsUndoing (h : Hyper) (k : ℕ) (first : List ℕ) (moves : List Move
   pub loaded : IsLoaded h k p loads
 
 pub undoing_more : (h : Hyper) (k : ℕ) (first : List ℕ) (moves : List Move) (i : ℕ) (d : Move) (p loads : List ℕ) → i < length moves
-    → AllPairs (λ a b. a.vertex ≢ b.vertex) moves → (get_or moves i d).vertex < vertex_count h → (get_or moves i d).from < k → (get_or moves i d).to < k → IsUndoing h k first moves i p loads
-    → IsUndoing h k first moves (i + 1) (slice_set p (get_or moves i d).vertex (get_or moves i d).from) (loads_after loads (get_or moves i d).to (get_or moves i d).from (weight_of h (get_or moves i d).vertex))
+    → AllPairs (λ a b. a.vertex ≢ b.vertex) moves → (get_or moves i d).vertex < vertex_count h → (get_or moves i d).from < k → (get_or moves i d).to < k →
+    IsUndoing h k first moves i p loads
+    → IsUndoing h k first moves (i + 1) (slice_set p (get_or moves i d).vertex (get_or moves i d).from)
+    (loads_after loads (get_or moves i d).to (get_or moves i d).from (weight_of h (get_or moves i d).vertex))
 undoing_more h k first moves i d p loads here once vertex from to u = record {
   rest = ap (undone p) (sym (drop_more moves i d here)) ∙ u.rest;
   stands = λ j e l m.
@@ -155,49 +169,57 @@ undoing_more h k first moves i d p loads here once vertex from to u = record {
     vertices = length-set p (get_or moves i d).vertex (get_or moves i d).from ∙ u.partition.vertices;
     blocks = All-set (λ b. b < k) p (get_or moves i d).vertex (get_or moves i d).from from u.partition.blocks;
   };
-  loaded = loaded_moved h k p loads (get_or moves i d).vertex (get_or moves i d).to (get_or moves i d).from u.loaded u.partition.vertices vertex (u.stands i d (omega arith) here) to from;
+  loaded = loaded_moved h k p loads (get_or moves i d).vertex (get_or moves i d).to (get_or moves i d).from u.loaded u.partition.vertices vertex
+      (u.stands i d (omega arith) here) to from;
 }
 
 -- ---- moves replayed one after the other
 
-module _ (h : Hyper) (k : ℕ) (p : List ℕ) (moves : List Move) (i : ℕ) (whole : IsPartition h k p) (steps : StartFrom h k p moves) (here : i < length moves) where
-  pub from_below : (get_or moves i no_move).from < k
-  from_below =
-      let e = steps.each i no_move here in
-      let b = whole.blocks (get_or moves i no_move).vertex 0 (let v = whole.vertices in let w = e.vertex in omega arith) in
-      let f = e.from in
-      omega arith
+module _ (h : Hyper) (k : ℕ) (p : List ℕ) (moves : List Move) (i : ℕ) (whole : IsPartition h k p) (steps : StartFrom h k p moves) (here : i < length moves)
+  where
+    pub from_below : (get_or moves i no_move).from < k
+    from_below =
+        let e = steps.each i no_move here in
+        let b = whole.blocks (get_or moves i no_move).vertex 0 (let v = whole.vertices in let w = e.vertex in omega arith) in
+        let f = e.from in
+        omega arith
 
-  pub stands_there : (get_or moves i no_move).from ≡ block_of (replay_first p moves i) (get_or moves i no_move).vertex
-  stands_there = (steps.each i no_move here).from ∙ sym (still_there p moves i no_move here steps.once)
+    pub stands_there : (get_or moves i no_move).from ≡ block_of (replay_first p moves i) (get_or moves i no_move).vertex
+    stands_there = (steps.each i no_move here).from ∙ sym (still_there p moves i no_move here steps.once)
 
-  pub replay_long : length (replay_first p moves i) ≡ vertex_count h
-  replay_long = length-replay p (take i moves) ∙ whole.vertices
+    pub replay_long : length (replay_first p moves i) ≡ vertex_count h
+    replay_long = length-replay p (take i moves) ∙ whole.vertices
 
-  pub next_held : (loads : List ℕ) → IsLoaded h k (replay_first p moves i) loads → weight_of h (get_or moves i no_move).vertex ≤ get_or loads (get_or moves i no_move).from 0
-  next_held loads loaded =
-      let held = weight_held h (replay_first p moves i) (get_or moves i no_move).vertex replay_long (steps.each i no_move here).vertex in
-      let is = loaded.each (get_or moves i no_move).from from_below in
-      let q = ap (λ x. load h (replay_first p moves i) x) stands_there in
-      omega arith
+    pub next_held : (loads : List ℕ) → IsLoaded h k (replay_first p moves i) loads → weight_of h (get_or moves i no_move).vertex ≤ get_or loads
+        (get_or moves i no_move).from 0
+    next_held loads loaded =
+        let held = weight_held h (replay_first p moves i) (get_or moves i no_move).vertex replay_long (steps.each i no_move here).vertex in
+        let is = loaded.each (get_or moves i no_move).from from_below in
+        let q = ap (λ x. load h (replay_first p moves i) x) stands_there in
+        omega arith
 
-  pub next_room : (loads next : List ℕ) (w : ℕ) → IsWithinLimits h → IsLoaded h k (replay_first p moves i) loads → w < 2 ^ 54 → next ≡ set loads (get_or moves i no_move).from (get_or loads (get_or moves i no_move).from 0 - w)
-      → get_or next (get_or moves i no_move).to 0 + w < 2 ^ 64
-  next_room loads next w bounds loaded small e =
-      let room = joined_small loads (get_or moves i no_move).from (get_or moves i no_move).to w (let n = loaded.all in let f = from_below in omega arith)
-      (load_small h k (replay_first p moves i) loads (get_or moves i no_move).from bounds loaded from_below)
-      (load_small h k (replay_first p moves i) loads (get_or moves i no_move).to bounds loaded (steps.each i no_move here).to) small in
-      let q = ap (λ (xs : List ℕ). get_or xs (get_or moves i no_move).to 0) e in
-      omega arith
+    pub next_room : (loads next : List ℕ) (w : ℕ) → IsWithinLimits h → IsLoaded h k (replay_first p moves i) loads → w < 2 ^ 54 →
+        next ≡ set loads (get_or moves i no_move).from (get_or loads (get_or moves i no_move).from 0 - w)
+        → get_or next (get_or moves i no_move).to 0 + w < 2 ^ 64
+    next_room loads next w bounds loaded small e =
+        let room = joined_small loads (get_or moves i no_move).from (get_or moves i no_move).to w (let n = loaded.all in let f = from_below in omega arith)
+        (load_small h k (replay_first p moves i) loads (get_or moves i no_move).from bounds loaded from_below)
+        (load_small h k (replay_first p moves i) loads (get_or moves i no_move).to bounds loaded (steps.each i no_move here).to) small in
+        let q = ap (λ (xs : List ℕ). get_or xs (get_or moves i no_move).to 0) e in
+        omega arith
 
-  pub next_loaded : (loads next last : List ℕ) (w : ℕ) → IsLoaded h k (replay_first p moves i) loads → w ≡ weight_of h (get_or moves i no_move).vertex
-      → next ≡ set loads (get_or moves i no_move).from (get_or loads (get_or moves i no_move).from 0 - w) → last ≡ set next (get_or moves i no_move).to (get_or next (get_or moves i no_move).to 0 + w)
-      → IsLoaded h k (replay_first p moves (i + 1)) last
-  next_loaded loads next last w loaded is e f =
-      subst (λ (q : List ℕ). IsLoaded h k q last) (sym (replay_first_more p moves i no_move here))
-      (subst (λ (xs : List ℕ). IsLoaded h k (slice_set (replay_first p moves i) (get_or moves i no_move).vertex (get_or moves i no_move).to) xs)
-      (ap (loads_after loads (get_or moves i no_move).from (get_or moves i no_move).to) (sym is) ∙ ap (λ (xs : List ℕ). set xs (get_or moves i no_move).to (get_or xs (get_or moves i no_move).to 0 + w)) (sym e) ∙ sym f)
-      (loaded_moved h k (replay_first p moves i) loads (get_or moves i no_move).vertex (get_or moves i no_move).from (get_or moves i no_move).to loaded replay_long (steps.each i no_move here).vertex stands_there from_below (steps.each i no_move here).to))
+    pub next_loaded : (loads next last : List ℕ) (w : ℕ) → IsLoaded h k (replay_first p moves i) loads → w ≡ weight_of h (get_or moves i no_move).vertex
+        → next ≡ set loads (get_or moves i no_move).from (get_or loads (get_or moves i no_move).from 0 - w) → last ≡ set next (get_or moves i no_move).to
+        (get_or next (get_or moves i no_move).to 0 + w)
+        → IsLoaded h k (replay_first p moves (i + 1)) last
+    next_loaded loads next last w loaded is e f =
+        subst (λ (q : List ℕ). IsLoaded h k q last) (sym (replay_first_more p moves i no_move here))
+        (subst (λ (xs : List ℕ). IsLoaded h k (slice_set (replay_first p moves i) (get_or moves i no_move).vertex (get_or moves i no_move).to) xs)
+        (ap (loads_after loads (get_or moves i no_move).from (get_or moves i no_move).to) (sym is) ∙
+        ap (λ (xs : List ℕ). set xs (get_or moves i no_move).to (get_or xs (get_or moves i no_move).to 0 + w)) (sym e) ∙ sym f)
+        (loaded_moved h k (replay_first p moves i) loads (get_or moves i no_move).vertex (get_or moves i no_move).from (get_or moves i no_move).to loaded
+        replay_long (steps.each i no_move here).vertex stands_there from_below (steps.each i no_move here).to))
 
-pub saved_more : (s g : ℤ) (x y z : ℕ) → s ≡ pos x -ℤ pos y → g ≡ pos y -ℤ pos z → x < 2 ^ 57 → y < 2 ^ 57 → z < 2 ^ 57 → to_z w64 (of_z w64 (s +ℤ to_z w64 (of_z w64 g))) ≡ pos x -ℤ pos z
+pub saved_more : (s g : ℤ) (x y z : ℕ) → s ≡ pos x -ℤ pos y → g ≡ pos y -ℤ pos z → x < 2 ^ 57 → y < 2 ^ 57 → z < 2 ^ 57 →
+    to_z w64 (of_z w64 (s +ℤ to_z w64 (of_z w64 g))) ≡ pos x -ℤ pos z
 saved_more s g x y z e f a b c = omega (arith, ints)

@@ -1,5 +1,6 @@
 -- Laws of the nets that moves touch: found move by move, and what the other nets cost.
-use Rattle.std.proofs.Common.{◌≡◌, ◌≢◌, ℕ, zero, suc, ◌+◌, ◌<◌, ◌⊎◌, inl, inr, Bool, true, false, List, [], ◌∷◌, ◌++◌, length, get_or, set, replicate, All, AllPairs, Contains, refl, sym, ap, ◌∙◌, subst, arith, length-set, get_or-set_same, get_or-set_other, true≢false}
+use Rattle.std.proofs.Common.{◌≡◌, ◌≢◌, ℕ, zero, suc, ◌+◌, ◌<◌, ◌⊎◌, inl, inr, Bool, true, false, List, [], ◌∷◌, ◌++◌, length, get_or, set, replicate, All}
+use Rattle.std.proofs.Common.{AllPairs, Contains, refl, sym, ap, ◌∙◌, subst, arith, length-set, get_or-set_same, get_or-set_other, true≢false}
 use Rattle.std.proofs.lemmas.List.{get_or_default, length-replicate}
 use Rattle.std.proofs.lemmas.List.Elements.{All-nil, All-push, Contains-get_or, Contains-push, Contains-push_cases, Contains-append_left}
 use Rattle.std.proofs.lemmas.List.Quantifiers.{all_pairs_push}
@@ -30,7 +31,8 @@ seen_none m = record {
   marked = λ e c. absurd (let l = c.1 in omega arith);
 }
 
-pub seen_more : (m : ℕ) (seen : List Bool) (nets : List ℕ) (e : ℕ) → e < m → get_or seen e false ≡ false → AreSeen m seen nets → AreSeen m (set seen e true) (nets ++ e ∷ [])
+pub seen_more : (m : ℕ) (seen : List Bool) (nets : List ℕ) (e : ℕ) → e < m → get_or seen e false ≡ false → AreSeen m seen nets → AreSeen m (set seen e true)
+    (nets ++ e ∷ [])
 seen_more m seen nets e low fresh s = record {
   size = length-set seen e true ∙ s.size;
   below = All-push (λ x. x < m) nets e s.below low;
@@ -56,7 +58,9 @@ pub contained_by_places : (xs ys : List ℕ) → ((j : ℕ) → j < length ys �
 contained_by_places xs ys h x c = subst (Contains xs) (get_or_default ys c.0 0 x c.1 ∙ c.2) (h c.0 c.1)
 
 -- the nets of the moves so far, and those of one more
-pub all_more : (h : Hyper) (moves : List Move) (nets : List ℕ) (i : ℕ) → ((j : ℕ) (d : Move) (e : ℕ) → j < i → Contains (nets_of h (get_or moves j d).vertex) e → Contains nets e)
+pub all_more : (h : Hyper) (moves : List Move) (nets : List ℕ) (i : ℕ) →
+    ((j : ℕ) (d : Move) (e : ℕ) → j < i → Contains (nets_of h (get_or moves j d).vertex)
+    e → Contains nets e)
     → ((d : Move) (e : ℕ) → Contains (nets_of h (get_or moves i d).vertex) e → Contains nets e)
     → (j : ℕ) (d : Move) (e : ℕ) → j < i + 1 → Contains (nets_of h (get_or moves j d).vertex) e → Contains nets e
 all_more h moves nets i before here j d e l c = by (cases_eq j i)

@@ -1,5 +1,6 @@
 -- Laws of the pin counts of one net: counted pin by pin, and after a pin went to another block.
-use Rattle.std.proofs.Common.{◌≡◌, ℕ, ◌+◌, ◌-◌, ◌*◌, ◌<◌, ◌≤◌, ◌⊎◌, inl, inr, Bool, true, false, nat_eq, List, [], map, take, length, get_or, set, All, Contains, slice_set, refl, sym, ap, ◌∙◌, subst, arith, get_or-set_same, get_or-set_other, length-set, if◌then◌else◌}
+use Rattle.std.proofs.Common.{◌≡◌, ℕ, ◌+◌, ◌-◌, ◌*◌, ◌<◌, ◌≤◌, ◌⊎◌, inl, inr, Bool, true, false, nat_eq, List, [], map, take, length, get_or, set, All}
+use Rattle.std.proofs.Common.{Contains, slice_set, refl, sym, ap, ◌∙◌, subst, arith, get_or-set_same, get_or-set_other, length-set, if◌then◌else◌}
 use Rattle.std.proofs.lemmas.Bool.{cases_eq, eqb-true, eqb-false}
 use mir.Val.{bool_byte}
 use Rattle.std.specs.List.Sorted.{IsStrictlyIncreasing}
@@ -7,8 +8,10 @@ use Rattle.hg_defs.specs.Sums.{sum_below}
 use Rattle.hg_defs.specs.Partition.{block_of}
 use Rattle.hg_defs.specs.Pins.{pins_in, present}
 use Rattle.hg_defs.specs.Cost.{connectivity}
-use Rattle.hg_defs.proofs.SumLaws.{total-take_more, sum_below-same, sum_below-le, sum_below-constant, sum_below-zero, weight_if, weight_if-same, weight_if-other}
-use Rattle.hg_defs.proofs.DistinctLaws.{present-raise, present-lower, present-le, connectivity-sum, pins_in-set, pins_in-times, times_of, times_of-once, times_of-positive, Contains-map}
+use Rattle.hg_defs.proofs.SumLaws.{total-take_more, sum_below-same, sum_below-le, sum_below-constant}
+use Rattle.hg_defs.proofs.SumLaws.{sum_below-zero, weight_if, weight_if-same, weight_if-other}
+use Rattle.hg_defs.proofs.DistinctLaws.{present-raise, present-lower, present-le, connectivity-sum, pins_in-set}
+use Rattle.hg_defs.proofs.DistinctLaws.{pins_in-times, times_of, times_of-once, times_of-positive, Contains-map}
 use Rattle.rollback_prefix.specs.Pins.{AreZeros, CountsPins, counted, counts_after}
 
 -- ---- how many counts aren't 0
@@ -33,7 +36,8 @@ counted_raise counts b l =
 pub counted_lower : (counts : List ℕ) (b : ℕ) → b < length counts → 0 < get_or counts b 0
     → counted (set counts b (get_or counts b 0 - 1)) + weight_if (get_or counts b 0) 1 1 ≡ counted counts
 counted_lower counts b l p =
-    ap (λ n. sum_below (λ c. present (get_or (set counts b (get_or counts b 0 - 1)) c 0)) n + weight_if (get_or counts b 0) 1 1) (length-set counts b (get_or counts b 0 - 1))
+    ap (λ n. sum_below (λ c. present (get_or (set counts b (get_or counts b 0 - 1)) c 0)) n + weight_if (get_or counts b 0) 1 1)
+    (length-set counts b (get_or counts b 0 - 1))
     ∙ present-lower (λ c. get_or counts c 0) (λ c. get_or (set counts b (get_or counts b 0 - 1)) c 0) (length counts) b l
     (let e = get_or-set_same counts b (get_or counts b 0 - 1) 0 l in omega arith)
     (λ c m q. get_or-set_other counts b c (get_or counts b 0 - 1) 0 q)
@@ -108,7 +112,8 @@ pin_counted p pins v c =
 pub counts_shifted : (k : ℕ) (p pins counts : List ℕ) (v to : ℕ) → v < length p → IsStrictlyIncreasing pins → Contains pins v → block_of p v < k → to < k
     → CountsPins k p pins counts → CountsPins k (slice_set p v to) pins (counts_after counts (block_of p v) to)
 counts_shifted k p pins counts v to inside rising pin low high c = record {
-  blocks = length-set (set counts to (get_or counts to 0 + 1)) (block_of p v) (get_or (set counts to (get_or counts to 0 + 1)) (block_of p v) 0 - 1) ∙ (length-set counts to (get_or counts to 0 + 1) ∙ c.blocks);
+  blocks = length-set (set counts to (get_or counts to 0 + 1)) (block_of p v) (get_or (set counts to (get_or counts to 0 + 1)) (block_of p v) 0 - 1) ∙
+      (length-set counts to (get_or counts to 0 + 1) ∙ c.blocks);
   each = λ b m. by b m (cases_eq b (block_of p v)) (cases_eq b to);
 }
   where
@@ -116,7 +121,8 @@ counts_shifted k p pins counts v to inside rising pin low high c = record {
     law b =
         let s = pins_in-set p pins v to b inside in
         let t = times_of-once pins v rising pin in
-        let a : times_of pins v * weight_if (block_of p v) b 1 ≡ weight_if (block_of p v) b 1 = ap (λ n. n * weight_if (block_of p v) b 1) t ∙ omega arith in
+        let a : times_of pins v * weight_if (block_of p v) b 1 ≡ weight_if (block_of p v) b 1 = ap (λ n. n * weight_if (block_of p v) b 1) t ∙
+        omega arith in
         let d : times_of pins v * weight_if to b 1 ≡ weight_if to b 1 = ap (λ n. n * weight_if to b 1) t ∙ omega arith in
         omega arith
 
@@ -124,7 +130,9 @@ counts_shifted k p pins counts v to inside rising pin low high c = record {
         → get_or (counts_after counts (block_of p v) to) b 0 ≡ pins_in (slice_set p v to) pins b
     by b m (inl e) (inl f) =
         let s = get_or-set_same counts to (get_or counts to 0 + 1) 0 (omega (arith, c.blocks)) in
-        let t = get_or-set_same (set counts to (get_or counts to 0 + 1)) (block_of p v) (get_or (set counts to (get_or counts to 0 + 1)) (block_of p v) 0 - 1) 0 (omega (arith, length-set counts to (get_or counts to 0 + 1), c.blocks)) in
+        let t = get_or-set_same (set counts to (get_or counts to 0 + 1)) (block_of p v) (get_or (set counts to (get_or counts to 0 + 1)) (block_of p v) 0 -
+        1)
+        0 (omega (arith, length-set counts to (get_or counts to 0 + 1), c.blocks)) in
         let x = ap (λ n. get_or (set counts to (get_or counts to 0 + 1)) n 0) (sym e ∙ f) in
         let y = ap (λ n. get_or (counts_after counts (block_of p v) to) n 0) e in
         let z = ap (λ n. get_or counts n 0) f in
@@ -135,7 +143,9 @@ counts_shifted k p pins counts v to inside rising pin low high c = record {
         omega arith
     by b m (inl e) (inr r) =
         let s = get_or-set_other counts to (block_of p v) (get_or counts to 0 + 1) 0 (λ i. r (e ∙ i)) in
-        let t = get_or-set_same (set counts to (get_or counts to 0 + 1)) (block_of p v) (get_or (set counts to (get_or counts to 0 + 1)) (block_of p v) 0 - 1) 0 (omega (arith, length-set counts to (get_or counts to 0 + 1), c.blocks)) in
+        let t = get_or-set_same (set counts to (get_or counts to 0 + 1)) (block_of p v) (get_or (set counts to (get_or counts to 0 + 1)) (block_of p v) 0 -
+        1)
+        0 (omega (arith, length-set counts to (get_or counts to 0 + 1), c.blocks)) in
         let y = ap (λ n. get_or (counts_after counts (block_of p v) to) n 0) e in
         let z = ap (λ n. get_or counts n 0) e in
         let g = weight_if-same (block_of p v) b 1 (sym e) in
@@ -145,7 +155,9 @@ counts_shifted k p pins counts v to inside rising pin low high c = record {
         omega arith
     by b m (inr q) (inl f) =
         let s = get_or-set_same counts to (get_or counts to 0 + 1) 0 (omega (arith, c.blocks)) in
-        let t = get_or-set_other (set counts to (get_or counts to 0 + 1)) (block_of p v) b (get_or (set counts to (get_or counts to 0 + 1)) (block_of p v) 0 - 1) 0 q in
+        let t = get_or-set_other (set counts to (get_or counts to 0 + 1)) (block_of p v) b (get_or (set counts to (get_or counts to 0 + 1)) (block_of p v)
+        0 -
+        1) 0 q in
         let x = ap (λ n. get_or (set counts to (get_or counts to 0 + 1)) n 0) f in
         let z = ap (λ n. get_or counts n 0) f in
         let g = weight_if-other (block_of p v) b 1 (λ i. q (sym i)) in
@@ -155,7 +167,9 @@ counts_shifted k p pins counts v to inside rising pin low high c = record {
         omega arith
     by b m (inr q) (inr r) =
         let s = get_or-set_other counts to b (get_or counts to 0 + 1) 0 r in
-        let t = get_or-set_other (set counts to (get_or counts to 0 + 1)) (block_of p v) b (get_or (set counts to (get_or counts to 0 + 1)) (block_of p v) 0 - 1) 0 q in
+        let t = get_or-set_other (set counts to (get_or counts to 0 + 1)) (block_of p v) b (get_or (set counts to (get_or counts to 0 + 1)) (block_of p v)
+        0 -
+        1) 0 q in
         let g = weight_if-other (block_of p v) b 1 (λ i. q (sym i)) in
         let j = weight_if-other to b 1 (λ i. r (sym i)) in
         let w = law b in

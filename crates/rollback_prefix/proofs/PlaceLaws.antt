@@ -1,5 +1,6 @@
 -- Laws of the places of the moves that move a pin: found pin by pin, and then sorted.
-use Rattle.std.proofs.Common.{◌≡◌, ◌≢◌, ℕ, ◌+◌, ◌-◌, ◌<◌, ◌⊎◌, inl, inr, List, [], ◌∷◌, ◌++◌, take, length, get_or, AllPairs, Contains, IsPermutation, sym, ap, subst, arith, nat_eq, nat_cmp, length-take}
+use Rattle.std.proofs.Common.{◌≡◌, ◌≢◌, ℕ, ◌+◌, ◌-◌, ◌<◌, ◌⊎◌, inl, inr, List, [], ◌∷◌, ◌++◌, take, length, get_or, AllPairs}
+use Rattle.std.proofs.Common.{Contains, IsPermutation, sym, ap, subst, arith, nat_eq, nat_cmp, length-take}
 use Rattle.std.proofs.lemmas.List.{take_more, get_or-take, get_or_default}
 use Rattle.std.proofs.lemmas.List.Elements.{Contains-get_or, Contains-push, Contains-push_cases, Contains-append_left}
 use Rattle.std.proofs.lemmas.List.Quantifiers.{all_pairs_push}
@@ -28,7 +29,8 @@ found_none order = record {
   all = λ v i c e. absurd (let l = c.1 in omega arith);
 }
 
-module _ (pins order places : List ℕ) (i : ℕ) (here : i < length pins) (rising : IsStrictlyIncreasing pins) (one : (u v : ℕ) → 0 < get_or order u 0 → get_or order u 0 ≡ get_or order v 0 → u ≡ v) where
+module _ (pins order places : List ℕ) (i : ℕ) (here : i < length pins) (rising : IsStrictlyIncreasing pins) (one : (u v : ℕ) → 0 < get_or order u 0 →
+    get_or order u 0 ≡ get_or order v 0 → u ≡ v) where
   grown : take (i + 1) pins ≡ take i pins ++ get_or pins i 0 ∷ []
   grown = take_more pins i 0 here
 
@@ -36,7 +38,11 @@ module _ (pins order places : List ℕ) (i : ℕ) (here : i < length pins) (risi
   pub found_same : get_or order (get_or pins i 0) 0 ≡ 0 → AreFound (take i pins) order places → AreFound (take (i + 1) pins) order places
   found_same e f = record {
     once = f.once;
-    each = λ j c. let r = f.each j c in (r.0, subst (λ xs. Contains xs r.0) (sym grown) (Contains-append_left (take i pins) (get_or pins i 0 ∷ []) r.0 r.1), r.2);
+    each = λ j c. let r = f.each j c in (
+      r.0,
+      subst (λ xs. Contains xs r.0) (sym grown) (Contains-append_left (take i pins) (get_or pins i 0 ∷ []) r.0 r.1),
+      r.2,
+    );
     all = λ v j c q. by v j q (Contains-push_cases (take i pins) (get_or pins i 0) v (subst (λ xs. Contains xs v) grown c));
   }
     where
@@ -48,7 +54,8 @@ module _ (pins order places : List ℕ) (i : ℕ) (here : i < length pins) (risi
   pub found_more : 0 < get_or order (get_or pins i 0) 0 → AreFound (take i pins) order places
       → AreFound (take (i + 1) pins) order (places ++ (get_or order (get_or pins i 0) 0 - 1) ∷ [])
   found_more p f = record {
-    once = all_pairs_push (λ a b. a ≢ b) places (get_or order (get_or pins i 0) 0 - 1) f.once (λ k d l. new (get_or places k d) (Contains-get_or places k d l));
+    once = all_pairs_push (λ a b. a ≢ b) places (get_or order (get_or pins i 0) 0 - 1) f.once
+        (λ k d l. new (get_or places k d) (Contains-get_or places k d l));
     each = λ j c. each j (Contains-push_cases places (get_or order (get_or pins i 0) 0 - 1) j c);
     all = λ v j c q. all v j q (Contains-push_cases (take i pins) (get_or pins i 0) v (subst (λ xs. Contains xs v) grown c));
   }
@@ -66,11 +73,22 @@ module _ (pins order places : List ℕ) (i : ℕ) (here : i < length pins) (risi
           let any = get_or_default pins i r.0 0 here in
           omega arith
 
-      each : (j : ℕ) → Contains places j ⊎ (get_or order (get_or pins i 0) 0 - 1 ≡ j) → (v : ℕ) × Contains (take (i + 1) pins) v × (get_or order v 0 ≡ j + 1)
-      each j (inl c) = let r = f.each j c in (r.0, subst (λ xs. Contains xs r.0) (sym grown) (Contains-append_left (take i pins) (get_or pins i 0 ∷ []) r.0 r.1), r.2)
-      each j (inr e) = (get_or pins i 0, subst (λ xs. Contains xs (get_or pins i 0)) (sym grown) (Contains-push (take i pins) (get_or pins i 0)), omega arith)
+      each : (j : ℕ) → Contains places j ⊎ (get_or order (get_or pins i 0) 0 - 1 ≡ j) → (v : ℕ) × Contains (take (i + 1) pins) v ×
+          (get_or order v 0 ≡ j + 1)
+      each j (inl c) = let r = f.each j c in (
+        r.0,
+        subst (λ xs. Contains xs r.0) (sym grown) (Contains-append_left (take i pins) (get_or pins i 0 ∷ []) r.0
+            r.1),
+        r.2,
+      )
+      each j (inr e) = (
+        get_or pins i 0,
+        subst (λ xs. Contains xs (get_or pins i 0)) (sym grown) (Contains-push (take i pins) (get_or pins i 0)),
+        omega arith,
+      )
 
-      all : (v j : ℕ) → get_or order v 0 ≡ j + 1 → Contains (take i pins) v ⊎ (get_or pins i 0 ≡ v) → Contains (places ++ (get_or order (get_or pins i 0) 0 - 1) ∷ []) j
+      all : (v j : ℕ) → get_or order v 0 ≡ j + 1 → Contains (take i pins) v ⊎ (get_or pins i 0 ≡ v) →
+          Contains (places ++ (get_or order (get_or pins i 0) 0 - 1) ∷ []) j
       all v j q (inl c) = Contains-append_left places ((get_or order (get_or pins i 0) 0 - 1) ∷ []) j (f.all v j c q)
       all v j q (inr s) =
           let t = ap (λ x. get_or order x 0) s in
@@ -89,4 +107,5 @@ found_sorted pins order xs ys f h s = record {
 }
   where
     apart : AllPairs (λ i j. i ≢ j) ys
-    apart = AllPairs-from_IsDistinct Decides-eqb ys (IsDistinct-IsPermutation nat_eq nat_eq_equiv.symm xs ys h (IsDistinct-from_AllPairs Decides-eqb xs f.once))
+    apart = AllPairs-from_IsDistinct Decides-eqb ys (IsDistinct-IsPermutation nat_eq nat_eq_equiv.symm xs ys h
+        (IsDistinct-from_AllPairs Decides-eqb xs f.once))

@@ -1,5 +1,7 @@
 -- Laws of what nets save together: net by net, part by part, and all nets that moves touch.
-use Rattle.std.proofs.Common.{◌≡◌, ◌≢◌, ℕ, zero, suc, ◌+◌, ◌*◌, ◌^◌, ◌<◌, ◌≤◌, List, [], ◌∷◌, take, drop, length, get_or, replicate, All, AllPairs, Contains, ℤ, pos, ◌+ℤ◌, ◌-ℤ◌, ◌≤ℤ◌, refl, sym, ap, ◌∙◌, subst, arith, if◌then◌else◌, nat_eq, Bool, true, false, ◌++◌, ◌/◌, ◌%◌, min}
+use Rattle.std.proofs.Common.{◌≡◌, ◌≢◌, ℕ, zero, suc, ◌+◌, ◌*◌, ◌^◌, ◌<◌, ◌≤◌, List, [], ◌∷◌, take, drop}
+use Rattle.std.proofs.Common.{length, get_or, replicate, All, AllPairs, Contains, ℤ}
+use Rattle.std.proofs.Common.{pos, ◌+ℤ◌, ◌-ℤ◌, ◌≤ℤ◌, refl, sym, ap, ◌∙◌, subst, arith, if◌then◌else◌, nat_eq, Bool, true, false, ◌++◌, ◌/◌, ◌%◌, min}
 use Rattle.std.proofs.Math.Seq.{take-add}
 use Rattle.std.proofs.lemmas.Int.{ints}
 use Rattle.std.proofs.lemmas.List.{take_all, length-replicate}
@@ -11,7 +13,8 @@ use Rattle.hg_defs.specs.Hypergraph.{Net, Hyper, IsWithinLimits, net_count, net_
 use Rattle.hg_defs.specs.Incidence.{nets_of}
 use Rattle.hg_defs.specs.Cost.{cost, net_cost}
 use Rattle.hg_defs.specs.Replay.{replay_first}
-use Rattle.hg_defs.proofs.SumLaws.{total-take_more, total-append, total-take-le, total-take-drop, total-le, total-by_index, sum_below-change, sum_below-same, sum_below-le, total-same}
+use Rattle.hg_defs.proofs.SumLaws.{total-take_more, total-append, total-take-le, total-take-drop, total-le}
+use Rattle.hg_defs.proofs.SumLaws.{total-by_index, sum_below-change, sum_below-same, sum_below-le, total-same}
 use Rattle.hg_base.proofs.CountLaws.{net_cost-le}
 use Rattle.std.specs.List.{range_with_len, AllZip}
 use Rattle.std.specs.Set.{is_member}
@@ -34,14 +37,20 @@ use Rattle.rollback_prefix.specs.Gains.{AreSavings, AreSmall, AreTouched, cost_o
 -- ---- small sums
 
 pub cost_of_nets-le : (h : Hyper) (p : List ℕ) (nets : List ℕ) → cost_of_nets h p nets ≤ pin_weight h nets
-cost_of_nets-le h p nets = total-le (λ e. net_cost h.objective p (net_of h e)) (λ e. (net_of h e).weight * length (net_of h e).pins) nets (λ k d l. net_cost-le h.objective p (net_of h (get_or nets k d)))
+cost_of_nets-le h p nets = total-le (λ e. net_cost h.objective p (net_of h e)) (λ e. (net_of h e).weight * length (net_of h e).pins) nets
+    (λ k d l. net_cost-le h.objective p (net_of h (get_or nets k d)))
 
-pub savings_small : (h : Hyper) (p : List ℕ) (moves : List Move) (nets : List ℕ) (gains : List ℤ) → AreSavings h p moves nets gains → pin_weight h nets < 2 ^ 57 → AreSmall gains
+pub savings_small : (h : Hyper) (p : List ℕ) (moves : List Move) (nets : List ℕ) (gains : List ℤ) → AreSavings h p moves nets gains →
+    pin_weight h nets < 2 ^ 57 → AreSmall gains
 savings_small h p moves nets gains s few i l =
     let is = s.each i (let n = s.size in omega arith) in
     let a = cost_of_nets-le h (replay_first p moves i) nets in
-    let b = cost_of_nets-le h (replay_first p moves (i + 1)) nets in
-    (within_low (get_or gains i (pos 0)) (cost_of_nets h (replay_first p moves i) nets) (cost_of_nets h (replay_first p moves (i + 1)) nets) is (omega arith), within_high (get_or gains i (pos 0)) (cost_of_nets h (replay_first p moves i) nets) (cost_of_nets h (replay_first p moves (i + 1)) nets) is (omega arith))
+    let b = cost_of_nets-le h (replay_first p moves (i + 1)) nets in (
+      within_low (get_or gains i (pos 0)) (cost_of_nets h (replay_first p moves i) nets) (cost_of_nets h (replay_first p moves (i + 1)) nets) is
+          (omega arith),
+      within_high (get_or gains i (pos 0)) (cost_of_nets h (replay_first p moves i) nets) (cost_of_nets h (replay_first p moves (i + 1)) nets) is
+          (omega arith),
+    )
   where
     within_low : (g : ℤ) (x y : ℕ) → g ≡ pos x -ℤ pos y → y < 2 ^ 57 → (pos 0 -ℤ pos (2 ^ 60)) ≤ℤ g
     within_low g x y e l = omega (arith, ints)
@@ -65,14 +74,16 @@ savings_none h p moves = record {
 joined : (g o : ℤ) (a b x y m n : ℕ) → o ≡ pos a -ℤ pos b → g ≡ o +ℤ (pos x -ℤ pos y) → m ≡ a + x → n ≡ b + y → g ≡ pos m -ℤ pos n
 joined g o a b x y m n e f i j = omega (arith, ints)
 
-pub savings_more : (h : Hyper) (p : List ℕ) (moves : List Move) (nets : List ℕ) (j : ℕ) (old new : List ℤ) → j < length nets → AreSavings h p moves (take j nets) old → length new ≡ length moves
+pub savings_more : (h : Hyper) (p : List ℕ) (moves : List Move) (nets : List ℕ) (j : ℕ) (old new : List ℤ) → j < length nets →
+    AreSavings h p moves (take j nets) old → length new ≡ length moves
     → ((i : ℕ) → i < length moves → get_or new i (pos 0) ≡ get_or old i (pos 0) +ℤ saved_by_net h p moves (get_or nets j 0) i)
     → AreSavings h p moves (take (j + 1) nets) new
 savings_more h p moves nets j old new l s long added = record {
   size = long;
   each = λ i m. joined (get_or new i (pos 0)) (get_or old i (pos 0))
       (cost_of_nets h (replay_first p moves i) (take j nets)) (cost_of_nets h (replay_first p moves (i + 1)) (take j nets))
-      (net_cost h.objective (replay_first p moves i) (net_of h (get_or nets j 0))) (net_cost h.objective (replay_first p moves (i + 1)) (net_of h (get_or nets j 0)))
+      (net_cost h.objective (replay_first p moves i) (net_of h (get_or nets j 0))) (net_cost h.objective (replay_first p moves (i + 1))
+      (net_of h (get_or nets j 0)))
       (cost_of_nets h (replay_first p moves i) (take (j + 1) nets)) (cost_of_nets h (replay_first p moves (i + 1)) (take (j + 1) nets))
       (s.each i m) (added i m)
       (total-take_more (λ e. net_cost h.objective (replay_first p moves i) (net_of h e)) nets j 0 l)
@@ -81,7 +92,8 @@ savings_more h p moves nets j old new l s long added = record {
 
 -- ---- part by part
 
-pub savings_joined : (h : Hyper) (p : List ℕ) (moves : List Move) (nets : List ℕ) (size j : ℕ) (old part new : List ℤ) → AreSavings h p moves (take (j * size) nets) old → AreSavings h p moves (part_of nets size j) part → length new ≡ length moves
+pub savings_joined : (h : Hyper) (p : List ℕ) (moves : List Move) (nets : List ℕ) (size j : ℕ) (old part new : List ℤ) →
+    AreSavings h p moves (take (j * size) nets) old → AreSavings h p moves (part_of nets size j) part → length new ≡ length moves
     → ((i : ℕ) → i < length moves → get_or new i (pos 0) ≡ get_or old i (pos 0) +ℤ get_or part i (pos 0))
     → AreSavings h p moves (take ((j + 1) * size) nets) new
 savings_joined h p moves nets size j old part new s t long added = record {
@@ -98,7 +110,8 @@ savings_joined h p moves nets size j old part new s t long added = record {
     whole : (f : ℕ → ℕ) → total f (take ((j + 1) * size) nets) ≡ total f (take (j * size) nets) + total f (part_of nets size j)
     whole f =
         let e : (j + 1) * size ≡ j * size + size = omega arith in
-        ap (λ n. total f (take n nets)) e ∙ ap (total f) (take-add (j * size) size nets) ∙ total-append f (take (j * size) nets) (take size (drop (j * size) nets))
+        ap (λ n. total f (take n nets)) e ∙ ap (total f) (take-add (j * size) size nets) ∙ total-append f (take (j * size) nets)
+        (take size (drop (j * size) nets))
 
 pub part_weight-le : (h : Hyper) (nets : List ℕ) (size j : ℕ) → pin_weight h (part_of nets size j) ≤ pin_weight h nets
 part_weight-le h nets size j =
@@ -107,7 +120,8 @@ part_weight-le h nets size j =
     let b = total-take-drop f nets (j * size) in
     omega arith
 
-pub savings_whole : (h : Hyper) (p : List ℕ) (moves : List Move) (nets : List ℕ) (n : ℕ) (gains : List ℤ) → length nets ≤ n → AreSavings h p moves (take n nets) gains → AreSavings h p moves nets gains
+pub savings_whole : (h : Hyper) (p : List ℕ) (moves : List Move) (nets : List ℕ) (n : ℕ) (gains : List ℤ) → length nets ≤ n →
+    AreSavings h p moves (take n nets) gains → AreSavings h p moves nets gains
 savings_whole h p moves nets n gains l s = subst (λ (xs : List ℕ). AreSavings h p moves xs gains) (take_all n nets l) s
 
 pub written : {A : Type 0} (n : ℕ) (new old : List A) → length new ≡ n → take n (new ++ drop (length new) old) ≡ new
@@ -119,16 +133,19 @@ only_if : Bool → ℕ → ℕ → ℕ
 only_if t x y = if t then x else y
 
 -- two sums over the numbers below a bound differ by what they differ on a list of them
-change_all : (m : ℕ) (g : ℕ → ℕ) (nets : List ℕ) → All (λ e. e < m) nets → AllPairs (λ a b. a ≢ b) nets → (f : ℕ → ℕ) → ((e : ℕ) → e < m → (Contains nets e → ⊥) → f e ≡ g e)
+change_all : (m : ℕ) (g : ℕ → ℕ) (nets : List ℕ) → All (λ e. e < m) nets → AllPairs (λ a b. a ≢ b) nets → (f : ℕ → ℕ) →
+    ((e : ℕ) → e < m → (Contains nets e → ⊥) → f e ≡ g e)
     → sum_below f m + total g nets ≡ sum_below g m + total f nets
 change_all m g [] low once f h = let e = sum_below-same f g m (λ i l. h i l (λ c. let n = c.1 in absurd (omega arith))) in omega arith
 change_all m g (x ∷ nets) low once f h =
     let inside = All-head (λ e. e < m) x nets low in
     let next = λ (e : ℕ). if nat_eq e x then g e else f e in
-    let rest = change_all m g nets (All-tail (λ e. e < m) x nets low) (λ i j d l n. once (suc i) (suc j) d (omega arith) (omega arith)) next (λ e l q. outside e l q (nat_eq e x) refl) in
+    let rest = change_all m g nets (All-tail (λ e. e < m) x nets low) (λ i j d l n. once (suc i) (suc j) d (omega arith) (omega arith)) next
+    (λ e l q. outside e l q (nat_eq e x) refl) in
     let change = sum_below-change f next m x inside (λ j l q. sym (elsewhere j q (nat_eq j x) refl)) in
     let here : next x ≡ g x = at (nat_eq x x) refl in
-    let same : total next nets ≡ total f nets = total-same next f nets (λ k d l. elsewhere (get_or nets k d) (λ q. once 0 (suc k) d (omega arith) (omega arith) (sym q)) (nat_eq (get_or nets k d) x) refl) in
+    let same : total next nets ≡ total f nets = total-same next f nets
+    (λ k d l. elsewhere (get_or nets k d) (λ q. once 0 (suc k) d (omega arith) (omega arith) (sym q)) (nat_eq (get_or nets k d) x) refl) in
     omega arith
   where
     elsewhere : (j : ℕ) → j ≢ x → (t : Bool) → nat_eq j x ≡ t → (if t then g j else f j) ≡ f j
@@ -153,7 +170,8 @@ total_within m f nets low once =
     let g = λ (e : ℕ). if is_member nat_eq nets e then 0 else f e in
     let law = change_all m g nets low once f (λ e l q. sym (outside e q (is_member nat_eq nets e) refl)) in
     let less = sum_below-le g f m (λ i l. at-le i (is_member nat_eq nets i)) in
-    let zero_here : total g nets ≡ 0 = total-same g (λ e. 0) nets (λ k d l. inside (get_or nets k d) (Contains-get_or nets k d l) (is_member nat_eq nets (get_or nets k d)) refl) ∙ none nets in
+    let zero_here : total g nets ≡ 0 = total-same g (λ e. 0) nets (λ k d l. inside (get_or nets k d) (Contains-get_or nets k d l)
+    (is_member nat_eq nets (get_or nets k d)) refl) ∙ none nets in
     omega arith
   where
     outside : (e : ℕ) → (Contains nets e → ⊥) → (t : Bool) → is_member nat_eq nets e ≡ t → (if t then 0 else f e) ≡ f e
@@ -187,7 +205,8 @@ cost_by_number : (h : Hyper) (p : List ℕ) → cost h p ≡ sum_below (λ e. ne
 cost_by_number h p = total-by_index (net_cost h.objective p) (record { weight = 0; pins = [] }) h.nets
 
 -- a net that no move touches costs the same before and after it
-untouched_same : (h : Hyper) (p : List ℕ) (moves : List Move) (nets : List ℕ) (i e : ℕ) → AreTouched h moves nets → i < length moves → e < net_count h → (Contains nets e → ⊥)
+untouched_same : (h : Hyper) (p : List ℕ) (moves : List Move) (nets : List ℕ) (i e : ℕ) → AreTouched h moves nets → i < length moves → e < net_count h →
+    (Contains nets e → ⊥)
     → net_cost h.objective (replay_first p moves i) (net_of h e) ≡ net_cost h.objective (replay_first p moves (i + 1)) (net_of h e)
 untouched_same h p moves nets i e t here low q =
     ap (λ (xs : List ℕ). (net_of h e).weight * price h.objective (distinct_count nat_eq xs))
@@ -200,14 +219,18 @@ untouched_same h p moves nets i e t here low q =
         ((is_member-Decides Decides-eqb (net_of h e).pins v).1 c)
 
 -- what the touched nets save is what each move gains
-pub touched_gains : (h : Hyper) (p : List ℕ) (moves : List Move) (nets : List ℕ) (gains : List ℤ) → AreTouched h moves nets → AreSavings h p moves nets gains → AreReplayGains h p moves gains
+pub touched_gains : (h : Hyper) (p : List ℕ) (moves : List Move) (nets : List ℕ) (gains : List ℤ) → AreTouched h moves nets → AreSavings h p moves nets
+    gains →
+    AreReplayGains h p moves gains
 touched_gains h p moves nets gains t s = record {
   size = s.size;
   each = λ i l. s.each i l ∙ difference
-      (cost_of_nets h (replay_first p moves i) nets) (cost_of_nets h (replay_first p moves (i + 1)) nets) (cost h (replay_first p moves i)) (cost h (replay_first p moves (i + 1)))
+      (cost_of_nets h (replay_first p moves i) nets) (cost_of_nets h (replay_first p moves (i + 1)) nets) (cost h (replay_first p moves i))
+      (cost h (replay_first p moves (i + 1)))
       (let a = cost_by_number h (replay_first p moves i) in
       let b = cost_by_number h (replay_first p moves (i + 1)) in
-      let c = change_all (net_count h) (λ e. net_cost h.objective (replay_first p moves (i + 1)) (net_of h e)) nets t.below t.once (λ e. net_cost h.objective (replay_first p moves i) (net_of h e)) (λ e m q. untouched_same h p moves nets i e t l m q) in
+      let c = change_all (net_count h) (λ e. net_cost h.objective (replay_first p moves (i + 1)) (net_of h e)) nets t.below t.once
+      (λ e. net_cost h.objective (replay_first p moves i) (net_of h e)) (λ e m q. untouched_same h p moves nets i e t l m q) in
       omega arith);
 }
   where
@@ -216,7 +239,8 @@ touched_gains h p moves nets gains t s = record {
 
 -- ---- the parts that threads work out
 
-pub zip_at : {A B : Type 0} (R : A → B → Type 0) (xs : List A) (ys : List B) (i : ℕ) (d : A) (e : B) → AllZip R xs ys → i < length ys → R (get_or xs i d) (get_or ys i e)
+pub zip_at : {A B : Type 0} (R : A → B → Type 0) (xs : List A) (ys : List B) (i : ℕ) (d : A) (e : B) → AllZip R xs ys → i < length ys →
+    R (get_or xs i d) (get_or ys i e)
 zip_at R [] [] i d e z l = absurd (omega arith)
 zip_at R [] (y ∷ ys) i d e z l = absurd z
 zip_at R (x ∷ xs) [] i d e z l = absurd z

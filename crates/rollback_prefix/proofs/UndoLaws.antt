@@ -1,5 +1,6 @@
 -- Laws of moves that are undone: where they start from, and what is left when the later ones are undone.
-use Rattle.std.proofs.Common.{◌≡◌, ◌≢◌, ℕ, zero, suc, ◌+◌, ◌-◌, ◌<◌, ◌≤◌, List, [], ◌∷◌, map, take, drop, length, get_or, All, AllPairs, Contains, slice_set, refl, sym, ap, ◌∙◌, subst, arith, length-drop, length-take, get_or-drop}
+use Rattle.std.proofs.Common.{◌≡◌, ◌≢◌, ℕ, zero, suc, ◌+◌, ◌-◌, ◌<◌, ◌≤◌, List, [], ◌∷◌, map, take, drop, length, get_or, All, AllPairs}
+use Rattle.std.proofs.Common.{Contains, slice_set, refl, sym, ap, ◌∙◌, subst, arith, length-drop, length-take, get_or-drop}
 use Rattle.std.proofs.lemmas.List.{get_or_default, get_or-take, take-append-drop, take_all}
 use Rattle.std.proofs.lemmas.List.Elements.{All-map, All-drop, Contains-get_or}
 use Rattle.hg_defs.specs.declared.moves.Move.{Move}
@@ -22,13 +23,17 @@ once_turned : (moves : List Move) → AllPairs (λ a b. a.vertex ≢ b.vertex) m
 once_turned [] h i j d l q = absurd (omega arith)
 once_turned (m ∷ moves) h zero zero d l q = absurd (omega arith)
 once_turned (m ∷ moves) h (suc i) zero d l q = absurd (omega arith)
-once_turned (m ∷ moves) h zero (suc j) d l q = All-map (λ (x : Move). m.vertex ≢ x.vertex) turned moves (λ k e r. h 0 (suc k) e (omega arith) (omega arith)) j d (omega arith)
-once_turned (m ∷ moves) h (suc i) (suc j) d l q = once_turned moves (λ x y e r t. h (suc x) (suc y) e (omega arith) (omega arith)) i j d (omega arith) (omega arith)
+once_turned (m ∷ moves) h zero (suc j) d l q = All-map (λ (x : Move). m.vertex ≢ x.vertex) turned moves
+    (λ k e r. h 0 (suc k) e (omega arith) (omega arith)) j
+    d (omega arith)
+once_turned (m ∷ moves) h (suc i) (suc j) d l q = once_turned moves (λ x y e r t. h (suc x) (suc y) e (omega arith) (omega arith)) i j d (omega arith)
+    (omega arith)
 
 all_turned : (P : Move → Type 0) (moves : List Move) → All (λ m. P (turned m)) moves → All P (map turned moves)
 all_turned P moves h = All-map P turned moves h
 
-undone_from : (p : List ℕ) (moves : List Move) (m : Move) → AllPairs (λ a b. a.vertex ≢ b.vertex) moves → All (λ n. n.vertex < length p) moves → Contains moves m
+undone_from : (p : List ℕ) (moves : List Move) (m : Move) → AllPairs (λ a b. a.vertex ≢ b.vertex) moves → All (λ n. n.vertex < length p) moves →
+    Contains moves m
     → block_of (undone p moves) m.vertex ≡ m.from
 undone_from p moves m once low c =
     ap (λ q. block_of q m.vertex) (undone_is p moves)
@@ -62,7 +67,8 @@ leads_to h k p moves whole ends = moves_are_redone p moves ends.once (low_vertic
 pub prefix_left : (h : Hyper) (k : ℕ) (p : List ℕ) (moves : List Move) (n : ℕ) → n ≤ length moves → IsPartition h k p → EndAt h k p moves
     → undone p (drop n moves) ≡ replay_first (undone p moves) moves n
 prefix_left h k p moves n short whole ends =
-    ap (λ q. undone q (drop n moves)) (sym (leads_to h k p moves whole ends) ∙ ap (replay (undone p moves)) (sym (take-append-drop n moves)) ∙ replay-append (undone p moves) (take n moves) (drop n moves))
+    ap (λ q. undone q (drop n moves)) (sym (leads_to h k p moves whole ends) ∙ ap (replay (undone p moves)) (sym (take-append-drop n moves)) ∙
+    replay-append (undone p moves) (take n moves) (drop n moves))
     ∙ moves_are_undone (replay_first (undone p moves) moves n) (drop n moves) once low from
   where
     start : StartFrom h k (undone p moves) moves
@@ -71,10 +77,14 @@ prefix_left h k p moves n short whole ends =
     once : AllPairs (λ a b. a.vertex ≢ b.vertex) (drop n moves)
     once i j d l m e =
         let cut = length-drop n moves in
-        ends.once (n + i) (n + j) d (omega arith) (omega arith) (ap (λ (x : Move). x.vertex) (sym (get_or-drop n moves i d)) ∙ e ∙ ap (λ (x : Move). x.vertex) (get_or-drop n moves j d))
+        ends.once (n + i) (n + j) d (omega arith) (omega arith) (ap (λ (x : Move). x.vertex) (sym (get_or-drop n moves i d)) ∙ e ∙
+        ap (λ (x : Move). x.vertex)
+        (get_or-drop n moves j d))
 
     low : All (λ (m : Move). m.vertex < length (replay_first (undone p moves) moves n)) (drop n moves)
-    low j d l = let a = All-drop (λ (m : Move). m.vertex < length p) n moves (low_vertices h k p moves whole ends) j d l in let b = length-replay (undone p moves) (take n moves) in let c = (undone_partition h k p moves whole ends).vertices in let e = whole.vertices in omega arith
+    low j d l = let a = All-drop (λ (m : Move). m.vertex < length p) n moves (low_vertices h k p moves whole ends) j d l in
+        let b = length-replay (undone p moves) (take n moves) in let c = (undone_partition h k p moves whole ends).vertices in let e = whole.vertices in
+        omega arith
 
     from : All (λ (m : Move). m.from ≡ block_of (replay_first (undone p moves) moves n) m.vertex) (drop n moves)
     from j d l =
@@ -90,7 +100,8 @@ prefix_left h k p moves n short whole ends =
         apart j d here k e l q =
             let cut = length-take n moves in
             let low : k < n = omega arith in
-            ends.once k (n + j) e (omega arith) here (ap (λ (x : Move). x.vertex) (sym (get_or-take n moves k e low)) ∙ q ∙ ap (λ (x : Move). x.vertex) (get_or_default moves (n + j) d e here))
+            ends.once k (n + j) e (omega arith) here (ap (λ (x : Move). x.vertex) (sym (get_or-take n moves k e low)) ∙ q ∙ ap (λ (x : Move). x.vertex)
+            (get_or_default moves (n + j) d e here))
 
 pub prefix_left_by_part : (h : Hyper) (k : ℕ) (p : List ℕ) (moves : List Move) (n : ℕ) → n ≤ length moves → IsPartition h k p → EndAt h k p moves
     → undone p (take (length moves - n) (drop n moves)) ≡ replay_first (undone p moves) moves n

@@ -1,6 +1,7 @@
 //! The gains of moves that are replayed, net by net.
 
-ghost use Rattle.std.specs.Prelude.{◌≡◌, ◌≢◌, ℕ, ◌+◌, ◌*◌, ◌<◌, ◌≤◌, ◌^◌, All, IfOk, Result, length, slice_index_or, vec_len, pos, ◌-ℤ◌, ◌+ℤ◌, ◌≤ℤ◌};
+ghost use Rattle.std.specs.Prelude.{◌≡◌, ◌≢◌, ℕ, ◌+◌, ◌*◌, ◌<◌, ◌≤◌, ◌^◌, All, IfOk, Result, length};
+ghost use Rattle.std.specs.Prelude.{slice_index_or, vec_len, pos, ◌-ℤ◌, ◌+ℤ◌, ◌≤ℤ◌};
 ghost use Rattle.hg_defs.specs.Hypergraph.{vertex_count, net_count};
 ghost use Rattle.hg_defs.specs.Partition.{IsPartition};
 ghost use Rattle.round_log.specs.Rounds.{IsOrder};
@@ -89,7 +90,8 @@ fn gains_by_part<R: Threads + Sync>(
     requires size { 0 < size }
     ensures whole { IfOk result (λ parts. length nets.now ≤ vec_len parts * size) }
     ensures parts { IfOk result (λ parts. (j : ℕ) (d : _) → j < vec_len parts
-        → IfOk (slice_index_or parts.items j d) (λ gains. AreSavings h.now before.now moves.now (part_of nets.now size j) gains.items)) }
+        → IfOk (slice_index_or parts.items j d) (λ gains. AreSavings h.now before.now moves.now
+        (part_of nets.now size j) gains.items)) }
 {
     let parts = nets.len().div_ceil(size);
     let gains = (0..parts)
@@ -101,7 +103,8 @@ fn gains_by_part<R: Threads + Sync>(
                     × IsOrder (vertex_count h.now) moves.now order.now
                     × All (λ e. e < net_count h.now) nets.now
                     × (pin_weight h.now nets.now < 2 ^ 57) }
-                ensures { IfOk result (λ gains. AreSavings h.entry.now before.entry.now moves.entry.now (part_of nets.entry.now size j) gains.items) }
+                ensures { IfOk result (λ gains. AreSavings h.entry.now before.entry.now moves.entry.now
+                    (part_of nets.entry.now size j) gains.items) }
             { part_gains(alloc, h, k, before, moves, order, part_at(nets, size, j)) },
         )
         .with_min_len(1)
@@ -115,7 +118,8 @@ fn add_part(gains: &mut [i64], part: &[i64])
     requires small { AreSmall gains.old }
     requires part { AreSmall part.now }
     ensures { (i : ℕ) → i < length gains.old
-        → slice_index_or gains.new i (pos 0) ≡ slice_index_or gains.old i (pos 0) +ℤ slice_index_or part.now i (pos 0) }
+        → slice_index_or gains.new i (pos 0) ≡ slice_index_or gains.old i (pos 0) +ℤ slice_index_or part.now i
+        (pos 0) }
 {
     for i in 0..gains.len() {
         gains[i] += part[i];

@@ -1,6 +1,7 @@
 //! The pins of one net while moves are replayed.
 
-ghost use Rattle.std.specs.Prelude.{◌≡◌, ◌≢◌, ℕ, ◌+◌, ◌-◌, ◌*◌, ◌<◌, ◌≤◌, ◌^◌, All, AllPairs, Contains, OnOk, length, map, slice_index, slice_index_or, pos, ◌+ℤ◌};
+ghost use Rattle.std.specs.Prelude.{◌≡◌, ◌≢◌, ℕ, ◌+◌, ◌-◌, ◌*◌, ◌<◌, ◌≤◌, ◌^◌, All, AllPairs, Contains, OnOk};
+ghost use Rattle.std.specs.Prelude.{length, map, slice_index, slice_index_or, pos, ◌+ℤ◌};
 ghost use Rattle.std.specs.List.Sorted.{IsStrictlyIncreasing};
 ghost use Rattle.hg_defs.specs.Cost as costs;
 ghost use Rattle.hg_defs.specs.Hypergraph.{net_count, net_of};
@@ -16,7 +17,8 @@ use incidence::Hypergraph;
 pub fn find_places(pins: &[u32], order: &[u32], places: &mut Vec<u32>) -> Result<(), NoMemory>
     requires pins { All (λ v. v < length order.now) pins.now }
     requires rising { IsStrictlyIncreasing pins.now }
-    requires once { (u v : ℕ) → 0 < slice_index order.now u → slice_index order.now u ≡ slice_index order.now v → u ≡ v }
+    requires once { (u v : ℕ) → 0 < slice_index order.now u → slice_index order.now u ≡ slice_index order.now v →
+        u ≡ v }
     ensures { OnOk result (ArePlacesAt pins.now order.now places.new.items) }
 {
     places.clear();
@@ -85,7 +87,8 @@ fn price(objective: Objective, touched: u32) -> u64
 fn clear_blocks(blocks: &[u32], pins: &[u32], counts: &mut [u32])
     requires pins { All (λ v. v < length blocks.now) pins.now }
     requires blocks { All (λ b. b < length counts.old) blocks.now }
-    ensures zeros { (i : ℕ) → i < length pins.now → slice_index counts.new (block_of blocks.now (slice_index pins.now i)) ≡ 0 }
+    ensures zeros { (i : ℕ) → i < length pins.now →
+        slice_index counts.new (block_of blocks.now (slice_index pins.now i)) ≡ 0 }
     ensures others { (b : ℕ) → slice_index counts.new b ≤ slice_index counts.old b }
 {
     for v in pins {
@@ -97,7 +100,8 @@ fn clear_blocks(blocks: &[u32], pins: &[u32], counts: &mut [u32])
 fn clear_targets(moves: &[Move], places: &[u32], counts: &mut [u32])
     requires places { All (λ i. i < length moves.now) places.now }
     requires blocks { All (λ m. m.to < length counts.old) moves.now }
-    ensures zeros { (i : ℕ) (d : Move) → i < length places.now → slice_index counts.new (slice_index_or moves.now (slice_index places.now i) d).to ≡ 0 }
+    ensures zeros { (i : ℕ) (d : Move) → i < length places.now →
+        slice_index counts.new (slice_index_or moves.now (slice_index places.now i) d).to ≡ 0 }
     ensures others { (b : ℕ) → slice_index counts.new b ≤ slice_index counts.old b }
 {
     for place in places {
@@ -124,7 +128,8 @@ pub fn add_net(
     requires small { AreSmall gains.old }
     ensures zeros { AreZeros counts.new }
     ensures gains { (i : ℕ) → i < length moves.now
-        → slice_index_or gains.new i (pos 0) ≡ slice_index_or gains.old i (pos 0) +ℤ saved_by_net h.now blocks.now moves.now e i }
+        → slice_index_or gains.new i (pos 0) ≡ slice_index_or gains.old i (pos 0) +ℤ saved_by_net h.now blocks.now
+        moves.now e i }
 {
     let pins = h.pins(e);
     let (weight, objective) = (h.net_weight(e), h.objective());

@@ -1,6 +1,7 @@
 //! The prefix of moves that is worth keeping.
 
-ghost use Rattle.std.specs.Prelude.{◌≡◌, ℕ, ◌+◌, ◌-◌, ◌<◌, ◌≤◌, ◌^◌, All, IfOk, OnErr, length, slice_index, slice_set};
+ghost use Rattle.std.specs.Prelude.{◌≡◌, ℕ, ◌+◌, ◌-◌, ◌<◌, ◌≤◌, ◌^◌, All, IfOk, OnErr};
+ghost use Rattle.std.specs.Prelude.{length, slice_index, slice_set};
 ghost use Rattle.hg_defs.specs.Hypergraph.{vertex_count, IsHypergraph, IsWithinLimits};
 ghost use Rattle.hg_defs.specs.Partition.{IsPartition, Fits};
 ghost use Rattle.hg_defs.specs.Replay.{replay_first, undone, best_prefix};
@@ -120,8 +121,10 @@ pub fn roll_back<R: Threads + Sync>(
     requires belongs { p.old.hyper ≡ h.now }
     requires moves { EndAt h.now p.old.k p.old.blocks moves.now }
     requires fits { Fits h.now p.old.k p.old.limit (undone p.old.blocks moves.now) }
-    ensures kept { IfOk result (λ kept. kept ≡ best_prefix h.now p.old.k p.old.limit (undone p.old.blocks moves.now) moves.now) }
-    ensures partition { IfOk result (λ kept. p.new ≡ record p.old { blocks = replay_first (undone p.old.blocks moves.now) moves.now kept }) }
+    ensures kept { IfOk result (λ kept. kept ≡ best_prefix h.now p.old.k p.old.limit (undone p.old.blocks moves.now)
+        moves.now) }
+    ensures partition { IfOk result (λ kept. p.new ≡ record p.old
+        { blocks = replay_first (undone p.old.blocks moves.now) moves.now kept }) }
     ensures refused { OnErr result (p.new ≡ p.old) }
 {
     let mut before = Vec::from_slice(alloc, p.blocks())?;

@@ -6,7 +6,8 @@ use Rattle.std.proofs.lemmas.List.Elements.{All-contains}
 use Rattle.hg_defs.specs.Sums.{total, sum_below}
 use Rattle.hg_defs.specs.Hypergraph.{fix_of}
 use Rattle.hg_defs.specs.Partition.{block_of, load, weight_in}
-use Rattle.hg_defs.proofs.SumLaws.{weight_in-by_index, weight_if, weight_if-same, weight_if-other, weight_if-le, sum_below-le, sum_below-add, sum_below-total, sum_below-only, sum_below-zero, total-le, total_at-le}
+use Rattle.hg_defs.proofs.SumLaws.{weight_in-by_index, weight_if, weight_if-same, weight_if-other, weight_if-le, sum_below-le}
+use Rattle.hg_defs.proofs.SumLaws.{sum_below-add, sum_below-total, sum_below-only, sum_below-zero, total-le, total_at-le}
 use Rattle.hg_defs.proofs.PairingLaws.{weight_in-into}
 use Rattle.round_log.specs.Rounds.{side, region}
 use Rattle.round_log.specs.RegionLaws.{AssignmentIsPartition, AssignmentObeys, AssignmentFits}
@@ -50,21 +51,26 @@ listed-le w n x = by (cases_lt x n)
         omega arith
 
 -- where each vertex of a block in q is in it in p or is listed, the block weighs no more than in p and the list together
-weight_in-listed : (ws p q xs : List ℕ) (a : ℕ) → length ws ≤ length p → length ws ≤ length q → ((v : ℕ) → v < length ws → get_or q v 0 ≡ a → (get_or p v 0 ≡ a) ⊎ Contains xs v)
+weight_in-listed : (ws p q xs : List ℕ) (a : ℕ) → length ws ≤ length p → length ws ≤ length q →
+    ((v : ℕ) → v < length ws → get_or q v 0 ≡ a → (get_or p v 0 ≡ a) ⊎ Contains xs v)
     → weight_in ws q a ≤ weight_in ws p a + total (λ v. get_or ws v 0) xs
 weight_in-listed ws p q xs a long_p long_q from =
     let left = weight_in-by_index ws q a long_q in
     let right = weight_in-by_index ws p a long_p in
-    let each = sum_below-le (λ v. weight_if (get_or q v 0) a (get_or ws v 0)) (λ v. weight_if (get_or p v 0) a (get_or ws v 0) + total (λ x. weight_if x v (get_or ws v 0)) xs) (length ws) at in
+    let each = sum_below-le (λ v. weight_if (get_or q v 0) a (get_or ws v 0)) (λ v. weight_if (get_or p v 0) a (get_or ws v 0) + total
+    (λ x. weight_if x v (get_or ws v 0)) xs) (length ws) at in
     let parts = sum_below-add (λ v. weight_if (get_or p v 0) a (get_or ws v 0)) (λ v. total (λ x. weight_if x v (get_or ws v 0)) xs) (length ws) in
     let swapped = sum_below-total (λ v x. weight_if x v (get_or ws v 0)) (length ws) xs in
-    let listed = total-le (λ x. sum_below (λ v. weight_if x v (get_or ws v 0)) (length ws)) (λ x. get_or ws x 0) xs (λ i d low. listed-le (λ v. get_or ws v 0) (length ws) (get_or xs i d)) in
+    let listed = total-le (λ x. sum_below (λ v. weight_if x v (get_or ws v 0)) (length ws)) (λ x. get_or ws x 0) xs
+    (λ i d low. listed-le (λ v. get_or ws v 0) (length ws) (get_or xs i d)) in
     omega arith
   where
-    at : (v : ℕ) → v < length ws → weight_if (get_or q v 0) a (get_or ws v 0) ≤ weight_if (get_or p v 0) a (get_or ws v 0) + total (λ x. weight_if x v (get_or ws v 0)) xs
+    at : (v : ℕ) → v < length ws → weight_if (get_or q v 0) a (get_or ws v 0) ≤ weight_if (get_or p v 0) a (get_or ws v 0) + total
+        (λ x. weight_if x v (get_or ws v 0)) xs
     at v low = by (cases_eq (get_or q v 0) a)
       where
-        two : (get_or p v 0 ≡ a) ⊎ Contains xs v → weight_if (get_or q v 0) a (get_or ws v 0) ≤ weight_if (get_or p v 0) a (get_or ws v 0) + total (λ x. weight_if x v (get_or ws v 0)) xs
+        two : (get_or p v 0 ≡ a) ⊎ Contains xs v → weight_if (get_or q v 0) a (get_or ws v 0) ≤ weight_if (get_or p v 0) a (get_or ws v 0) + total
+            (λ x. weight_if x v (get_or ws v 0)) xs
         two (inl e) = let x = weight_if-same (get_or p v 0) a (get_or ws v 0) e in let y = weight_if-le (get_or q v 0) a (get_or ws v 0) in omega arith
         two (inr c) =
             let one = total_at-le (λ x. weight_if x v (get_or ws v 0)) xs c.0 v c.1 in
@@ -72,7 +78,8 @@ weight_in-listed ws p q xs a long_p long_q from =
             let y = weight_if-le (get_or q v 0) a (get_or ws v 0) in
             omega arith
 
-        by : (get_or q v 0 ≡ a) ⊎ (get_or q v 0 ≢ a) → weight_if (get_or q v 0) a (get_or ws v 0) ≤ weight_if (get_or p v 0) a (get_or ws v 0) + total (λ x. weight_if x v (get_or ws v 0)) xs
+        by : (get_or q v 0 ≡ a) ⊎ (get_or q v 0 ≢ a) → weight_if (get_or q v 0) a (get_or ws v 0) ≤ weight_if (get_or p v 0) a (get_or ws v 0) + total
+            (λ x. weight_if x v (get_or ws v 0)) xs
         by (inl e) = two (from v low e)
         by (inr n) = let z = weight_if-other (get_or q v 0) a (get_or ws v 0) n in omega arith
 

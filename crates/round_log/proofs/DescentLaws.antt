@@ -22,7 +22,8 @@ use Rattle.round_log.proofs.PassLaws.{AllKeep, rounds-partition, rounds-obeys, r
 
 -- ---- rounds
 
-pub keep_append : (h : Hyper) (k l : ℕ) (p : List ℕ) (xs ys : List LoggedRound) → AllKeep h k l p xs → AllKeep h k l (after_rounds p xs) ys → AllKeep h k l p (xs ++ ys)
+pub keep_append : (h : Hyper) (k l : ℕ) (p : List ℕ) (xs ys : List LoggedRound) → AllKeep h k l p xs → AllKeep h k l (after_rounds p xs) ys →
+    AllKeep h k l p (xs ++ ys)
 keep_append h k l p [] ys a b = b
 keep_append h k l p (r ∷ xs) ys a b = (a.0, keep_append h k l (after_round p r) xs ys a.1 b)
 
@@ -30,7 +31,8 @@ keep_append h k l p (r ∷ xs) ys a b = (a.0, keep_append h k l (after_round p r
 unfoldable pub Leaves : Hyper → ℕ → ℕ → List ℕ → List ℕ → Type 0
 Leaves h k l p q = IsSound h k l p → IsSound h k l q × (cost h q ≤ cost h p)
 
-pub leaves_by : (h : Hyper) (k l : ℕ) (p : List ℕ) (rounds : List LoggedRound) (q : List ℕ) → AllKeep h k l p rounds → q ≡ after_rounds p rounds → Leaves h k l p q
+pub leaves_by : (h : Hyper) (k l : ℕ) (p : List ℕ) (rounds : List LoggedRound) (q : List ℕ) → AllKeep h k l p rounds → q ≡ after_rounds p rounds →
+    Leaves h k l p q
 unfolding Leaves
 leaves_by h k l p rounds q keep e o =
     let less = rounds-no_dearer h k l p rounds o.partition o.fits keep in
@@ -52,13 +54,18 @@ contractible cap h c sound good = record { hypergraph = sound; full = good.full 
 pub apart : (cap : ℕ) (h : Hyper) (c : List ℕ) → IsClustering h cap c → IsApart h c
 apart cap h c good v u low low' same other = good.free v u (record { first = low; second = low'; different = other; cluster = same })
 
-module _ (good : ℕ → Hyper → List ℕ → Type 0) (clustering : (number : ℕ) (h : Hyper) (c : List ℕ) → IsHypergraph h → good number h c → (cap : ℕ) × IsClustering h cap c) (k : ℕ) where
-  good_at : (number : ℕ) (h : Hyper) (maps : List (List ℕ)) (i : ℕ) → AreContracted good number h k maps → i < length maps → good (number + i) (level h maps i) (map_of maps i)
+module _ (good : ℕ → Hyper → List ℕ → Type 0) (clustering : (number : ℕ) (h : Hyper) (c : List ℕ) → IsHypergraph h → good number h c →
+    (cap : ℕ) × IsClustering h cap c) (k : ℕ) where
+  good_at : (number : ℕ) (h : Hyper) (maps : List (List ℕ)) (i : ℕ) → AreContracted good number h k maps → i < length maps →
+      good (number + i) (level h maps i)
+      (map_of maps i)
   good_at number h [] i a low = absurd (omega arith)
   good_at number h (c ∷ maps) zero a low = let e : number ≡ number + zero = omega arith in subst (λ n. good n h c) e a.1
   good_at number h (c ∷ maps) (suc i) a low =
       let e : suc number + i ≡ number + suc i = omega arith in
-      subst (λ n. good n (level (contract h c (cluster_count c)) maps i) (map_of maps i)) e (good_at (suc number) (contract h c (cluster_count c)) maps i a.3 (omega arith))
+      subst (λ n. good n (level (contract h c (cluster_count c)) maps i) (map_of maps i)) e (good_at (suc number) (contract h c (cluster_count c)) maps i
+      a.3
+      (omega arith))
 
   module _ (h : Hyper) (maps : List (List ℕ)) (sound : IsHypergraph h) (contracted : AreContracted good 0 h k maps) where
     pub good_level : (i : ℕ) → i < length maps → good i (level h maps i) (map_of maps i)
@@ -82,7 +89,8 @@ module _ (good : ℕ → Hyper → List ℕ → Type 0) (clustering : (number : 
     level_fixed fixed zero low = fixed
     level_fixed fixed (suc i) low =
         subst (λ (g : Hyper). IsFixedWithin g k) (sym (level_is_contraction h maps i (omega arith)))
-        (fixes_within (level h maps i) (map_of maps i) (cluster_count (map_of maps i)) k (level_contractible i (omega arith)) (level_fixed fixed i (omega arith)))
+        (fixes_within (level h maps i) (map_of maps i) (cluster_count (map_of maps i)) k (level_contractible i (omega arith))
+        (level_fixed fixed i (omega arith)))
 
     -- a sound partition of a level is projected to a sound one, which costs as much
     pub level_projected : (l i : ℕ) → i < length maps → (q : List ℕ) → IsSound (level h maps (suc i)) k l q
@@ -90,7 +98,8 @@ module _ (good : ℕ → Hyper → List ℕ → Type 0) (clustering : (number : 
     level_projected l i low q o = (
       record {
         partition = partition_projected (level h maps i) (map_of maps i) (cluster_count (map_of maps i)) k q at on.partition;
-        obeys = fixes_projected (level h maps i) (map_of maps i) (cluster_count (map_of maps i)) q at (apart c.0 (level h maps i) (map_of maps i) c.1) on.obeys;
+        obeys = fixes_projected (level h maps i) (map_of maps i) (cluster_count (map_of maps i)) q at (apart c.0 (level h maps i) (map_of maps i) c.1)
+            on.obeys;
         fits = fitting_projected (level h maps i) (map_of maps i) (cluster_count (map_of maps i)) k l q at counted on.fits;
       },
       cost_kept (level h maps i) (map_of maps i) (cluster_count (map_of maps i)) q at ∙ ap (λ (g : Hyper). cost g q) (sym next),
@@ -115,7 +124,8 @@ module _ (good : ℕ → Hyper → List ℕ → Type 0) (clustering : (number : 
     module _ (refined : ℕ → Hyper → List ℕ → List LoggedRound → List ℕ → Type 0) (l : ℕ)
         (keeps : (number : ℕ) (g : Hyper) (p : List ℕ) (rounds : List LoggedRound) (q : List ℕ) → refined number g p rounds q → Leaves g k l p q)
       where
-        pub descends : (i : ℕ) → i ≤ length maps → (p : List ℕ) (rounds : List LoggedRound) (q : List ℕ) → IsDescent refined h maps i p rounds q → IsSound (level h maps i) k l p
+        pub descends : (i : ℕ) → i ≤ length maps → (p : List ℕ) (rounds : List LoggedRound) (q : List ℕ) → IsDescent refined h maps i p rounds q →
+            IsSound (level h maps i) k l p
             → IsSound h k l q × (cost h q ≤ cost (level h maps i) p)
         unfolding Leaves
         descends zero low p rounds q d o = keeps 0 h p rounds q d o
@@ -130,28 +140,45 @@ module _ (good : ℕ → Hyper → List ℕ → Type 0) (clustering : (number : 
 
         -- rounds of one kind are rounds of another, where they are so on each level
         module _ (other : ℕ → Hyper → List ℕ → List LoggedRound → List ℕ → Type 0)
-            (turned : (number : ℕ) (g : Hyper) (p : List ℕ) (rounds : List LoggedRound) (q : List ℕ) → refined number g p rounds q → IsSound g k l p → other number g p rounds q)
+            (turned : (number : ℕ) (g : Hyper) (p : List ℕ) (rounds : List LoggedRound) (q : List ℕ) → refined number g p rounds q → IsSound g k l p →
+            other number g p rounds q)
           where
-            pub descends_by : (i : ℕ) → i ≤ length maps → (p : List ℕ) (rounds : List LoggedRound) (q : List ℕ) → IsDescent refined h maps i p rounds q → IsSound (level h maps i) k l p
+            pub descends_by : (i : ℕ) → i ≤ length maps → (p : List ℕ) (rounds : List LoggedRound) (q : List ℕ) → IsDescent refined h maps i p rounds q →
+                IsSound (level h maps i) k l p
                 → IsDescent other h maps i p rounds q
             unfolding Leaves
             descends_by zero low p rounds q d o = turned 0 h p rounds q d o
             descends_by (suc i) low p rounds q d o =
                 let here = keeps (suc i) (level h maps (suc i)) p d.0 d.2 d.4 o in
-                let below = level_projected l i (omega arith) d.2 here.0 in
-                (d.0, d.1, d.2, d.3, turned (suc i) (level h maps (suc i)) p d.0 d.2 d.4 o, descends_by i (omega arith) (after d.2 (map_of maps i)) d.1 q d.5 below.0)
+                let below = level_projected l i (omega arith) d.2 here.0 in (
+                  d.0,
+                  d.1,
+                  d.2,
+                  d.3,
+                  turned (suc i) (level h maps (suc i)) p d.0 d.2 d.4 o,
+                  descends_by i (omega arith) (after d.2 (map_of maps i)) d.1 q d.5
+                      below.0,
+                )
 
 -- one clustering more on the coarsest level
-pub contracted_more : (good : ℕ → Hyper → List ℕ → Type 0) (number k : ℕ) (h : Hyper) (maps : List (List ℕ)) (c : List ℕ) → AreContracted good number h k maps
-    → IsLarge (coarsest h maps) k → good (number + length maps) (coarsest h maps) c → Shrinks (coarsest h maps) c → AreContracted good number h k (maps ++ c ∷ [])
+pub contracted_more : (good : ℕ → Hyper → List ℕ → Type 0) (number k : ℕ) (h : Hyper) (maps : List (List ℕ)) (c : List ℕ) → AreContracted good number h k
+    maps
+    → IsLarge (coarsest h maps) k → good (number + length maps) (coarsest h maps) c → Shrinks (coarsest h maps) c → AreContracted good number h k
+    (maps ++ c ∷ [])
 contracted_more good number k h [] c a large is shrinks = let e : number + 0 ≡ number = omega arith in (large, subst (λ n. good n h c) e is, shrinks, tt)
 contracted_more good number k h (d ∷ maps) c a large is shrinks =
-    let e : number + suc (length maps) ≡ suc number + length maps = omega arith in
-    (a.0, a.1, a.2, contracted_more good (suc number) k (contract h d (cluster_count d)) maps c a.3 large (subst (λ n. good n (coarsest (contract h d (cluster_count d)) maps) c) e is) shrinks)
+    let e : number + suc (length maps) ≡ suc number + length maps = omega arith in (
+      a.0,
+      a.1,
+      a.2,
+      contracted_more good (suc number) k (contract h d (cluster_count d)) maps c a.3 large
+          (subst (λ n. good n (coarsest (contract h d (cluster_count d)) maps) c) e is) shrinks,
+    )
 
 -- ---- the end of a trace
 
-pub swept_settled : (h : Hyper) (k l : ℕ) (p : List ℕ) (rounds : List LoggedRound) (q : List ℕ) → IsSound h k l p → AreSweeps h k l p rounds q → IsSettledPartition h k l q
+pub swept_settled : (h : Hyper) (k l : ℕ) (p : List ℕ) (rounds : List LoggedRound) (q : List ℕ) → IsSound h k l p → AreSweeps h k l p rounds q →
+    IsSettledPartition h k l q
 swept_settled h k l p rounds q o s = record {
   sound = record {
     partition = sweeps-partition h k l p rounds q o.partition s;

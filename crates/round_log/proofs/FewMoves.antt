@@ -28,6 +28,8 @@ few_moves n moves low apart =
     let vs : List ℕ = map vertex_of moves in
     let all : distinct_count nat_eq vs ≡ length vs =
     distinct_count-from_IsDistinct nat_eq_equiv vs (IsDistinct-from_AllPairs Decides-eqb vs (apart_map moves apart)) in
-    let counted : distinct_count nat_eq vs ≡ sum_below (λ b. present (times_of vs b)) n = distinct_count-sum n vs (All-map (λ v. v < n) vertex_of moves low) in
-    let ones : sum_below (λ b. present (times_of vs b)) n ≤ sum_below (λ b. 1) n = sum_below-le (λ b. present (times_of vs b)) (λ b. 1) n (λ i l. present-le (times_of vs i)) in
+    let counted : distinct_count nat_eq vs ≡ sum_below (λ b. present (times_of vs b)) n = distinct_count-sum n vs
+    (All-map (λ v. v < n) vertex_of moves low) in
+    let ones : sum_below (λ b. present (times_of vs b)) n ≤ sum_below (λ b. 1) n = sum_below-le (λ b. present (times_of vs b)) (λ b. 1) n
+    (λ i l. present-le (times_of vs i)) in
     omega (arith, sum_below-constant 1 n, length-map moves vertex_of, all, counted, ones)

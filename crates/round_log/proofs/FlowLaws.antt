@@ -1,5 +1,6 @@
 -- The laws over flow rounds.
-use Rattle.std.proofs.Common.{◌≡◌, ◌≢◌, ◌⊎◌, inl, inr, ℕ, suc, ◌-◌, ◌<◌, Bool, true, false, ◌&&◌, not, nat_eq, nat_le, if◌then◌else◌, List, [], ◌∷◌, ◌++◌, length, filter, get_or, slice_set, All, AllPairs, Contains, refl, sym, subst, ◌∙◌, arith, get_or-set_other}
+use Rattle.std.proofs.Common.{◌≡◌, ◌≢◌, ◌⊎◌, inl, inr, ℕ, suc, ◌-◌, ◌<◌, Bool, true, false, ◌&&◌, not, nat_eq, nat_le, if◌then◌else◌, List, [], ◌∷◌, ◌++◌}
+use Rattle.std.proofs.Common.{length, filter, get_or, slice_set, All, AllPairs, Contains, refl, sym, subst, ◌∙◌, arith, get_or-set_other}
 use Rattle.std.proofs.lemmas.Bool.{and_parts, eqb-true, eqb-false, cases_eq}
 use Rattle.std.proofs.lemmas.Bool.Decides.{Decides-eqb}
 use Rattle.std.proofs.lemmas.Map.Made.{AllPairs-from_IsDistinct}
@@ -48,8 +49,10 @@ pub side_free : (h : Hyper) (l : ℕ) (p : List ℕ) (a b : ℕ) → All (IsFree
 side_free h l p a b =
     All-taken (IsFreeOf h p a) h (l - load h p b) (filter (is_near h p a b) (vertices h) ++ filter (is_next h p a b) (vertices h))
     (All-append (IsFreeOf h p a) (filter (is_near h p a b) (vertices h)) (filter (is_next h p a b) (vertices h))
-    (All-weaker (λ v. is_near h p a b v ≡ true) (IsFreeOf h p a) (near_free h p a b) (filter (is_near h p a b) (vertices h)) (filter_passes (is_near h p a b) (vertices h)))
-    (All-weaker (λ v. is_next h p a b v ≡ true) (IsFreeOf h p a) (next_free h p a b) (filter (is_next h p a b) (vertices h)) (filter_passes (is_next h p a b) (vertices h))))
+    (All-weaker (λ v. is_near h p a b v ≡ true) (IsFreeOf h p a) (near_free h p a b) (filter (is_near h p a b) (vertices h))
+    (filter_passes (is_near h p a b) (vertices h)))
+    (All-weaker (λ v. is_next h p a b v ≡ true) (IsFreeOf h p a) (next_free h p a b) (filter (is_next h p a b) (vertices h))
+    (filter_passes (is_next h p a b) (vertices h))))
 
 -- a free vertex of one of two blocks
 abbrev pub IsInside : Hyper → List ℕ → ℕ → ℕ → ℕ → Type 0
@@ -57,7 +60,8 @@ IsInside h p a b v = IsFree h v × ((block_of p v ≡ a) ⊎ (block_of p v ≡ b
 
 pub region-free : RegionIsFree
 region-free h l p a b =
-    All-weaker (Contains (region h l p a b)) (IsInside h p a b) (λ v c. All-contains (IsInside h p a b) (side h l p a b ++ side h l p b a) v sides (Contains-from_set_of nat_cmp_total nat_cmp_exact (side h l p a b ++ side h l p b a) v c))
+    All-weaker (Contains (region h l p a b)) (IsInside h p a b) (λ v c. All-contains (IsInside h p a b) (side h l p a b ++ side h l p b a) v sides
+    (Contains-from_set_of nat_cmp_total nat_cmp_exact (side h l p a b ++ side h l p b a) v c))
     (region h l p a b) (All-contains_itself (region h l p a b))
   where
     sides : All (IsInside h p a b) (side h l p a b ++ side h l p b a)
@@ -97,7 +101,8 @@ flow-partition h k l p r first second w s = record {
 }
   where
     by : (v : ℕ) → Contains r.region v ⊎ All (λ u. u ≢ v) r.region → v < length (after_round p r) → block_of (after_round p r) v < k
-    by v (inl c) low = block (All-contains (λ u. (block_of (after_round p r) u ≡ r.first) ⊎ (block_of (after_round p r) u ≡ r.second)) r.region v s.assigned.inside c)
+    by v (inl c) low = block (All-contains (λ u. (block_of (after_round p r) u ≡ r.first) ⊎ (block_of (after_round p r) u ≡ r.second)) r.region v
+        s.assigned.inside c)
       where
         block : (block_of (after_round p r) v ≡ r.first) ⊎ (block_of (after_round p r) v ≡ r.second) → block_of (after_round p r) v < k
         block (inl e) = subst (λ b. b < k) (sym e) first
@@ -122,33 +127,45 @@ flow-no_dearer h k l p r s =
 -- ---- the moves of the round
 
 -- the vertices that change are those whose blocks differ
-changes-differ : (h : Hyper) (p q r vs : List ℕ) → AllPairs (λ u v. u ≢ v) vs → All (λ v. block_of r v ≡ block_of p v) vs → All (λ (m : Move). block_of p m.vertex ≢ block_of q m.vertex) (changes h r q vs)
+changes-differ : (h : Hyper) (p q r vs : List ℕ) → AllPairs (λ u v. u ≢ v) vs → All (λ v. block_of r v ≡ block_of p v) vs →
+    All (λ (m : Move). block_of p m.vertex ≢ block_of q m.vertex) (changes h r q vs)
 changes-differ h p q r [] apart same = All-nil (λ (m : Move). block_of p m.vertex ≢ block_of q m.vertex)
-changes-differ h p q r (v ∷ vs) apart same = by (nat_eq (block_of r v) (block_of q v)) refl (changes-differ h p q (slice_set r v (block_of q v)) vs rest later)
+changes-differ h p q r (v ∷ vs) apart same = by (nat_eq (block_of r v) (block_of q v)) refl (changes-differ h p q (slice_set r v (block_of q v)) vs rest
+    later)
   where
     rest : AllPairs (λ u v. u ≢ v) vs
     rest i j d l m = apart (suc i) (suc j) d (omega arith) (omega arith)
 
     later : All (λ u. block_of (slice_set r v (block_of q v)) u ≡ block_of p u) vs
-    later i d m = get_or-set_other r v (get_or vs i d) (block_of q v) 0 (λ e. apart 0 (suc i) d (omega arith) (omega arith) (sym e)) ∙ All-tail (λ u. block_of r u ≡ block_of p u) v vs same i d m
+    later i d m = get_or-set_other r v (get_or vs i d) (block_of q v) 0 (λ e. apart 0 (suc i) d (omega arith) (omega arith) (sym e)) ∙
+        All-tail (λ u. block_of r u ≡ block_of p u) v vs same i d m
 
     here : block_of r v ≡ block_of p v
     here = All-head (λ u. block_of r u ≡ block_of p u) v vs same
 
-    by : (t : Bool) → nat_eq (block_of r v) (block_of q v) ≡ t → All (λ (m : Move). block_of p m.vertex ≢ block_of q m.vertex) (changes h (slice_set r v (block_of q v)) q vs)
+    by : (t : Bool) → nat_eq (block_of r v) (block_of q v) ≡ t → All (λ (m : Move). block_of p m.vertex ≢ block_of q m.vertex)
+        (changes h (slice_set r v (block_of q v)) q vs)
         → All (λ (m : Move). block_of p m.vertex ≢ block_of q m.vertex)
         (if t then changes h (slice_set r v (block_of q v)) q vs else
-        (record { vertex = v; from = block_of r v; to = block_of q v; worker = 0; booked = gain h r v (block_of q v) } ∷ changes h (slice_set r v (block_of q v)) q vs))
+        (record { vertex = v; from = block_of r v; to = block_of q v; worker = 0; booked = gain h r v (block_of q v) } ∷
+        changes h (slice_set r v (block_of q v)) q vs))
     by true e others = others
     by false e others =
-        All-cons (λ (m : Move). block_of p m.vertex ≢ block_of q m.vertex) (record { vertex = v; from = block_of r v; to = block_of q v; worker = 0; booked = gain h r v (block_of q v) })
+        All-cons (λ (m : Move). block_of p m.vertex ≢ block_of q m.vertex) (record {
+          vertex = v;
+          from = block_of r v;
+          to = block_of q v;
+          worker = 0;
+          booked = gain h r v (block_of q v);
+        })
         (changes h (slice_set r v (block_of q v)) q vs) (λ f. eqb-false (block_of r v) (block_of q v) e (here ∙ f)) others
 
 -- they are free
 pub flow-free : (h : Hyper) (k l : ℕ) (p : List ℕ) (r : LoggedRound) → IsFlowRound h k l p r → All (λ (m : Move). IsFree h m.vertex) r.moves
 flow-free h k l p r s =
     subst (All (λ (m : Move). IsFree h m.vertex)) (sym s.moves)
-    (All-weaker (λ (m : Move). block_of p m.vertex ≢ block_of (after_round p r) m.vertex) (λ (m : Move). IsFree h m.vertex) (λ m n. by m.vertex n (among m.vertex r.region)) (changes h p (after_round p r) (vertices h))
+    (All-weaker (λ (m : Move). block_of p m.vertex ≢ block_of (after_round p r) m.vertex) (λ (m : Move). IsFree h m.vertex)
+    (λ m n. by m.vertex n (among m.vertex r.region)) (changes h p (after_round p r) (vertices h))
     (changes-differ h p (after_round p r) p (vertices h) (AllPairs-from_IsDistinct Decides-eqb (vertices h) (distinct_vertices h)) (λ i d m. refl)))
   where
     by : (v : ℕ) → block_of p v ≢ block_of (after_round p r) v → Contains r.region v ⊎ All (λ u. u ≢ v) r.region → IsFree h v

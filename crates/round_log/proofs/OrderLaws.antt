@@ -1,5 +1,6 @@
 -- One more move in an order of moves.
-use Rattle.std.proofs.Common.{subst, ◌≡◌, ◌≢◌, ℕ, ◌+◌, ◌<◌, List, [], ◌∷◌, ◌++◌, length, take, slice_index_or, All, AllPairs, slice_set, arith, sym, ◌∙◌, length-append, get_or-set_other}
+use Rattle.std.proofs.Common.{subst, ◌≡◌, ◌≢◌, ℕ, ◌+◌, ◌<◌, List, [], ◌∷◌, ◌++◌, length, take, slice_index_or, All}
+use Rattle.std.proofs.Common.{AllPairs, slice_set, arith, sym, ◌∙◌, length-append, get_or-set_other}
 use Rattle.std.proofs.lemmas.List.{take_more, get_or_append_left, get_or-take, length-take}
 use Rattle.std.proofs.Math.Seq.{get_or-append_seam}
 use Rattle.std.proofs.lemmas.Grind.{common_steps}
@@ -20,11 +21,14 @@ order_of_push n moves order m low apart before = record {
 
 -- the same over a list of moves, one by one; d stands for a move past its end
 pub order_of_more : (n : ℕ) (moves : List Move) (order : List ℕ) (i : ℕ) (d : Move) → i < length moves → All (λ m. m.vertex < n) moves
-    → AllPairs (λ a b. a.vertex ≢ b.vertex) moves → IsOrder n (take i moves) order → IsOrder n (take (i + 1) moves) (slice_set order (slice_index_or moves i d).vertex (i + 1))
+    → AllPairs (λ a b. a.vertex ≢ b.vertex) moves → IsOrder n (take i moves) order → IsOrder n (take (i + 1) moves)
+    (slice_set order (slice_index_or moves i d).vertex (i + 1))
 order_of_more n moves order i d here low apart before =
     let long : length (take i moves) ≡ i = rw length-take (omega arith) in
     let apart' : All (λ a. a.vertex ≢ (slice_index_or moves i d).vertex) (take i moves) =
-    λ j e h. rw (get_or-take i moves j e (omega (arith, h, long))) (subst (λ (x : Move). (slice_index_or moves j e).vertex ≢ x.vertex) (same moves i e d here) (apart j i e (omega (arith, h, long)) here)) in
+    λ j e h. rw (get_or-take i moves j e (omega (arith, h, long))) (subst (λ (x : Move). (slice_index_or moves j e).vertex ≢ x.vertex)
+    (same moves i e d here)
+    (apart j i e (omega (arith, h, long)) here)) in
     rw (take_more moves i d here)
     (subst
     (λ (k : ℕ). IsOrder n (take i moves ++ slice_index_or moves i d ∷ []) (slice_set order (slice_index_or moves i d).vertex (k + 1)))

@@ -1,10 +1,12 @@
 -- The laws of the pairs of blocks.
-use Rattle.std.proofs.Common.{◌≡◌, ◌⊎◌, inl, inr, ℕ, zero, suc, ◌+◌, ◌-◌, ◌*◌, ◌<◌, ◌≤◌, List, [], ◌∷◌, ◌++◌, map, length, get_or, All, AllPairs, Contains, refl, sym, ap, subst, ◌∙◌, arith, length-append}
+use Rattle.std.proofs.Common.{◌≡◌, ◌⊎◌, inl, inr, ℕ, zero, suc, ◌+◌, ◌-◌, ◌*◌, ◌<◌, ◌≤◌, List, [], ◌∷◌, ◌++◌, map, length, get_or}
+use Rattle.std.proofs.Common.{All, AllPairs, Contains, refl, sym, ap, subst, ◌∙◌, arith, length-append}
 use Rattle.std.specs.List.{range_with_len, flat_map}
 use Rattle.std.proofs.lemmas.Bool.{cases_eq}
 use Rattle.std.proofs.lemmas.List.Concat.{flat_map-cons}
 use Rattle.std.proofs.lemmas.List.FromFn.{length-range_with_len, get_or-range_with_len, length-map-range_with_len, get_or-map-range_with_len}
-use Rattle.std.proofs.lemmas.List.Elements.{All-nil, All-head, All-tail, All-append, All-map, All-weaker, All-contains, Contains-append_left, Contains-append_right}
+use Rattle.std.proofs.lemmas.List.Elements.{All-nil, All-head, All-tail, All-append, All-map, All-weaker}
+use Rattle.std.proofs.lemmas.List.Elements.{All-contains, Contains-append_left, Contains-append_right}
 use Rattle.std.proofs.lemmas.List.Kept.{AllPairs-cons}
 use Rattle.hg_defs.proofs.DistinctLaws.{Contains-map}
 use Rattle.round_log.specs.Passes.{block_pairs}
@@ -28,7 +30,8 @@ IsRising k pair = (pair.0 < pair.1) × (pair.1 < k)
 pairs_of-rising : (k a : ℕ) → All (λ pair. IsRising k pair × (pair.0 ≡ a)) (pairs_of k a)
 pairs_of-rising k a =
     All-map (λ pair. IsRising k pair × (pair.0 ≡ a)) (λ (i : ℕ). (a, a + 1 + i)) (range_with_len 0 (k - (a + 1)))
-    (λ i d low. at (get_or (range_with_len 0 (k - (a + 1))) i d) (let n = length-range_with_len 0 (k - (a + 1)) in let e = get_or-range_with_len 0 (k - (a + 1)) i d (omega arith) in omega arith))
+    (λ i d low. at (get_or (range_with_len 0 (k - (a + 1))) i d) (let n = length-range_with_len 0 (k - (a + 1)) in let e = get_or-range_with_len 0
+    (k - (a + 1)) i d (omega arith) in omega arith))
   where
     at : (i : ℕ) → i < k - (a + 1) → IsRising k (a, a + 1 + i) × (a ≡ a)
     at i low = ((omega arith, omega arith), refl)
@@ -38,11 +41,14 @@ pairs_from-rising k a zero = All-nil (λ pair. IsRising k pair × (a ≤ pair.0)
 pairs_from-rising k a (suc n) =
     subst (All (λ pair. IsRising k pair × (a ≤ pair.0))) (sym (pairs_from-suc k a n))
     (All-append (λ pair. IsRising k pair × (a ≤ pair.0)) (pairs_of k a) (pairs_from k (a + 1) n)
-    (All-weaker (λ pair. IsRising k pair × (pair.0 ≡ a)) (λ pair. IsRising k pair × (a ≤ pair.0)) (λ pair x. (x.0, (let e = x.1 in omega arith))) (pairs_of k a) (pairs_of-rising k a))
-    (All-weaker (λ pair. IsRising k pair × (a + 1 ≤ pair.0)) (λ pair. IsRising k pair × (a ≤ pair.0)) (λ pair x. (x.0, (let e = x.1 in omega arith))) (pairs_from k (a + 1) n) (pairs_from-rising k (a + 1) n)))
+    (All-weaker (λ pair. IsRising k pair × (pair.0 ≡ a)) (λ pair. IsRising k pair × (a ≤ pair.0)) (λ pair x. (x.0, (let e = x.1 in omega arith)))
+    (pairs_of k a) (pairs_of-rising k a))
+    (All-weaker (λ pair. IsRising k pair × (a + 1 ≤ pair.0)) (λ pair. IsRising k pair × (a ≤ pair.0)) (λ pair x. (x.0, (let e = x.1 in omega arith)))
+    (pairs_from k (a + 1) n) (pairs_from-rising k (a + 1) n)))
 
 pub pairs_within : (k : ℕ) → All (λ pair. (pair.0 < k) × (pair.1 < k)) (block_pairs k)
-pairs_within k = All-weaker (λ pair. IsRising k pair × (0 ≤ pair.0)) (λ pair. (pair.0 < k) × (pair.1 < k)) (λ pair x. ((let a = x.0.0 in let b = x.0.1 in omega arith), x.0.1)) (pairs_from k 0 k) (pairs_from-rising k 0 k)
+pairs_within k = All-weaker (λ pair. IsRising k pair × (0 ≤ pair.0)) (λ pair. (pair.0 < k) × (pair.1 < k))
+    (λ pair x. ((let a = x.0.0 in let b = x.0.1 in omega arith), x.0.1)) (pairs_from k 0 k) (pairs_from-rising k 0 k)
 
 -- ---- each pair
 
@@ -54,14 +60,18 @@ Contains_range_of a n v low high =
 pairs_of-all : (k a b : ℕ) → a < b → b < k → Contains (pairs_of k a) (a, b)
 pairs_of-all k a b low high =
     let e : a + 1 + (b - (a + 1)) ≡ b = omega arith in
-    subst (λ c. Contains (pairs_of k a) (a, c)) e (Contains-map (λ (i : ℕ). (a, a + 1 + i)) (range_with_len 0 (k - (a + 1))) (b - (a + 1)) (Contains_range_of 0 (k - (a + 1)) (b - (a + 1)) (omega arith) (omega arith)))
+    subst (λ c. Contains (pairs_of k a) (a, c)) e (Contains-map (λ (i : ℕ). (a, a + 1 + i)) (range_with_len 0 (k - (a + 1))) (b - (a + 1))
+    (Contains_range_of 0 (k - (a + 1)) (b - (a + 1)) (omega arith) (omega arith)))
 
 pairs_from-all : (k a n x y : ℕ) → a ≤ x → x < a + n → x < y → y < k → Contains (pairs_from k a n) (x, y)
 pairs_from-all k a zero x y low high rise below = absurd (omega arith)
-pairs_from-all k a (suc n) x y low high rise below = subst (λ ps. Contains ps (x, y)) (sym (pairs_from-suc k a n)) (by (cases_eq a x) (pairs_from-all k (a + 1) n x y))
+pairs_from-all k a (suc n) x y low high rise below = subst (λ ps. Contains ps (x, y)) (sym (pairs_from-suc k a n))
+    (by (cases_eq a x) (pairs_from-all k (a + 1) n x y))
   where
-    by : (a ≡ x) ⊎ (a ≡ x → ⊥) → (a + 1 ≤ x → x < a + 1 + n → x < y → y < k → Contains (pairs_from k (a + 1) n) (x, y)) → Contains (pairs_of k a ++ pairs_from k (a + 1) n) (x, y)
-    by (inl e) rest = Contains-append_left (pairs_of k a) (pairs_from k (a + 1) n) (x, y) (subst (λ c. Contains (pairs_of k c) (x, y)) (sym e) (pairs_of-all k x y rise below))
+    by : (a ≡ x) ⊎ (a ≡ x → ⊥) → (a + 1 ≤ x → x < a + 1 + n → x < y → y < k → Contains (pairs_from k (a + 1) n) (x, y)) →
+        Contains (pairs_of k a ++ pairs_from k (a + 1) n) (x, y)
+    by (inl e) rest = Contains-append_left (pairs_of k a) (pairs_from k (a + 1) n) (x, y) (subst (λ c. Contains (pairs_of k c) (x, y)) (sym e)
+        (pairs_of-all k x y rise below))
     by (inr d) rest = Contains-append_right (pairs_of k a) (pairs_from k (a + 1) n) (x, y) (rest (omega arith) (omega arith) rise below)
 
 pub pairs_are_of_blocks : PairsAreOfBlocks
@@ -95,7 +105,8 @@ pairs_from-rise k a (suc n) =
     subst (AllPairs GoesBefore) (sym (pairs_from-suc k a n))
     (pairs_append GoesBefore (pairs_of k a) (pairs_from k (a + 1) n) (pairs_of-rise k a) (pairs_from-rise k (a + 1) n)
     (All-weaker (λ pair. IsRising k pair × (pair.0 ≡ a)) (λ pair. All (GoesBefore pair) (pairs_from k (a + 1) n))
-    (λ pair x. All-weaker (λ q. IsRising k q × (a + 1 ≤ q.0)) (GoesBefore pair) (λ q y. inl (let e = x.1 in let f = y.1 in omega arith)) (pairs_from k (a + 1) n) (pairs_from-rising k (a + 1) n))
+    (λ pair x. All-weaker (λ q. IsRising k q × (a + 1 ≤ q.0)) (GoesBefore pair) (λ q y. inl (let e = x.1 in let f = y.1 in omega arith))
+    (pairs_from k (a + 1) n) (pairs_from-rising k (a + 1) n))
     (pairs_of k a) (pairs_of-rising k a)))
 
 pub pairs_rise : PairsRise

@@ -1,5 +1,6 @@
 -- The laws over passes: whatever each of their rounds keeps, they keep.
-use Rattle.std.proofs.Common.{◌≡◌, inl, inr, ℕ, suc, ◌+◌, ◌-◌, ◌*◌, ◌<◌, ◌≤◌, Bool, true, false, nat_lt, if◌then◌else◌, List, [], ◌∷◌, length, All, refl, sym, ap, subst, ◌∙◌, arith, true≢false}
+use Rattle.std.proofs.Common.{◌≡◌, inl, inr, ℕ, suc, ◌+◌, ◌-◌, ◌*◌, ◌<◌, ◌≤◌, Bool, true, false, nat_lt, if◌then◌else◌, List}
+use Rattle.std.proofs.Common.{[], ◌∷◌, length, All, refl, sym, ap, subst, ◌∙◌, arith, true≢false}
 use Rattle.std.proofs.lemmas.Bool.{ltb-true, ltb-false, lt-ltb}
 use Rattle.std.proofs.lemmas.List.Elements.{All-nil, All-cons, All-head, All-tail}
 use Rattle.hg_defs.specs.declared.moves.Move.{Move}
@@ -14,8 +15,10 @@ use Rattle.round_log.specs.declared.record.Kind.TheVariants.{Label, Search, Flow
 use Rattle.round_log.specs.declared.record.LoggedRound.{LoggedRound}
 use Rattle.round_log.specs.Rounds.{after_round, after_rounds, IsSwept, IsRaced, IsFlowRound}
 use Rattle.round_log.specs.Passes.{IsLabelRound, AreLabelRounds, IsSearchRound, AreSearchRounds, AreFlowRounds, ArePassRounds, block_pairs, is_lower, saved}
-use Rattle.round_log.specs.RoundLaws.{PassLeavesPartition, PassLeavesFixes, PassStaysWithinLimit, PassRaisesNoCost, PassSavesInItsRounds, PassHasFewRounds, PassIsOfItsKind, PassIsPartOfPass, MovesFree, PassMovesFreeVertices}
-use Rattle.round_log.proofs.RoundLaws.{swept_to, swept_partition, swept_obeys, swept_fits, swept_less, raced-partition, raced-obeys, raced-fits, raced-no_dearer}
+use Rattle.round_log.specs.RoundLaws.{PassLeavesPartition, PassLeavesFixes, PassStaysWithinLimit, PassRaisesNoCost, PassSavesInItsRounds}
+use Rattle.round_log.specs.RoundLaws.{PassHasFewRounds, PassIsOfItsKind, PassIsPartOfPass, MovesFree, PassMovesFreeVertices}
+use Rattle.round_log.proofs.RoundLaws.{swept_to, swept_partition, swept_obeys, swept_fits, swept_less}
+use Rattle.round_log.proofs.RoundLaws.{raced-partition, raced-obeys, raced-fits, raced-no_dearer}
 use Rattle.round_log.proofs.PairLaws.{pairs_within}
 use Rattle.round_log.proofs.FlowLaws.{flow-partition, flow-obeys, flow-no_dearer, flow-free, flow-region_free}
 
@@ -82,18 +85,21 @@ module _ (h : Hyper) (k l : ℕ) where
   rounds-obeys p [] o keep = o
   rounds-obeys p (r ∷ rounds) o keep = rounds-obeys (after_round p r) rounds (keep.0.fixes o) keep.1
 
-  pub rounds-fits : (p : List ℕ) (rounds : List LoggedRound) → IsPartition h k p → Fits h k l p → AllKeep h k l p rounds → Fits h k l (after_rounds p rounds)
+  pub rounds-fits : (p : List ℕ) (rounds : List LoggedRound) → IsPartition h k p → Fits h k l p → AllKeep h k l p rounds →
+      Fits h k l (after_rounds p rounds)
   rounds-fits p [] w f keep = f
   rounds-fits p (r ∷ rounds) w f keep = rounds-fits (after_round p r) rounds (keep.0.partition w) (keep.0.within w f) keep.1
 
-  pub rounds-no_dearer : (p : List ℕ) (rounds : List LoggedRound) → IsPartition h k p → Fits h k l p → AllKeep h k l p rounds → cost h (after_rounds p rounds) ≤ cost h p
+  pub rounds-no_dearer : (p : List ℕ) (rounds : List LoggedRound) → IsPartition h k p → Fits h k l p → AllKeep h k l p rounds →
+      cost h (after_rounds p rounds) ≤ cost h p
   rounds-no_dearer p [] w f keep = omega arith
   rounds-no_dearer p (r ∷ rounds) w f keep =
       let one = keep.0.no_dearer f in
       let others = rounds-no_dearer (after_round p r) rounds (keep.0.partition w) (keep.0.within w f) keep.1 in
       omega arith
 
-  pub rounds-save : (p : List ℕ) (rounds : List LoggedRound) → IsPartition h k p → Fits h k l p → AllKeep h k l p rounds → total saved rounds + cost h (after_rounds p rounds) ≡ cost h p
+  pub rounds-save : (p : List ℕ) (rounds : List LoggedRound) → IsPartition h k p → Fits h k l p → AllKeep h k l p rounds → total saved rounds + cost h
+      (after_rounds p rounds) ≡ cost h p
   rounds-save p [] w f keep = omega arith
   rounds-save p (r ∷ rounds) w f keep =
       let one = keep.0.no_dearer f in
@@ -109,9 +115,14 @@ module _ (whole : Bool) (h : Hyper) (k l workers : ℕ) where
   label_round true p r s = raced_keeps h k l p r s.0.raced
   label_round false p r s = swept_keeps h k l p r s.0
 
-  label_rounds : (lowered : ℕ) (raced : Bool) (p : List ℕ) (rounds : List LoggedRound) → AreLabelRounds whole h k l workers lowered raced p rounds → AllKeep h k l p rounds
+  label_rounds : (lowered : ℕ) (raced : Bool) (p : List ℕ) (rounds : List LoggedRound) → AreLabelRounds whole h k l workers lowered raced p rounds →
+      AllKeep h k l p rounds
   label_rounds lowered raced p [] s = tt
-  label_rounds lowered raced p (r ∷ rounds) s = (label_round raced p r s.3, label_rounds (if is_lower r then lowered + 1 else lowered) (is_lower r) (after_round p r) rounds s.4)
+  label_rounds lowered raced p (r ∷ rounds) s = (
+    label_round raced p r s.3,
+    label_rounds (if is_lower r then lowered + 1 else lowered) (is_lower r)
+        (after_round p r) rounds s.4,
+  )
 
   -- a sweep lowers the cost, so the round after it is raced
   sweep_lower : (p : List ℕ) (r : LoggedRound) → IsSwept h k l p r → is_lower r ≡ true
@@ -128,56 +139,70 @@ module _ (whole : Bool) (h : Hyper) (k l workers : ℕ) where
       by : (t : Bool) → nat_lt lowered 8 ≡ t → 0 + 1 ≤ 2 * (8 - lowered) + (if t then 0 else 1)
       by true e = let low = ltb-true lowered 8 e in omega arith
       by false e = omega arith
-  label_few lowered true p (r ∷ rounds) s = by (is_lower r) (label_few (if is_lower r then lowered + 1 else lowered) (is_lower r) (after_round p r) rounds s.4)
+  label_few lowered true p (r ∷ rounds) s = by (is_lower r) (label_few (if is_lower r then lowered + 1 else lowered) (is_lower r) (after_round p r) rounds
+      s.4)
     where
       low : lowered < 8
       low = s.1
 
-      by : (t : Bool) → length rounds + (if t then 0 else 1) ≤ 2 * (8 - (if t then lowered + 1 else lowered)) + (if t then 0 else (if nat_lt (if t then lowered + 1 else lowered) 8 then 0 else 1))
+      by : (t : Bool) → length rounds + (if t then 0 else 1) ≤ 2 * (8 - (if t then lowered + 1 else lowered)) +
+          (if t then 0 else (if nat_lt (if t then lowered + 1 else lowered) 8 then 0 else 1))
           → suc (length rounds) + 0 ≤ 2 * (8 - lowered) + 0
       by true rest = let m = low in omega arith
       by false rest = two (nat_lt lowered 8) refl rest
         where
-          two : (t : Bool) → nat_lt lowered 8 ≡ t → length rounds + 1 ≤ 2 * (8 - lowered) + (if t then 0 else 1) → suc (length rounds) + 0 ≤ 2 * (8 - lowered) + 0
+          two : (t : Bool) → nat_lt lowered 8 ≡ t → length rounds + 1 ≤ 2 * (8 - lowered) + (if t then 0 else 1) → suc (length rounds) + 0 ≤ 2 *
+              (8 - lowered) + 0
           two true e rest = omega arith
           two false e rest = absurd (let m = low in let n = ltb-false lowered 8 e in omega arith)
-  label_few lowered false p (r ∷ rounds) s = by (nat_lt lowered 8) refl (is_lower r) (sweep_lower p r s.3.0) (label_few (if is_lower r then lowered + 1 else lowered) (is_lower r) (after_round p r) rounds s.4)
+  label_few lowered false p (r ∷ rounds) s = by (nat_lt lowered 8) refl (is_lower r) (sweep_lower p r s.3.0)
+      (label_few (if is_lower r then lowered + 1 else lowered) (is_lower r) (after_round p r) rounds s.4)
     where
       low : lowered < 8
       low = s.1
 
-      by : (b : Bool) → nat_lt lowered 8 ≡ b → (t : Bool) → t ≡ true → length rounds + (if t then 0 else 1) ≤ 2 * (8 - (if t then lowered + 1 else lowered)) + (if t then 0 else (if nat_lt (if t then lowered + 1 else lowered) 8 then 0 else 1))
+      by : (b : Bool) → nat_lt lowered 8 ≡ b → (t : Bool) → t ≡ true → length rounds + (if t then 0 else 1) ≤ 2 *
+          (8 - (if t then lowered + 1 else lowered)) +
+          (if t then 0 else (if nat_lt (if t then lowered + 1 else lowered) 8 then 0 else 1))
           → suc (length rounds) + 1 ≤ 2 * (8 - lowered) + (if b then 0 else 1)
       by true f true e rest = let m = low in omega arith
       by false f true e rest = absurd (let m = low in let n = ltb-false lowered 8 f in omega arith)
       by b f false e rest = absurd (true≢false (sym e))
 
-  label_kind : (lowered : ℕ) (raced : Bool) (p : List ℕ) (rounds : List LoggedRound) → AreLabelRounds whole h k l workers lowered raced p rounds → All (λ r. r.kind ≡ Label) rounds
+  label_kind : (lowered : ℕ) (raced : Bool) (p : List ℕ) (rounds : List LoggedRound) → AreLabelRounds whole h k l workers lowered raced p rounds →
+      All (λ r. r.kind ≡ Label) rounds
   label_kind lowered raced p [] s = All-nil (λ (r : LoggedRound). r.kind ≡ Label)
-  label_kind lowered raced p (r ∷ rounds) s = All-cons (λ (r : LoggedRound). r.kind ≡ Label) r rounds s.2 (label_kind (if is_lower r then lowered + 1 else lowered) (is_lower r) (after_round p r) rounds s.4)
+  label_kind lowered raced p (r ∷ rounds) s = All-cons (λ (r : LoggedRound). r.kind ≡ Label) r rounds s.2
+      (label_kind (if is_lower r then lowered + 1 else lowered) (is_lower r) (after_round p r) rounds s.4)
 
   search_round : (p : List ℕ) (r : LoggedRound) → IsSearchRound h k l workers p r → Keeps h k l p r
   search_round p r (inl s) = raced_keeps h k l p r s.0.raced
   search_round p r (inr s) = raced_keeps h k l p r s.plain.raced
 
-  search_rounds : (made : ℕ) (going : Bool) (p : List ℕ) (rounds : List LoggedRound) → AreSearchRounds whole h k l workers made going p rounds → AllKeep h k l p rounds
+  search_rounds : (made : ℕ) (going : Bool) (p : List ℕ) (rounds : List LoggedRound) → AreSearchRounds whole h k l workers made going p rounds →
+      AllKeep h k l p rounds
   search_rounds made going p [] s = tt
   search_rounds made going p (r ∷ rounds) s = (search_round p r s.4, search_rounds (made + 1) (nat_lt 0 r.kept) (after_round p r) rounds s.5)
 
-  search_few : (made : ℕ) (going : Bool) (p : List ℕ) (rounds : List LoggedRound) → AreSearchRounds whole h k l workers made going p rounds → length rounds ≤ 4 - made
+  search_few : (made : ℕ) (going : Bool) (p : List ℕ) (rounds : List LoggedRound) → AreSearchRounds whole h k l workers made going p rounds →
+      length rounds ≤ 4 - made
   search_few made going p [] s = omega arith
-  search_few made going p (r ∷ rounds) s = let low : made < 4 = s.0 in let rest = search_few (made + 1) (nat_lt 0 r.kept) (after_round p r) rounds s.5 in omega arith
+  search_few made going p (r ∷ rounds) s = let low : made < 4 = s.0 in let rest = search_few (made + 1) (nat_lt 0 r.kept) (after_round p r) rounds s.5 in
+      omega arith
 
-  search_kind : (made : ℕ) (going : Bool) (p : List ℕ) (rounds : List LoggedRound) → AreSearchRounds whole h k l workers made going p rounds → All (λ r. r.kind ≡ Search) rounds
+  search_kind : (made : ℕ) (going : Bool) (p : List ℕ) (rounds : List LoggedRound) → AreSearchRounds whole h k l workers made going p rounds →
+      All (λ r. r.kind ≡ Search) rounds
   search_kind made going p [] s = All-nil (λ (r : LoggedRound). r.kind ≡ Search)
-  search_kind made going p (r ∷ rounds) s = All-cons (λ (r : LoggedRound). r.kind ≡ Search) r rounds s.3 (search_kind (made + 1) (nat_lt 0 r.kept) (after_round p r) rounds s.5)
+  search_kind made going p (r ∷ rounds) s = All-cons (λ (r : LoggedRound). r.kind ≡ Search) r rounds s.3
+      (search_kind (made + 1) (nat_lt 0 r.kept) (after_round p r) rounds s.5)
 
 -- two blocks below k
 abbrev IsPair : ℕ → ℕ × ℕ → Type 0
 IsPair k pair = (pair.0 < k) × (pair.1 < k)
 
 module _ (whole : Bool) (h : Hyper) (k l : ℕ) where
-  flow_rounds : (pairs : List (ℕ × ℕ)) (p : List ℕ) (rounds : List LoggedRound) → All (IsPair k) pairs → AreFlowRounds whole h k l pairs p rounds → AllKeep h k l p rounds
+  flow_rounds : (pairs : List (ℕ × ℕ)) (p : List ℕ) (rounds : List LoggedRound) → All (IsPair k) pairs → AreFlowRounds whole h k l pairs p rounds →
+      AllKeep h k l p rounds
   flow_rounds [] p [] low s = tt
   flow_rounds [] p (r ∷ rounds) low s = absurd s
   flow_rounds (pair ∷ pairs) p [] low s = tt
@@ -200,9 +225,12 @@ module _ (whole : Bool) (h : Hyper) (k l : ℕ) where
   flow_kind [] p (r ∷ rounds) s = absurd s
   flow_kind (pair ∷ pairs) p [] s = All-nil (λ (r : LoggedRound). r.kind ≡ Flow)
   flow_kind (pair ∷ pairs) p (r ∷ rounds) (inl s) = flow_kind pairs p (r ∷ rounds) s.1
-  flow_kind (pair ∷ pairs) p (r ∷ rounds) (inr s) = All-cons (λ (r : LoggedRound). r.kind ≡ Flow) r rounds s.1 (flow_kind pairs (after_round p r) rounds s.6)
+  flow_kind (pair ∷ pairs) p (r ∷ rounds) (inr s) = All-cons (λ (r : LoggedRound). r.kind ≡ Flow) r rounds s.1
+      (flow_kind pairs (after_round p r) rounds s.6)
 
-pub pass_keeps : (whole : Bool) (kind : Kind) (h : Hyper) (k l workers : ℕ) (p : List ℕ) (rounds : List LoggedRound) → ArePassRounds whole kind h k l workers p rounds → AllKeep h k l p rounds
+pub pass_keeps : (whole : Bool) (kind : Kind) (h : Hyper) (k l workers : ℕ) (p : List ℕ) (rounds : List LoggedRound) → ArePassRounds whole kind h k l
+    workers p
+    rounds → AllKeep h k l p rounds
 pass_keeps whole Label h k l workers p rounds s = label_rounds whole h k l workers 0 true p rounds s
 pass_keeps whole Search h k l workers p rounds s = search_rounds whole h k l workers 0 true p rounds s
 pass_keeps whole Flow h k l workers p rounds s = flow_rounds whole h k l (block_pairs k) p rounds (pairs_within k) s
@@ -238,15 +266,25 @@ pass-kind whole Sweep h k l workers p rounds s = absurd s
 -- ---- a whole pass, without its end
 
 module _ (h : Hyper) (k l workers : ℕ) where
-  label_part : (lowered : ℕ) (raced : Bool) (p : List ℕ) (rounds : List LoggedRound) → AreLabelRounds true h k l workers lowered raced p rounds → AreLabelRounds false h k l workers lowered raced p rounds
+  label_part : (lowered : ℕ) (raced : Bool) (p : List ℕ) (rounds : List LoggedRound) → AreLabelRounds true h k l workers lowered raced p rounds →
+      AreLabelRounds false h k l workers lowered raced p rounds
   label_part lowered raced p [] s = tt
-  label_part lowered raced p (r ∷ rounds) s = (s.0, s.1, s.2, s.3, label_part (if is_lower r then lowered + 1 else lowered) (is_lower r) (after_round p r) rounds s.4)
+  label_part lowered raced p (r ∷ rounds) s = (
+    s.0,
+    s.1,
+    s.2,
+    s.3,
+    label_part (if is_lower r then lowered + 1 else lowered) (is_lower r) (after_round p r)
+        rounds s.4,
+  )
 
-  search_part : (made : ℕ) (going : Bool) (p : List ℕ) (rounds : List LoggedRound) → AreSearchRounds true h k l workers made going p rounds → AreSearchRounds false h k l workers made going p rounds
+  search_part : (made : ℕ) (going : Bool) (p : List ℕ) (rounds : List LoggedRound) → AreSearchRounds true h k l workers made going p rounds →
+      AreSearchRounds false h k l workers made going p rounds
   search_part made going p [] s = tt
   search_part made going p (r ∷ rounds) s = (s.0, s.1, s.2, s.3, s.4, search_part (made + 1) (nat_lt 0 r.kept) (after_round p r) rounds s.5)
 
-  flow_part : (pairs : List (ℕ × ℕ)) (p : List ℕ) (rounds : List LoggedRound) → AreFlowRounds true h k l pairs p rounds → AreFlowRounds false h k l pairs p rounds
+  flow_part : (pairs : List (ℕ × ℕ)) (p : List ℕ) (rounds : List LoggedRound) → AreFlowRounds true h k l pairs p rounds → AreFlowRounds false h k l pairs p
+      rounds
   flow_part [] p [] s = tt
   flow_part [] p (r ∷ rounds) s = absurd s
   flow_part (pair ∷ pairs) p [] s = tt

@@ -1,5 +1,6 @@
 -- The laws of the region of a pair of blocks.
-use Rattle.std.proofs.Common.{◌≡◌, ◌⊎◌, inl, inr, ℕ, ◌+◌, ◌-◌, ◌≤◌, Bool, true, false, ◌&&◌, ◌||◌, not, nat_eq, nat_le, if◌then◌else◌, List, [], ◌∷◌, ◌++◌, length, filter, Contains, Decides, refl, sym, ap, subst, ◌∙◌, arith, true≢false}
+use Rattle.std.proofs.Common.{◌≡◌, ◌⊎◌, inl, inr, ℕ, ◌+◌, ◌-◌, ◌≤◌, Bool, true, false, ◌&&◌, ◌||◌, not, nat_eq, nat_le, if◌then◌else◌, List, []}
+use Rattle.std.proofs.Common.{◌∷◌, ◌++◌, length, filter, Contains, Decides, refl, sym, ap, subst, ◌∙◌, arith, true≢false}
 use Rattle.std.specs.List.{list_any}
 use Rattle.std.proofs.lemmas.Bool.{and_parts, and_from, eqb-true, eq-eqb, leb-true, le-leb}
 use Rattle.std.proofs.lemmas.Cmp.{nat_cmp_total}
@@ -8,11 +9,13 @@ use Rattle.hg_defs.specs.declared.objective.TheConstants.{FREE}
 use Rattle.hg_defs.specs.Sums.{total}
 use Rattle.hg_defs.specs.Hypergraph.{Net, Hyper, fix_of, is_free, vertices, weight_of}
 use Rattle.hg_defs.specs.Partition.{block_of, load}
-use Rattle.hg_defs.proofs.SortLaws.{Contains_head, Contains_later, Contains-cons_cases, Contains-nil, Contains-set_of, Contains-from_set_of, nat_cmp_exact, increasing-set_of}
+use Rattle.hg_defs.proofs.SortLaws.{Contains_head, Contains_later, Contains-cons_cases, Contains-nil, Contains-set_of}
+use Rattle.hg_defs.proofs.SortLaws.{Contains-from_set_of, nat_cmp_exact, increasing-set_of}
 use Rattle.hg_defs.proofs.PlacementLaws.{Contains_filter}
 use Rattle.hg_defs.proofs.NumberingLaws.{Contains-from_filter}
 use Rattle.round_log.specs.Rounds.{has_pin, holds, touching, is_near, is_next, taken, side}
-use Rattle.round_log.specs.RegionLaws.{HasPin, IsNear, IsNext, TouchingHasBoth, NearIsTold, NextIsTold, TakesWhileRoom, SideFits, SideIsRanked, RegionHasSides, RegionRises}
+use Rattle.round_log.specs.RegionLaws.{HasPin, IsNear, IsNext, TouchingHasBoth, NearIsTold, NextIsTold, TakesWhileRoom}
+use Rattle.round_log.specs.RegionLaws.{SideFits, SideIsRanked, RegionHasSides, RegionRises}
 use Rattle.round_log.proofs.FlowLaws.{All-taken}
 
 -- ---- some element passes
@@ -21,7 +24,8 @@ any_is : {A : Type 0} (test : A → Bool) (xs : List A) → list_any test xs ≡
 any_is test [] e = absurd (true≢false (sym e))
 any_is {A} test (x ∷ xs) e = by (test x) refl e (any_is test xs)
   where
-    by : (b : Bool) → test x ≡ b → (b || list_any test xs) ≡ true → (list_any test xs ≡ true → (y : A) × Contains xs y × (test y ≡ true)) → (y : A) × Contains (x ∷ xs) y × (test y ≡ true)
+    by : (b : Bool) → test x ≡ b → (b || list_any test xs) ≡ true → (list_any test xs ≡ true → (y : A) × Contains xs y × (test y ≡ true)) →
+        (y : A) × Contains (x ∷ xs) y × (test y ≡ true)
     by true f g rest = (x, Contains_head x xs, f)
     by false f g rest = let r = rest g in (r.0, Contains_later x xs r.0 r.1, r.2)
 
@@ -57,7 +61,8 @@ touching_has_both h p a b e = (
       let x = Contains-from_filter (λ (n : Net). has_pin p n a && has_pin p n b) h.nets e c in
       let both = and_parts (has_pin p e a) (has_pin p e b) x.1 in
       (x.0, (has_pin-told p e a).0 both.0, (has_pin-told p e b).0 both.1),
-  λ x. Contains_filter (λ (n : Net). has_pin p n a && has_pin p n b) h.nets e x.0 (and_from (has_pin p e a) (has_pin p e b) ((has_pin-told p e a).1 x.1) ((has_pin-told p e b).1 x.2)),
+  λ x. Contains_filter (λ (n : Net). has_pin p n a && has_pin p n b) h.nets e x.0 (and_from (has_pin p e a) (has_pin p e b) ((has_pin-told p e a).1 x.1)
+      ((has_pin-told p e b).1 x.2)),
 )
 
 -- ---- the two ranks
@@ -81,7 +86,8 @@ near_is_told h p a b v = (to, from)
     from n =
         and_from (is_free h v && nat_eq (block_of p v) a) (list_any (λ (e : Net). holds e v) (touching h p a b))
         (and_from (is_free h v) (nat_eq (block_of p v) a) (eq-eqb (fix_of h v) FREE n.free) (eq-eqb (block_of p v) a n.block))
-        (any_from (λ (e : Net). holds e v) (touching h p a b) n.net.0 ((touching_has_both h p a b n.net.0).1 (n.net.1, n.net.3, n.net.4)) ((holds-told n.net.0 v).1 n.net.2))
+        (any_from (λ (e : Net). holds e v) (touching h p a b) n.net.0 ((touching_has_both h p a b n.net.0).1 (n.net.1, n.net.3, n.net.4))
+        ((holds-told n.net.0 v).1 n.net.2))
 
 pub next_is_told : NextIsTold
 next_is_told h p a b v = (to, from)
@@ -95,7 +101,8 @@ next_is_told h p a b v = (to, from)
 
     to : is_next h p a b v ≡ true → IsNext h p a b v
     to t =
-        let first = and_parts (is_free h v && nat_eq (block_of p v) a && not (is_near h p a b v)) (list_any (λ (e : Net). nat_le (length e.pins) 1000 && holds e v && list_any (is_near h p a b) e.pins) h.nets) t in
+        let first = and_parts (is_free h v && nat_eq (block_of p v) a && not (is_near h p a b v))
+        (list_any (λ (e : Net). nat_le (length e.pins) 1000 && holds e v && list_any (is_near h p a b) e.pins) h.nets) t in
         let second = and_parts (is_free h v && nat_eq (block_of p v) a) (not (is_near h p a b v)) first.0 in
         let parts = and_parts (is_free h v) (nat_eq (block_of p v) a) second.0 in
         let net = any_is (λ (e : Net). nat_le (length e.pins) 1000 && holds e v && list_any (is_near h p a b) e.pins) h.nets first.1 in
@@ -106,7 +113,13 @@ next_is_told h p a b v = (to, from)
           free = eqb-true (fix_of h v) FREE parts.0;
           block = eqb-true (block_of p v) a parts.1;
           other = not_near (is_near h p a b v) (near_is_told h p a b v) second.1;
-          net = (net.0, net.1, leb-true (length net.0.pins) 1000 small.0, (holds-told net.0 v).0 small.1, (near.0, near.1, (near_is_told h p a b near.0).0 near.2));
+          net = (
+            net.0,
+            net.1,
+            leb-true (length net.0.pins) 1000 small.0,
+            (holds-told net.0 v).0 small.1,
+            (near.0, near.1, (near_is_told h p a b near.0).0 near.2),
+          );
         }
 
     not_from : (t : Bool) → Decides t (IsNear h p a b v) → (IsNear h p a b v → ⊥) → not t ≡ true
@@ -115,7 +128,8 @@ next_is_told h p a b v = (to, from)
 
     from : IsNext h p a b v → is_next h p a b v ≡ true
     from n =
-        and_from (is_free h v && nat_eq (block_of p v) a && not (is_near h p a b v)) (list_any (λ (e : Net). nat_le (length e.pins) 1000 && holds e v && list_any (is_near h p a b) e.pins) h.nets)
+        and_from (is_free h v && nat_eq (block_of p v) a && not (is_near h p a b v))
+        (list_any (λ (e : Net). nat_le (length e.pins) 1000 && holds e v && list_any (is_near h p a b) e.pins) h.nets)
         (and_from (is_free h v && nat_eq (block_of p v) a) (not (is_near h p a b v))
         (and_from (is_free h v) (nat_eq (block_of p v) a) (eq-eqb (fix_of h v) FREE n.free) (eq-eqb (block_of p v) a n.block))
         (not_from (is_near h p a b v) (near_is_told h p a b v) n.other))
@@ -148,9 +162,11 @@ takes_while_room h room (u ∷ us) v = by (nat_le (weight_of h u) room) refl (λ
   where
     by : (t : Bool) → nat_le (weight_of h u) room ≡ t
         → ((r : ℕ) → taken h r (us ++ v ∷ []) ≡ taken h r us ++ (if nat_le (total (weight_of h) (taken h r us) + weight_of h v) r then v ∷ [] else []))
-        → (if t then u ∷ taken h (if t then room - weight_of h u else room) (us ++ v ∷ []) else taken h (if t then room - weight_of h u else room) (us ++ v ∷ []))
+        → (if t then u ∷ taken h (if t then room - weight_of h u else room) (us ++ v ∷ []) else taken h (if t then room - weight_of h u else room)
+        (us ++ v ∷ []))
         ≡ (if t then u ∷ taken h (if t then room - weight_of h u else room) us else taken h (if t then room - weight_of h u else room) us)
-        ++ (if nat_le (total (weight_of h) (if t then u ∷ taken h (if t then room - weight_of h u else room) us else taken h (if t then room - weight_of h u else room) us) + weight_of h v) room then v ∷ [] else [])
+        ++ (if nat_le (total (weight_of h) (if t then u ∷ taken h (if t then room - weight_of h u else room) us else taken h
+        (if t then room - weight_of h u else room) us) + weight_of h v) room then v ∷ [] else [])
     by true e rest =
         ap (λ (vs : List ℕ). u ∷ vs) (rest (room - weight_of h u))
         ∙ ap (λ (b : Bool). (u ∷ taken h (room - weight_of h u) us) ++ (if b then v ∷ [] else []))
@@ -162,7 +178,8 @@ taken-fits h room [] = omega arith
 taken-fits h room (v ∷ vs) = by (nat_le (weight_of h v) room) refl (λ r. taken-fits h r vs)
   where
     by : (t : Bool) → nat_le (weight_of h v) room ≡ t → ((r : ℕ) → total (weight_of h) (taken h r vs) ≤ r)
-        → total (weight_of h) (if t then v ∷ taken h (if t then room - weight_of h v else room) vs else taken h (if t then room - weight_of h v else room) vs) ≤ room
+        → total (weight_of h) (if t then v ∷ taken h (if t then room - weight_of h v else room) vs else taken h (if t then room - weight_of h v else room)
+        vs) ≤ room
     by true e rest = let low = leb-true (weight_of h v) room e in let r = rest (room - weight_of h v) in omega arith
     by false e rest = rest room
 
@@ -173,8 +190,10 @@ pub side_is_ranked : SideIsRanked
 side_is_ranked h l p a b =
     All-taken (λ v. IsNear h p a b v ⊎ IsNext h p a b v) h (l - load h p b) (filter (is_near h p a b) (vertices h) ++ filter (is_next h p a b) (vertices h))
     (All-append (λ v. IsNear h p a b v ⊎ IsNext h p a b v) (filter (is_near h p a b) (vertices h)) (filter (is_next h p a b) (vertices h))
-    (All-weaker (λ v. is_near h p a b v ≡ true) (λ v. IsNear h p a b v ⊎ IsNext h p a b v) (λ v t. inl ((near_is_told h p a b v).0 t)) (filter (is_near h p a b) (vertices h)) (filter_passes (is_near h p a b) (vertices h)))
-    (All-weaker (λ v. is_next h p a b v ≡ true) (λ v. IsNear h p a b v ⊎ IsNext h p a b v) (λ v t. inr ((next_is_told h p a b v).0 t)) (filter (is_next h p a b) (vertices h)) (filter_passes (is_next h p a b) (vertices h))))
+    (All-weaker (λ v. is_near h p a b v ≡ true) (λ v. IsNear h p a b v ⊎ IsNext h p a b v) (λ v t. inl ((near_is_told h p a b v).0 t))
+    (filter (is_near h p a b) (vertices h)) (filter_passes (is_near h p a b) (vertices h)))
+    (All-weaker (λ v. is_next h p a b v ≡ true) (λ v. IsNear h p a b v ⊎ IsNext h p a b v) (λ v t. inr ((next_is_told h p a b v).0 t))
+    (filter (is_next h p a b) (vertices h)) (filter_passes (is_next h p a b) (vertices h))))
 
 pub region_has_sides : RegionHasSides
 region_has_sides h l p a b v = (

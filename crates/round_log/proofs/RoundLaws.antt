@@ -14,7 +14,9 @@ use Rattle.hg_defs.proofs.UndoLaws.{free_moves_leave_fixes}
 use Rattle.round_log.specs.declared.record.LoggedRound.{LoggedRound}
 use Rattle.round_log.specs.Rounds.{after_round, IsSwept, IsRaced, IsMove}
 use Rattle.round_log.specs.Trace.{AreSweeps}
-use Rattle.round_log.specs.RoundLaws.{SweepsEndSettled, SweepsAreReplayed, SweepsLeadToOne, SweepsLeavePartition, SweepsLeaveFixes, SweepsStayWithinLimit, SweepsRaiseNoCost, SweepsLowerCost, RacedRoundLeavesPartition, RacedRoundLeavesFixes, RacedRoundStaysWithinLimit, RacedRoundRaisesNoCost, RacedRoundKeepsBest, RacedRoundKeepsCheapest}
+use Rattle.round_log.specs.RoundLaws.{SweepsEndSettled, SweepsAreReplayed, SweepsLeadToOne, SweepsLeavePartition, SweepsLeaveFixes}
+use Rattle.round_log.specs.RoundLaws.{SweepsStayWithinLimit, SweepsRaiseNoCost, SweepsLowerCost, RacedRoundLeavesPartition, RacedRoundLeavesFixes}
+use Rattle.round_log.specs.RoundLaws.{RacedRoundStaysWithinLimit, RacedRoundRaisesNoCost, RacedRoundKeepsBest, RacedRoundKeepsCheapest}
 
 -- ---- one sweep
 

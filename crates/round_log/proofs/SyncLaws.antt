@@ -1,5 +1,6 @@
 -- The laws of synchronous rounds as they are recorded.
-use Rattle.std.proofs.Common.{◌≡◌, ◌≢◌, inl, inr, ℕ, zero, suc, ◌+◌, ◌-◌, ◌<◌, Bool, true, nat_eq, if◌then◌else◌, List, [], ◌∷◌, length, replicate, get_or, All, AllPairs, ℤ, pos, ◌+ℤ◌, ◌-ℤ◌, refl, sym, ap, subst, ◌∙◌, arith}
+use Rattle.std.proofs.Common.{◌≡◌, ◌≢◌, inl, inr, ℕ, zero, suc, ◌+◌, ◌-◌, ◌<◌, Bool, true, nat_eq, if◌then◌else◌, List, [], ◌∷◌, length}
+use Rattle.std.proofs.Common.{replicate, get_or, All, AllPairs, ℤ, pos, ◌+ℤ◌, ◌-ℤ◌, refl, sym, ap, subst, ◌∙◌, arith}
 use Rattle.std.proofs.lemmas.Bool.{ne_eqb}
 use Rattle.std.proofs.lemmas.Int.{ints}
 use Rattle.std.proofs.lemmas.List.{length-replicate, get_or-replicate}
@@ -13,7 +14,8 @@ use Rattle.hg_defs.specs.Moves.{IsSettled}
 use Rattle.hg_defs.specs.Replay.{replay, replay_first, best_prefix}
 use Rattle.hg_defs.specs.Synchronous.{sync_moves, sync}
 use Rattle.hg_defs.proofs.MoveLaws.{replay-fits}
-use Rattle.hg_defs.proofs.SynchronousLaws.{sync_moves-wishes, sync_moves-distinct, sync_moves-allowed, sync_moves-booked, sync_moves-from, sync_moves-saved, unsettled-lower, settled-same}
+use Rattle.hg_defs.proofs.SynchronousLaws.{sync_moves-wishes, sync_moves-distinct, sync_moves-allowed, sync_moves-booked}
+use Rattle.hg_defs.proofs.SynchronousLaws.{sync_moves-from, sync_moves-saved, unsettled-lower, settled-same}
 use Rattle.round_log.specs.declared.record.LoggedRound.{LoggedRound}
 use Rattle.round_log.specs.Rounds.{after_round, after_rounds, booked_by, IsMove, IsRaced}
 use Rattle.round_log.specs.Passes.{IsRacedBy}
@@ -93,10 +95,12 @@ module _ (h : Hyper) (k l workers : ℕ) (p : List ℕ) (r : LoggedRound) (s : I
         each = subst (All (IsMove h k (length r.gains) p)) (sym s.moves) each;
         booked = booked;
       };
-      sum = ap (total_z (λ (g : ℤ). g)) s.gains ∙ none (pos r.before -ℤ pos r.made) (total_z (λ (g : ℤ). g) (replicate (workers - 1) (pos 0))) (zeros (workers - 1));
+      sum = ap (total_z (λ (g : ℤ). g)) s.gains ∙ none (pos r.before -ℤ pos r.made) (total_z (λ (g : ℤ). g) (replicate (workers - 1) (pos 0)))
+          (zeros (workers - 1));
       before = s.before;
       made = s.made;
-      fits = subst (λ (moves : List Move). Fits h k l (replay p moves)) (sym s.moves) (replay-fits h k l p (sync_moves h k l p) whole f (sync_moves-allowed h k l p));
+      fits = subst (λ (moves : List Move). Fits h k l (replay p moves)) (sym s.moves) (replay-fits h k l p (sync_moves h k l p) whole f
+          (sync_moves-allowed h k l p));
       kept = s.kept;
       after = s.after;
       no_pair = s.no_pair;
@@ -130,7 +134,8 @@ synced-settled zero h k l p s = refl
 synced-settled (suc n) h k l p s = ap (synced n h k l) (settled-same h k l p s) ∙ synced-settled n h k l p s
 
 module _ (h : Hyper) (k l workers : ℕ) where
-  rounds_to : (made n : ℕ) (p : List ℕ) (rounds : List LoggedRound) → made + n ≡ 8 → AreSyncRounds true h k l workers made p rounds → after_rounds p rounds ≡ synced n h k l p
+  rounds_to : (made n : ℕ) (p : List ℕ) (rounds : List LoggedRound) → made + n ≡ 8 → AreSyncRounds true h k l workers made p rounds →
+      after_rounds p rounds ≡ synced n h k l p
   rounds_to made n p [] e (inl s) = sym (synced-settled n h k l p s)
   rounds_to made zero p [] e (inr s) = refl
   rounds_to made (suc n) p [] e (inr s) = absurd (omega arith)
@@ -139,7 +144,8 @@ module _ (h : Hyper) (k l workers : ℕ) where
       rounds_to (made + 1) n (after_round p r) rounds (omega arith) s.3 ∙ ap (synced n h k l) (sync-to h k l workers p r s.2)
 
   -- they are raced rounds that lower the cost
-  are_det : (made : ℕ) (p : List ℕ) (rounds : List LoggedRound) → 0 < workers → IsSound h k l p → AreSyncRounds true h k l workers made p rounds → AreDetRounds true h k l workers made p rounds
+  are_det : (made : ℕ) (p : List ℕ) (rounds : List LoggedRound) → 0 < workers → IsSound h k l p → AreSyncRounds true h k l workers made p rounds →
+      AreDetRounds true h k l workers made p rounds
   are_det made p [] some o s = s
   are_det made p (r ∷ rounds) some o s =
       let by = raced_by h k l workers p r s.2 o.partition o.fits some in
@@ -147,26 +153,39 @@ module _ (h : Hyper) (k l workers : ℕ) where
         s.0,
         s.1,
         record { kind = s.2.kind; raced = by; lower = round_lower h k l workers p r s.2 o.partition o.fits s.0; untabled = s.2.untabled },
-        are_det (made + 1) (after_round p r) rounds some (record { partition = keep.partition o.partition; obeys = keep.fixes o.obeys; fits = keep.within o.partition o.fits }) s.3,
+        are_det (made + 1) (after_round p r) rounds some (record {
+          partition = keep.partition o.partition;
+          obeys = keep.fixes o.obeys;
+          fits = keep.within o.partition o.fits;
+        }) s.3,
       )
 
   det_keep : (made : ℕ) (p : List ℕ) (rounds : List LoggedRound) → AreDetRounds true h k l workers made p rounds → AllKeep h k l p rounds
   det_keep made p [] s = tt
   det_keep made p (r ∷ rounds) s = (raced_keeps h k l p r s.2.raced.raced, det_keep (made + 1) (after_round p r) rounds s.3)
 
-pub synced_to : (k l workers number : ℕ) (h : Hyper) (p : List ℕ) (rounds : List LoggedRound) (q : List ℕ) → IsSynced k l workers number h p rounds q → q ≡ synced 8 h k l p
+pub synced_to : (k l workers number : ℕ) (h : Hyper) (p : List ℕ) (rounds : List LoggedRound) (q : List ℕ) → IsSynced k l workers number h p rounds q →
+    q ≡ synced 8 h k l p
 synced_to k l workers number h p rounds q s = s.result ∙ rounds_to h k l workers 0 8 p rounds refl s.pass
 
-pub det_refined_keeps : (k l workers number : ℕ) (h : Hyper) (p : List ℕ) (rounds : List LoggedRound) (q : List ℕ) → IsDetRefined k l workers number h p rounds q → Leaves h k l p q
+pub det_refined_keeps : (k l workers number : ℕ) (h : Hyper) (p : List ℕ) (rounds : List LoggedRound) (q : List ℕ) → IsDetRefined k l workers number h p
+    rounds
+    q → Leaves h k l p q
 det_refined_keeps k l workers number h p rounds q s = leaves_by h k l p rounds q (det_keep h k l workers 0 p rounds s.pass) s.result
 
-pub synced_refined : (k l workers number : ℕ) (h : Hyper) (p : List ℕ) (rounds : List LoggedRound) (q : List ℕ) → 0 < workers → IsSynced k l workers number h p rounds q → IsSound h k l p → IsDetRefined k l workers number h p rounds q
+pub synced_refined : (k l workers number : ℕ) (h : Hyper) (p : List ℕ) (rounds : List LoggedRound) (q : List ℕ) → 0 < workers → IsSynced k l workers number
+    h p
+    rounds q → IsSound h k l p → IsDetRefined k l workers number h p rounds q
 synced_refined k l workers number h p rounds q some s o = record {
   bear_level = s.bear_level;
   pass = are_det h k l workers 0 p rounds some o s.pass;
   result = s.result;
 }
 
-pub synced_keeps : (k l workers number : ℕ) (h : Hyper) (p : List ℕ) (rounds : List LoggedRound) (q : List ℕ) → 0 < workers → IsSynced k l workers number h p rounds q → Leaves h k l p q
+pub synced_keeps : (k l workers number : ℕ) (h : Hyper) (p : List ℕ) (rounds : List LoggedRound) (q : List ℕ) → 0 < workers → IsSynced k l workers number h
+    p
+    rounds q → Leaves h k l p q
 unfolding Leaves
-synced_keeps k l workers number h p rounds q some s o = det_refined_keeps k l workers number h p rounds q (synced_refined k l workers number h p rounds q some s o) o
+synced_keeps k l workers number h p rounds q some s o = det_refined_keeps k l workers number h p rounds q (synced_refined k l workers number h p rounds q
+    some
+    s o) o

@@ -1,5 +1,6 @@
 -- The deterministic mode: levels by pairing, the best named placement, synchronous rounds, and sweeps at the end.
-use Rattle.std.specs.Prelude.{◌≡◌, ℕ, zero, suc, ◌+◌, ◌-◌, ◌*◌, ◌<◌, ◌≤◌, ◌⊎◌, List, [], ◌∷◌, length, replicate, All, pos, ◌-ℤ◌, Bool, true, false, ◌&&◌, nat_lt, nat_le, if◌then◌else◌, Option, Some, None, option_map}
+use Rattle.std.specs.Prelude.{◌≡◌, ℕ, zero, suc, ◌+◌, ◌-◌, ◌*◌, ◌<◌, ◌≤◌, ◌⊎◌, List, [], ◌∷◌, length, replicate, All, pos, ◌-ℤ◌, Bool}
+use Rattle.std.specs.Prelude.{true, false, ◌&&◌, nat_lt, nat_le, if◌then◌else◌, Option, Some, None, option_map}
 use Rattle.hg_defs.specs.Hypergraph.{Hyper, vertex_count, total_weight}
 use Rattle.hg_defs.specs.Cost.{cost}
 use Rattle.hg_defs.specs.LeastLoaded.{greedy}

@@ -1,5 +1,6 @@
 -- What a recorded round is: raced by workers and rolled back, plain, a sweep, or a minimum cut between two blocks.
-use Rattle.std.specs.Prelude.{◌≡◌, ◌≢◌, ℕ, ◌+◌, ◌-◌, ◌*◌, ◌<◌, ◌≤◌, List, [], ◌∷◌, ◌++◌, length, filter, All, AllPairs, slice_index, slice_index_or, ℤ, pos, ◌-ℤ◌, Bool, not, ◌&&◌, nat_eq, nat_le, if◌then◌else◌, ◌⊎◌}
+use Rattle.std.specs.Prelude.{◌≡◌, ◌≢◌, ℕ, ◌+◌, ◌-◌, ◌*◌, ◌<◌, ◌≤◌, List, [], ◌∷◌, ◌++◌, length, filter, All, AllPairs, slice_index}
+use Rattle.std.specs.Prelude.{slice_index_or, ℤ, pos, ◌-ℤ◌, Bool, not, ◌&&◌, nat_eq, nat_le, if◌then◌else◌, ◌⊎◌}
 use Rattle.std.specs.List.{list_any}
 use Rattle.std.specs.Ordering.{nat_cmp}
 use Rattle.hg_defs.specs.declared.objective.Objective.{Objective}

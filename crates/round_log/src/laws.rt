@@ -1,8 +1,25 @@
 //! The laws over recorded rounds. Each is the contract of a function that does nothing.
 
-ghost use Rattle.round_log.specs.RoundLaws.{SweepsEndSettled, SweepsAreReplayed, SweepsLeadToOne, SweepsLeavePartition, SweepsLeaveFixes, SweepsStayWithinLimit, SweepsRaiseNoCost, SweepsLowerCost, RacedRoundLeavesPartition, RacedRoundLeavesFixes, RacedRoundStaysWithinLimit, RacedRoundRaisesNoCost, RacedRoundKeepsBest, RacedRoundKeepsCheapest, FlowRoundLeavesPartition, FlowRoundLeavesFixes, FlowRoundRaisesNoCost, RegionIsFree, PassLeavesPartition, PassLeavesFixes, PassStaysWithinLimit, PassRaisesNoCost, PassSavesInItsRounds, PassHasFewRounds, PassIsOfItsKind, PassIsPartOfPass, PassMovesFreeVertices};
-ghost use Rattle.round_log.specs.RegionLaws.{PairsAreOfBlocks, PairsRise, PairsAreHalf, TouchingHasBoth, NearIsTold, NextIsTold, TakesWhileRoom, SideFits, SideIsRanked, RegionHasSides, RegionRises, AssignmentIsPartition, AssignmentObeys, AssignmentFits};
-ghost use Rattle.round_log.specs.TraceLaws.{TraceEndsSettled, DescentRaisesNoCost, TraceEndsBelowLast, TraceEndsBelowGreedy, CycleBeginsAtCost, CycleRaisesNoCost, CycleEndsSettled, CyclesRaiseNoCost, CyclesEndSettled, SyncRoundIsRaced, SyncRoundLowersCost, SweepsEndAtFunction, FunctionEndsSettled, DetDescentEndsAtFunction, DetTraceEndsAtFunction, DetTraceIsLegal, DetEndsSettled, DetEndsBelowGreedy};
+ghost use Rattle.round_log.specs.RoundLaws.{SweepsEndSettled, SweepsAreReplayed};
+ghost use Rattle.round_log.specs.RoundLaws.{SweepsLeadToOne, SweepsLeavePartition};
+ghost use Rattle.round_log.specs.RoundLaws.{SweepsLeaveFixes, SweepsStayWithinLimit, SweepsRaiseNoCost};
+ghost use Rattle.round_log.specs.RoundLaws.{SweepsLowerCost, RacedRoundLeavesPartition, RacedRoundLeavesFixes};
+ghost use Rattle.round_log.specs.RoundLaws.{RacedRoundStaysWithinLimit, RacedRoundRaisesNoCost, RacedRoundKeepsBest};
+ghost use Rattle.round_log.specs.RoundLaws.{RacedRoundKeepsCheapest, FlowRoundLeavesPartition, FlowRoundLeavesFixes};
+ghost use Rattle.round_log.specs.RoundLaws.{FlowRoundRaisesNoCost, RegionIsFree};
+ghost use Rattle.round_log.specs.RoundLaws.{PassLeavesPartition, PassLeavesFixes};
+ghost use Rattle.round_log.specs.RoundLaws.{PassStaysWithinLimit, PassRaisesNoCost, PassSavesInItsRounds};
+ghost use Rattle.round_log.specs.RoundLaws.{PassHasFewRounds, PassIsOfItsKind};
+ghost use Rattle.round_log.specs.RoundLaws.{PassIsPartOfPass, PassMovesFreeVertices};
+ghost use Rattle.round_log.specs.RegionLaws.{PairsAreOfBlocks, PairsRise, PairsAreHalf, TouchingHasBoth, NearIsTold};
+ghost use Rattle.round_log.specs.RegionLaws.{NextIsTold, TakesWhileRoom, SideFits, SideIsRanked, RegionHasSides};
+ghost use Rattle.round_log.specs.RegionLaws.{RegionRises, AssignmentIsPartition, AssignmentObeys, AssignmentFits};
+ghost use Rattle.round_log.specs.TraceLaws.{TraceEndsSettled, DescentRaisesNoCost, TraceEndsBelowLast};
+ghost use Rattle.round_log.specs.TraceLaws.{TraceEndsBelowGreedy, CycleBeginsAtCost, CycleRaisesNoCost};
+ghost use Rattle.round_log.specs.TraceLaws.{CycleEndsSettled, CyclesRaiseNoCost, CyclesEndSettled, SyncRoundIsRaced};
+ghost use Rattle.round_log.specs.TraceLaws.{SyncRoundLowersCost, SweepsEndAtFunction, FunctionEndsSettled};
+ghost use Rattle.round_log.specs.TraceLaws.{DetDescentEndsAtFunction, DetTraceEndsAtFunction, DetTraceIsLegal};
+ghost use Rattle.round_log.specs.TraceLaws.{DetEndsSettled, DetEndsBelowGreedy};
 
 /// Sweeps end at one settled partition, which is where their moves lead.
 pub fn end_of_sweeps()

@@ -33,15 +33,20 @@ choice_levels h k last p same not_less = record {
 }
 
 pub settled_best :
-    (h : Hyper) (k l : ℕ) (old mid : Trace) (taken : Chosen) (best : Parted) (q : List ℕ) (log : List LoggedRound) (n : ℕ) → best.k ≡ k → best.limit ≡ l → IsChoice h k old.last taken best.blocks
-    → mid ≡ record old { chosen = taken } → Settles h best.k best.limit best.blocks q mid.rounds log n → SettlesBest h k l old (record mid { rounds = log }) q
+    (h : Hyper) (k l : ℕ) (old mid : Trace) (taken : Chosen) (best : Parted) (q : List ℕ) (log : List LoggedRound) (n : ℕ) → best.k ≡ k → best.limit ≡ l →
+    IsChoice h k old.last taken best.blocks
+    → mid ≡ record old { chosen = taken } → Settles h best.k best.limit best.blocks q mid.rounds log n →
+    SettlesBest h k l old (record mid { rounds = log }) q
 settled_best h k l old mid taken best q log n same_k same_l choice mid_is settles = record {
   swept = best.blocks;
   choice = subst (λ (x : Chosen). IsChoice h k old.last x best.blocks) (sym (ap (λ (t : Trace). t.chosen) mid_is)) choice;
   sweeps = settles.rounds;
-  settled = subst (λ (x : ℕ). AreSweeps h x l best.blocks settles.rounds q) same_k (subst (λ (x : ℕ). AreSweeps h best.k x best.blocks settles.rounds q) same_l settles.sweeps);
+  settled = subst (λ (x : ℕ). AreSweeps h x l best.blocks settles.rounds q) same_k (subst (λ (x : ℕ). AreSweeps h best.k x best.blocks settles.rounds q)
+      same_l
+      settles.sweeps);
   trace =
       ap (λ (t : Trace). record t { rounds = log }) mid_is
       ∙ ap (λ (x : Chosen). record old { chosen = x; rounds = log }) (sym (ap (λ (t : Trace). t.chosen) mid_is))
-      ∙ ap (λ (rs : List LoggedRound). record old { chosen = mid.chosen; rounds = rs }) (settles.log ∙ ap (λ (t : Trace). t.rounds ++ settles.rounds) mid_is);
+      ∙ ap (λ (rs : List LoggedRound). record old { chosen = mid.chosen; rounds = rs }) (settles.log ∙ ap (λ (t : Trace). t.rounds ++ settles.rounds)
+      mid_is);
 }

@@ -3,7 +3,8 @@ use Rattle.std.proofs.Common.{◌≡◌, ◌<◌, ◌≤◌, ◌+◌, ◌-◌, �
 use Rattle.std.proofs.lemmas.Bool.{cases_lt}
 
 pub one_more :
-    (P : ℕ → Type 0) (depth above last : ℕ) → ((i : ℕ) → depth ≤ i + above → i ≤ last → P i) → P (depth - 1 - above) → (i : ℕ) → depth ≤ i + (above + 1) → i ≤ last → P i
+    (P : ℕ → Type 0) (depth above last : ℕ) → ((i : ℕ) → depth ≤ i + above → i ≤ last → P i) → P (depth - 1 - above) → (i : ℕ) → depth ≤ i + (above + 1) →
+    i ≤ last → P i
 one_more P depth above last kept here i far within = by (cases_lt (i + above) depth)
   where
     by : (i + above < depth) ⊎ (depth ≤ i + above) → P i

@@ -34,7 +34,8 @@ pub fn descend<R: Threads + Sync>(
     requires few { k ≤ 256 }
     requires levels { ArePartable stack.now k }
     ensures start { IfOk result (λ s. IsStartAt stack.now k limit seed s.level s.blocks) }
-    ensures none { result ≡ Err PlaceEnd.NoneFits → (i : ℕ) → i ≤ length stack.now.maps → NoneFitsAt stack.now k limit seed i }
+    ensures none { result ≡ Err PlaceEnd.NoneFits → (i : ℕ) → i ≤ length stack.now.maps → NoneFitsAt stack.now k limit
+        seed i }
 {
     let depth = stack.depth();
     for above in 0..depth {

@@ -24,7 +24,12 @@ const STREAMS: u64 = 1 << 10;
 pub(crate) fn frame_of(alloc: Global, h: &Hypergraph, k: u32) -> Result<Frame, NoMemory>
     requires some { 0 < k }
     requires vertices { 0 < vertex_count h.now }
-    ensures { IfOk result (λ frame. frame ≡ record { vertices = vertex_count h.now; whole = vertex_count h.now; all = k; blocks = k }) }
+    ensures { IfOk result (λ frame. frame ≡ record {
+      vertices = vertex_count h.now;
+      whole = vertex_count h.now;
+      all = k;
+      blocks = k;
+    }) }
 {
     let vertices = h.vertices();
     let mut frame = Frame::start(alloc, vertices, vertices, k, 0, k)?;

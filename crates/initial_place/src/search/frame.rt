@@ -61,7 +61,12 @@ impl Frame {
         requires whole { 0 < whole }
         requires some { 0 < blocks }
         requires within { first + blocks ≤ all }
-        ensures { IfOk result (λ frame. frame ≡ record { vertices = vertices; whole = whole; all = all; blocks = blocks }) }
+        ensures { IfOk result (λ frame. frame ≡ record {
+          vertices = vertices;
+          whole = whole;
+          all = all;
+          blocks = blocks;
+        }) }
     {
         Ok(Frame {
             vertices,
@@ -218,7 +223,11 @@ impl Frame {
     ) -> Result<Search, NoMemory>
         requires part { self.now.vertices ≡ vertex_count h.now }
         requires vertices { 0 < self.now.vertices }
-        ensures { IfOk result (λ search. search ≡ record { vertices = self.now.vertices; nets = net_count h.now; blocks = 2 }) }
+        ensures { IfOk result (λ search. search ≡ record {
+          vertices = self.now.vertices;
+          nets = net_count h.now;
+          blocks = 2;
+        }) }
     {
         let weights = self.copied_weights(alloc)?;
         let fixed = self.fixed(alloc)?;
@@ -236,7 +245,11 @@ impl Frame {
     ) -> Result<Search, NoMemory>
         requires part { self.now.vertices ≡ vertex_count h.now }
         requires vertices { 0 < self.now.vertices }
-        ensures { IfOk result (λ search. search ≡ record { vertices = self.now.vertices; nets = net_count h.now; blocks = self.now.blocks }) }
+        ensures { IfOk result (λ search. search ≡ record {
+          vertices = self.now.vertices;
+          nets = net_count h.now;
+          blocks = self.now.blocks;
+        }) }
     {
         let weights = self.copied_weights(alloc)?;
         let fixed = self.fixed(alloc)?;

@@ -67,7 +67,11 @@ impl Search {
         requires weights { weights ≡ vertex_count h.now }
         requires fixed { fixed ≡ vertex_count h.now }
         requires limits { limits ≡ blocks }
-        ensures { IfOk result (λ search. search ≡ record { vertices = vertex_count h.now; nets = net_count h.now; blocks = blocks }) }
+        ensures { IfOk result (λ search. search ≡ record {
+          vertices = vertex_count h.now;
+          nets = net_count h.now;
+          blocks = blocks;
+        }) }
     {
         let vertices = h.vertices();
         let tables = Tables::start(alloc, h, blocks, weights, limits)?;

@@ -80,7 +80,8 @@ impl Model for Listed {
 
     ghost view = { λ s. s.vertices };
 
-    ghost invariant = { λ s. (s.links ≡ record { count = s.vertices; bound = s.vertices + 2 }) × (s.first ≤ s.vertices) × (s.vertices < 2 ^ 31) };
+    ghost invariant = { λ s. (s.links ≡ record { count = s.vertices; bound = s.vertices + 2 }) ×
+        (s.first ≤ s.vertices) × (s.vertices < 2 ^ 31) };
 }
 
 impl Listed {

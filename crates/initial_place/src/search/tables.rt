@@ -85,7 +85,11 @@ impl Tables {
         requires some { 0 < blocks }
         requires weights { weights ≡ vertex_count h.now }
         requires limits { limits ≡ blocks }
-        ensures { IfOk result (λ tables. tables ≡ record { vertices = vertex_count h.now; nets = net_count h.now; blocks = blocks }) }
+        ensures { IfOk result (λ tables. tables ≡ record {
+          vertices = vertex_count h.now;
+          nets = net_count h.now;
+          blocks = blocks;
+        }) }
     {
         let vertices = h.vertices();
         let nets = h.nets();

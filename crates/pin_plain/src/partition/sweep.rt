@@ -1,6 +1,8 @@
 //! Sweeps over all vertices, until no single move helps.
 
-ghost use Rattle.std.specs.Prelude.{◌≡◌, ◌≢◌, ℕ, ◌+◌, ◌*◌, ◌<◌, ◌≤◌, ◌^◌, List, [], ◌∷◌, ◌++◌, length, All, ℤ, pos, ◌-ℤ◌, ◌≤ℤ◌, ◌<ℤ◌, false, IsTrue, ◌↔◌, IfOk, IfSome, OnOk, OnErr, option_map, option_to_list};
+ghost use Rattle.std.specs.Prelude.{◌≡◌, ◌≢◌, ℕ, ◌+◌, ◌*◌, ◌<◌, ◌≤◌, ◌^◌, List, [], ◌∷◌, ◌++◌, length, All};
+ghost use Rattle.std.specs.Prelude.{ℤ, pos, ◌-ℤ◌, ◌≤ℤ◌, ◌<ℤ◌, false, IsTrue, ◌↔◌, IfOk, IfSome, OnOk};
+ghost use Rattle.std.specs.Prelude.{OnErr, option_map, option_to_list};
 ghost use Rattle.hg_defs.specs.Sums.{total_z};
 ghost use Rattle.hg_defs.specs.Hypergraph.{vertex_count};
 ghost use Rattle.hg_defs.specs.Replay.{replay};
@@ -50,7 +52,8 @@ impl Partition {
         requires belongs { self.old.hyper ≡ h.now }
         requires vertex { v < vertex_count h.now }
         requires clear { IsClear scores.old.sums }
-        ensures made { result ≡ option_map (move_of h.now self.old.blocks v) (best_block h.now self.old.limit self.old.blocks v self.old.k) }
+        ensures made { result ≡ option_map (move_of h.now self.old.blocks v)
+            (best_block h.now self.old.limit self.old.blocks v self.old.k) }
         ensures after { self.new ≡ record self.old { blocks = replay self.old.blocks (option_to_list result) } }
         ensures clear { IsClear scores.new.sums }
     {
@@ -82,7 +85,8 @@ impl Partition {
           blocks = replay self.old.blocks (sweeps.sweep h.now self.old.k self.old.limit self.old.blocks);
         }) }
         ensures log { OnOk result (log.new ≡ log.old ++ sweeps.sweep h.now self.old.k self.old.limit self.old.blocks) }
-        ensures settled { IfOk result (λ moved. (moved ≡ false) ↔ IsSettled h.now self.old.k self.old.limit self.old.blocks) }
+        ensures settled { IfOk result (λ moved. (moved ≡ false) ↔ IsSettled h.now self.old.k self.old.limit
+            self.old.blocks) }
         ensures err { OnErr result ((self.new ≡ self.old) × (log.new ≡ log.old)) }
     {
         let count = h.vertices();
@@ -116,8 +120,10 @@ impl Partition {
     ) -> Result<u64, NoMemory>
         requires belongs { self.old.hyper ≡ h.now }
         ensures kept { self.new ≡ record self.old { blocks = self.new.blocks } }
-        ensures ok { IfOk result (Settles h.now self.old.k self.old.limit self.old.blocks self.new.blocks log.old log.new) }
-        ensures err { OnErr result (BreaksOff h.now self.old.k self.old.limit self.old.blocks self.new.blocks log.old log.new) }
+        ensures ok { IfOk result (Settles h.now self.old.k self.old.limit self.old.blocks self.new.blocks log.old
+            log.new) }
+        ensures err { OnErr result (BreaksOff h.now self.old.k self.old.limit self.old.blocks self.new.blocks log.old
+            log.new) }
     {
         let _vertices = h.vertices();
         let mut before = self.cost(h);

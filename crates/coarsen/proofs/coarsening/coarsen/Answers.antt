@@ -11,14 +11,16 @@ use Rattle.level_stack.specs.Stack.{Stack, LeadsUp}
 use Rattle.coarsen.proofs.LevelSteps.{count_within, all_small, leads_from, not_fewer, large_at, fewer_at}
 use Rattle.coarsen.proofs.coarsening.coarsen.Goals as goal
 
-good_at : (top h : Hyper) (k : ℕ) (clusters : List ℕ) → ((number : ℕ) → IsGoodClustering k number top clusters) → top ≡ h → (number : ℕ) → IsGoodClustering k number h clusters
+good_at : (top h : Hyper) (k : ℕ) (clusters : List ℕ) → ((number : ℕ) → IsGoodClustering k number top clusters) → top ≡ h → (number : ℕ) →
+    IsGoodClustering k number h clusters
 good_at top h k clusters good same number = subst (λ (x : Hyper). IsGoodClustering k number x clusters) same (good number)
 
 pub count_clusters-count-requires : goal.count_clusters-count-requires
 count_clusters-count-requires g c =
     let h = coarsest c.levels.stack.base c.levels.stack.maps in
     let good = good_at c.top-in-levels.result.now h c.args.k c.in_ok-clusters.clusters c.in_ok-clusters.ensures c.top-in-levels.ensures 0 in
-    all_small h _ c.in_ok-clusters.clusters c.slice.result.now good.clustering (subst IsWithinLimits c.top.ensures c.vertices.ensures.bounds) c.slice.ensures
+    all_small h _ c.in_ok-clusters.clusters c.slice.result.now good.clustering (subst IsWithinLimits c.top.ensures c.vertices.ensures.bounds)
+    c.slice.ensures
 
 pub is_twentieth_fewer-requires : goal.is_twentieth_fewer-requires
 is_twentieth_fewer-requires g c =
@@ -36,8 +38,11 @@ returns-then-not-is_twentieth_fewer-clause-stop g c =
     let same = c.top-in-levels.ensures ∙ ap (λ (x : Hyper). coarsest x maps) c.levels.invariant.base in
     let count = c.count_clusters-count.ensures ∙ ap cluster_count c.slice.ensures in
     let top = ap (λ (x : Hyper). vertex_count x) (c.top-in-levels-2.ensures ∙ ap (λ (x : Hyper). coarsest x maps) c.levels.invariant.base) in
-    let less = not_fewer c.is_twentieth_fewer.result (vertex_count c.top-in-levels-2.result.now) c.count_clusters-count.result c.is_twentieth_fewer.ensures.1 c.if-not-is_twentieth_fewer.true in (
-      large_at c.levels.stack.base c.args.h c.top.result.now maps c.args.k c.from.result c.from-in-levels.result c.vertices.result c.levels.invariant.base c.top.ensures c.vertices.ensures.count c.from.ensures c.from-in-levels.ensures c.levels-test.true,
+    let less = not_fewer c.is_twentieth_fewer.result (vertex_count c.top-in-levels-2.result.now) c.count_clusters-count.result
+    c.is_twentieth_fewer.ensures.1
+    c.if-not-is_twentieth_fewer.true in (
+      large_at c.levels.stack.base c.args.h c.top.result.now maps c.args.k c.from.result c.from-in-levels.result c.vertices.result c.levels.invariant.base
+          c.top.ensures c.vertices.ensures.count c.from.ensures c.from-in-levels.ensures c.levels-test.true,
       good_at c.top-in-levels.result.now h c.args.k c.in_ok-clusters.clusters c.in_ok-clusters.ensures same (length maps),
       omega arith,
     )
@@ -53,7 +58,8 @@ pub push-requires-clause-books : goal.push-requires-clause-books
 push-requires-clause-books g c =
     let h = coarsest c.levels.stack.base c.levels.stack.maps in
     let good = good_at c.top-in-levels.result.now h c.args.k c.in_ok-clusters.clusters c.in_ok-clusters.ensures c.top-in-levels.ensures 0 in
-    leads_from h c.top-in-levels-3.result.now c.in_ok-coarse.coarse _ c.in_ok-clusters.clusters c.slice-in-levels.result.now c.in_ok-coarse.ledger good.clustering c.top-in-levels-3.ensures c.slice-in-levels.ensures c.in_ok-coarse.ensures.ledger
+    leads_from h c.top-in-levels-3.result.now c.in_ok-coarse.coarse _ c.in_ok-clusters.clusters c.slice-in-levels.result.now c.in_ok-coarse.ledger
+    good.clustering c.top-in-levels-3.ensures c.slice-in-levels.ensures c.in_ok-coarse.ensures.ledger
 
 pub levels-smaller : goal.levels-smaller
 levels-smaller g c =
@@ -73,7 +79,8 @@ levels-preserved g c =
     let top = ap (λ (x : Hyper). vertex_count x) (c.top-in-levels-2.ensures ∙ ap (λ (x : Hyper). coarsest x maps) c.levels.invariant.base) in
     let fewer = c.is_twentieth_fewer.ensures.0 c.if-not-is_twentieth_fewer.false in
     let shrinks : Shrinks h clusters = omega arith in
-    let large = large_at c.levels.stack.base c.args.h c.top.result.now maps c.args.k c.from.result c.from-in-levels.result c.vertices.result c.levels.invariant.base c.top.ensures c.vertices.ensures.count c.from.ensures c.from-in-levels.ensures c.levels-test.true in
+    let large = large_at c.levels.stack.base c.args.h c.top.result.now maps c.args.k c.from.result c.from-in-levels.result c.vertices.result
+    c.levels.invariant.base c.top.ensures c.vertices.ensures.count c.from.ensures c.from-in-levels.ensures c.levels-test.true in
     let good = good_at c.top-in-levels.result.now h c.args.k clusters c.in_ok-clusters.ensures same (0 + length maps) in
     let ok = c.in_ok-push.ensures.ok in
     let longer = ap (λ (x : Stack). length x.maps) ok ∙ length_push maps clusters in

@@ -14,20 +14,25 @@ use Rattle.coarsen.proofs.LevelSteps.{count_within, all_small, leads_from, large
 use Rattle.coarsen.proofs.InsideSteps.{inside_more, lifted_more, lifted_partition}
 use Rattle.coarsen.proofs.coarsening.coarsen_inside.Goals as goal
 
-inside_at : (top h : Hyper) (k : ℕ) (lent current clusters : List ℕ) → IsInside top (cluster_cap (total_weight top) k) lent clusters → top ≡ h → lent ≡ current → IsInside h (cluster_cap (total_weight h) k) current clusters
+inside_at : (top h : Hyper) (k : ℕ) (lent current clusters : List ℕ) → IsInside top (cluster_cap (total_weight top) k) lent clusters → top ≡ h →
+    lent ≡ current → IsInside h (cluster_cap (total_weight h) k) current clusters
 inside_at top h k lent current clusters inside same read =
-    subst (λ (x : Hyper). IsInside x (cluster_cap (total_weight x) k) current clusters) same (subst (λ (p : List ℕ). IsInside top (cluster_cap (total_weight top) k) p clusters) read inside)
+    subst (λ (x : Hyper). IsInside x (cluster_cap (total_weight x) k) current clusters) same
+    (subst (λ (p : List ℕ). IsInside top (cluster_cap (total_weight top) k) p clusters) read inside)
 
 pub count_clusters-count-requires : goal.count_clusters-count-requires
 count_clusters-count-requires g c =
     let h = coarsest c.levels.stack.base c.levels.stack.maps in
-    let good = inside_at c.top-in-levels.result.now h c.args.k c.deref.result.now c.levels.current.items c.in_ok-clusters.clusters c.in_ok-clusters.ensures c.top-in-levels.ensures c.deref.ensures.value in
-    all_small h _ c.in_ok-clusters.clusters c.slice.result.now good.clustering (subst IsWithinLimits c.top.ensures c.vertices.ensures.bounds) c.slice.ensures
+    let good = inside_at c.top-in-levels.result.now h c.args.k c.deref.result.now c.levels.current.items c.in_ok-clusters.clusters c.in_ok-clusters.ensures
+    c.top-in-levels.ensures c.deref.ensures.value in
+    all_small h _ c.in_ok-clusters.clusters c.slice.result.now good.clustering (subst IsWithinLimits c.top.ensures c.vertices.ensures.bounds)
+    c.slice.ensures
 
 pub is_twentieth_fewer-requires : goal.is_twentieth_fewer-requires
 is_twentieth_fewer-requires g c =
     let h = coarsest c.levels.stack.base c.levels.stack.maps in
-    let good = inside_at c.top-in-levels.result.now h c.args.k c.deref.result.now c.levels.current.items c.in_ok-clusters.clusters c.in_ok-clusters.ensures c.top-in-levels.ensures c.deref.ensures.value in
+    let good = inside_at c.top-in-levels.result.now h c.args.k c.deref.result.now c.levels.current.items c.in_ok-clusters.clusters c.in_ok-clusters.ensures
+    c.top-in-levels.ensures c.deref.ensures.value in
     let most = count_within h _ c.in_ok-clusters.clusters good.clustering in
     let count = c.count_clusters-count.ensures ∙ ap cluster_count c.slice.ensures in
     let top = ap (λ (x : Hyper). vertex_count x) c.top-in-levels-2.ensures in
@@ -36,15 +41,18 @@ is_twentieth_fewer-requires g c =
 pub lift_blocks-requires-clause-below : goal.lift_blocks-requires-clause-below
 lift_blocks-requires-clause-below g c =
     let h = coarsest c.levels.stack.base c.levels.stack.maps in
-    let good = inside_at c.top-in-levels.result.now h c.args.k c.deref.result.now c.levels.current.items c.in_ok-clusters.clusters c.in_ok-clusters.ensures c.top-in-levels.ensures c.deref.ensures.value in
+    let good = inside_at c.top-in-levels.result.now h c.args.k c.deref.result.now c.levels.current.items c.in_ok-clusters.clusters c.in_ok-clusters.ensures
+    c.top-in-levels.ensures c.deref.ensures.value in
     subst (λ (n : ℕ). All (λ i. i < n) c.slice-in-levels.result.now) (sym (c.count_clusters-count.ensures ∙ ap cluster_count c.slice.ensures))
     (subst (All (λ i. i < cluster_count c.in_ok-clusters.clusters)) (sym c.slice-in-levels.ensures) good.clustering.full.below)
 
 pub push-requires-clause-books : goal.push-requires-clause-books
 push-requires-clause-books g c =
     let h = coarsest c.levels.stack.base c.levels.stack.maps in
-    let good = inside_at c.top-in-levels.result.now h c.args.k c.deref.result.now c.levels.current.items c.in_ok-clusters.clusters c.in_ok-clusters.ensures c.top-in-levels.ensures c.deref.ensures.value in
-    leads_from h c.top-in-levels-3.result.now c.in_ok-coarse.coarse _ c.in_ok-clusters.clusters c.slice-in-levels-2.result.now c.in_ok-coarse.ledger good.clustering c.top-in-levels-3.ensures c.slice-in-levels-2.ensures c.in_ok-coarse.ensures.ledger
+    let good = inside_at c.top-in-levels.result.now h c.args.k c.deref.result.now c.levels.current.items c.in_ok-clusters.clusters c.in_ok-clusters.ensures
+    c.top-in-levels.ensures c.deref.ensures.value in
+    leads_from h c.top-in-levels-3.result.now c.in_ok-coarse.coarse _ c.in_ok-clusters.clusters c.slice-in-levels-2.result.now c.in_ok-coarse.ledger
+    good.clustering c.top-in-levels-3.ensures c.slice-in-levels-2.ensures c.in_ok-coarse.ensures.ledger
 
 pub levels-smaller : goal.levels-smaller
 levels-smaller g c =
@@ -66,9 +74,11 @@ levels-preserved g c =
     let top = ap (λ (x : Hyper). vertex_count x) (c.top-in-levels-2.ensures ∙ moved) in
     let fewer = c.is_twentieth_fewer.ensures.0 c.if-not-is_twentieth_fewer.false in
     let shrinks : Shrinks h clusters = omega arith in
-    let large = large_at c.levels.stack.base c.args.h c.top.result.now maps c.args.k c.from.result c.from-in-levels.result c.vertices.result c.levels.invariant.base c.top.ensures c.vertices.ensures.count c.from.ensures c.from-in-levels.ensures c.levels-test.true in
+    let large = large_at c.levels.stack.base c.args.h c.top.result.now maps c.args.k c.from.result c.from-in-levels.result c.vertices.result
+    c.levels.invariant.base c.top.ensures c.vertices.ensures.count c.from.ensures c.from-in-levels.ensures c.levels-test.true in
     let p = lifted_to c.args.blocks.now maps (length maps) in
-    let good = inside_at c.top-in-levels.result.now h c.args.k c.deref.result.now p clusters c.in_ok-clusters.ensures same (c.deref.ensures.value ∙ c.levels.invariant.top) in
+    let good = inside_at c.top-in-levels.result.now h c.args.k c.deref.result.now p clusters c.in_ok-clusters.ensures same (c.deref.ensures.value ∙
+    c.levels.invariant.top) in
     let ok = c.in_ok-push.ensures.ok in
     let here : c.in_ok-above.above.items ≡ lifted p clusters (cluster_count clusters) =
     c.in_ok-above.ensures
@@ -81,7 +91,8 @@ levels-preserved g c =
     let depth = c.levels.invariant.depth in
     let base : c.push.new.self.base ≡ c.args.h = ap (λ (x : Stack). x.base) ok ∙ c.levels.invariant.base in
     let longer_maps = ap (λ (x : Stack). x.maps) ok in
-    let whole : IsPartition h c.args.k p = subst (λ (q : List ℕ). IsPartition h c.args.k q) c.levels.invariant.top (subst (λ (x : Hyper). IsPartition x c.args.k c.levels.current.items) moved c.levels.invariant.partition) in
+    let whole : IsPartition h c.args.k p = subst (λ (q : List ℕ). IsPartition h c.args.k q) c.levels.invariant.top
+    (subst (λ (x : Hyper). IsPartition x c.args.k c.levels.current.items) moved c.levels.invariant.partition) in
     let sound : IsHypergraph h = subst IsHypergraph (c.top.ensures ∙ moved) c.vertices.ensures.sound in
     let next : coarsest c.push.new.self.base c.push.new.self.maps ≡ contract h clusters (cluster_count clusters) =
     ap (λ (x : Hyper). coarsest x c.push.new.self.maps) base ∙ ap (coarsest c.args.h) longer_maps ∙ level_is_added c.args.h maps clusters
@@ -90,8 +101,10 @@ levels-preserved g c =
       base = base;
       levels = subst (λ (ms : List (List ℕ)). AreContracted (IsInsideAt c.args.k ms c.args.blocks.now) 0 c.args.h c.args.k ms) (sym longer_maps)
           (inside_more c.args.k c.args.h c.args.blocks.now maps clusters c.levels.invariant.levels large good shrinks);
-      top = here ∙ lifted_more c.args.k c.args.h c.args.blocks.now maps clusters ∙ ap (λ (ms : List (List ℕ)). lifted_to c.args.blocks.now ms (length ms)) (sym longer_maps);
+      top = here ∙ lifted_more c.args.k c.args.h c.args.blocks.now maps clusters ∙ ap (λ (ms : List (List ℕ)). lifted_to c.args.blocks.now ms (length ms))
+          (sym longer_maps);
       partition = subst (λ (x : Hyper). IsPartition x c.args.k c.in_ok-above.above.items) (sym next)
-          (subst (IsPartition (contract h clusters (cluster_count clusters)) c.args.k) (sym here) (lifted_partition h _ c.args.k p clusters sound whole good));
+          (subst (IsPartition (contract h clusters (cluster_count clusters)) c.args.k) (sym here) (lifted_partition h _ c.args.k p clusters sound whole
+          good));
       depth = omega arith;
     }

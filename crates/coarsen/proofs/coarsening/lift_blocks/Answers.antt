@@ -7,11 +7,13 @@ use Rattle.coarsen.proofs.InsideSteps.{blocks_none, blocks_more}
 use Rattle.coarsen.proofs.coarsening.lift_blocks.Goals as goal
 
 pub loop-v-init : goal.loop-v-init
-loop-v-init c = c.in_ok-above.ensures.items_if_clones_equal (λ y e. e) ∙ blocks_none c.args.blocks.now c.args.clusters.now (length c.args.blocks.now) c.args.count (omega arith)
+loop-v-init c = c.in_ok-above.ensures.items_if_clones_equal (λ y e. e) ∙ blocks_none c.args.blocks.now c.args.clusters.now (length c.args.blocks.now)
+    c.args.count (omega arith)
 
 pub index_mut-requires : goal.index_mut-requires
 index_mut-requires c =
-    let long = ap length c.loop-v.invariant ∙ length-map-range_with_len (cluster_block (drop c.loop-v.v c.args.blocks.now) (drop c.loop-v.v c.args.clusters.now)) 0 c.args.count in
+    let long = ap length c.loop-v.invariant ∙ length-map-range_with_len (cluster_block (drop c.loop-v.v c.args.blocks.now)
+    (drop c.loop-v.v c.args.clusters.now)) 0 c.args.count in
     let low : c.loop-v.v - 1 < length c.args.clusters.now = omega (arith, c.loop-v-test.true, c.loop-v.auto.v, c.requires.vertices) in
     let below = c.requires.below (c.loop-v.v - 1) 0 low in
     omega (arith, c.loop-v.above.ok.0)

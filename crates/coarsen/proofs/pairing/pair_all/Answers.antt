@@ -11,7 +11,8 @@ use Rattle.hg_defs.proofs.PairingLaws.{paired_inside-inside}
 use Rattle.coarsen.proofs.SweepLaws.{zeros, paired_zeros}
 use Rattle.coarsen.proofs.pairing.pair_all.Goals as goal
 
-module _ (h : Hyper) (cap n : ℕ) (roots blocks clusters : List ℕ) (sound : IsHypergraph h) (r : IsRooted h cap roots) (same : blocks ≡ replicate n 0) (count : n ≡ length roots)
+module _ (h : Hyper) (cap n : ℕ) (roots blocks clusters : List ℕ) (sound : IsHypergraph h) (r : IsRooted h cap roots) (same : blocks ≡ replicate n 0)
+    (count : n ≡ length roots)
     (made : clusters ≡ numbered (paired_inside h cap 1 blocks roots)) where
   whole : clusters ≡ numbered (paired_inside h cap 1 (replicate n 0) roots)
   whole = made ∙ ap (λ (bs : List ℕ). numbered (paired_inside h cap 1 bs roots)) same
@@ -26,7 +27,8 @@ module _ (h : Hyper) (cap n : ℕ) (roots blocks clusters : List ℕ) (sound : I
   }
 
   inside : IsInside h cap (replicate n 0) clusters
-  inside = subst (IsInside h cap (replicate n 0)) (sym whole) (paired_inside-inside h cap 1 (replicate n 0) roots sound partition r (λ u v t. zeros n u ∙ sym (zeros n v)))
+  inside = subst (IsInside h cap (replicate n 0)) (sym whole) (paired_inside-inside h cap 1 (replicate n 0) roots sound partition r (λ u v t. zeros n u ∙
+      sym (zeros n v)))
 
   clustering_is : IsClustering h cap clusters
   clustering_is = inside.clustering
@@ -36,18 +38,24 @@ module _ (h : Hyper) (cap n : ℕ) (roots blocks clusters : List ℕ) (sound : I
 
 pub returns-clause-paired : goal.returns-clause-paired
 returns-clause-paired c =
-    IfOk-weaker c.pair_within.result (λ clusters. clusters ≡ numbered (paired_inside c.args.h.now c.args.cap 1 c.deref.result.now c.args.roots.items)) (λ clusters. clusters ≡ numbered (paired_from c.args.h.now c.args.cap c.args.roots.items))
-    (λ clusters made. paired_is c.args.h.now c.args.cap c.len.result c.args.roots.items c.deref.result.now clusters c.vertices-vertices.ensures.sound c.requires (c.deref.ensures.value ∙ c.in_ok-blocks.ensures.items_if_clones_equal (λ y e. e)) (omega (arith, c.len.ensures, c.args.roots.ok.0)) made)
+    IfOk-weaker c.pair_within.result (λ clusters. clusters ≡ numbered (paired_inside c.args.h.now c.args.cap 1 c.deref.result.now c.args.roots.items))
+    (λ clusters. clusters ≡ numbered (paired_from c.args.h.now c.args.cap c.args.roots.items))
+    (λ clusters made. paired_is c.args.h.now c.args.cap c.len.result c.args.roots.items c.deref.result.now clusters c.vertices-vertices.ensures.sound
+    c.requires (c.deref.ensures.value ∙ c.in_ok-blocks.ensures.items_if_clones_equal (λ y e. e)) (omega (arith, c.len.ensures, c.args.roots.ok.0)) made)
     c.pair_within.ensures
 
 pub returns-clause-clustering : goal.returns-clause-clustering
 returns-clause-clustering c =
-    IfOk-weaker c.pair_within.result (λ clusters. clusters ≡ numbered (paired_inside c.args.h.now c.args.cap 1 c.deref.result.now c.args.roots.items)) (IsClustering c.args.h.now c.args.cap)
-    (λ clusters made. clustering_is c.args.h.now c.args.cap c.len.result c.args.roots.items c.deref.result.now clusters c.vertices-vertices.ensures.sound c.requires (c.deref.ensures.value ∙ c.in_ok-blocks.ensures.items_if_clones_equal (λ y e. e)) (omega (arith, c.len.ensures, c.args.roots.ok.0)) made)
+    IfOk-weaker c.pair_within.result (λ clusters. clusters ≡ numbered (paired_inside c.args.h.now c.args.cap 1 c.deref.result.now c.args.roots.items))
+    (IsClustering c.args.h.now c.args.cap)
+    (λ clusters made. clustering_is c.args.h.now c.args.cap c.len.result c.args.roots.items c.deref.result.now clusters c.vertices-vertices.ensures.sound
+    c.requires (c.deref.ensures.value ∙ c.in_ok-blocks.ensures.items_if_clones_equal (λ y e. e)) (omega (arith, c.len.ensures, c.args.roots.ok.0)) made)
     c.pair_within.ensures
 
 pub returns-clause-maximal : goal.returns-clause-maximal
 returns-clause-maximal c =
-    IfOk-weaker c.pair_within.result (λ clusters. clusters ≡ numbered (paired_inside c.args.h.now c.args.cap 1 c.deref.result.now c.args.roots.items)) (IsMaximal c.args.h.now c.args.cap)
-    (λ clusters made. maximal_is c.args.h.now c.args.cap c.len.result c.args.roots.items c.deref.result.now clusters c.vertices-vertices.ensures.sound c.requires (c.deref.ensures.value ∙ c.in_ok-blocks.ensures.items_if_clones_equal (λ y e. e)) (omega (arith, c.len.ensures, c.args.roots.ok.0)) made)
+    IfOk-weaker c.pair_within.result (λ clusters. clusters ≡ numbered (paired_inside c.args.h.now c.args.cap 1 c.deref.result.now c.args.roots.items))
+    (IsMaximal c.args.h.now c.args.cap)
+    (λ clusters made. maximal_is c.args.h.now c.args.cap c.len.result c.args.roots.items c.deref.result.now clusters c.vertices-vertices.ensures.sound
+    c.requires (c.deref.ensures.value ∙ c.in_ok-blocks.ensures.items_if_clones_equal (λ y e. e)) (omega (arith, c.len.ensures, c.args.roots.ok.0)) made)
     c.pair_within.ensures

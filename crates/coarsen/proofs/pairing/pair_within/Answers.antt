@@ -22,5 +22,7 @@ number_clusters-requires-clause-roots c =
     subst (IsRooted h c.args.cap) (sym (c.in_ok-pair_nets.ensures ∙ ap (paired_inside h c.args.cap c.args.k c.args.blocks.now) before))
     (inside-rooted h c.args.cap c.args.k c.args.blocks.now c.args.roots.items c.vertices-vertices.ensures.sound c.requires.rooted)
     in
-    subst (λ (xs : List ℕ). AreRoots (length xs) xs) (sym (c.as_mut_slice-2.ensures.value ∙ take_at new (drop (length new) c.args.roots.items) c.args.roots.len long))
+    subst (λ (xs : List ℕ). AreRoots (length xs) xs) (sym (c.as_mut_slice-2.ensures.value ∙ take_at new (drop (length new) c.args.roots.items)
+    c.args.roots.len
+    long))
     (roots_from h c.args.cap new rooted)

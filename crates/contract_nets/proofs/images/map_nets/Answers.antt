@@ -1,5 +1,6 @@
 -- One net more, over the clusters.
-use Rattle.std.proofs.Common.{◌≡◌, ℕ, ◌+◌, ◌*◌, ◌^◌, ◌<◌, ◌≤◌, List, [], ◌∷◌, ◌++◌, length, map, take, slice_index, All, nat_cmp, refl, sym, ap, ap₂, ◌∙◌, subst, arith}
+use Rattle.std.proofs.Common.{◌≡◌, ℕ, ◌+◌, ◌*◌, ◌^◌, ◌<◌, ◌≤◌, List, [], ◌∷◌, ◌++◌, length, map, take}
+use Rattle.std.proofs.Common.{slice_index, All, nat_cmp, refl, sym, ap, ap₂, ◌∙◌, subst, arith}
 use Rattle.std.proofs.lemmas.List.{length-map, map_more}
 use Rattle.std.proofs.lemmas.List.Elements.{All-map}
 use Rattle.hg_defs.specs.Sums.{total}
@@ -24,9 +25,12 @@ module _ (h : Hyper) (cs numbers pins : List ℕ) (nets : List Net) (e weight : 
       (subst (λ (w : ℕ). HasRoom (map (mapped_net cs) (take e h.nets)) w (length numbers)) (sym weighed)
       (subst (HasRoom (map (mapped_net cs) (take e h.nets)) (net_of h e).weight) (sym numbers_count) (room_at h cs e limits l)))
 
-  pushed : nets ≡ map (mapped_net cs) (take e h.nets) → e < net_count h → nets ++ record { weight = weight; pins = set_of nat_cmp numbers } ∷ [] ≡ map (mapped_net cs) (take (e + 1) h.nets)
+  pushed : nets ≡ map (mapped_net cs) (take e h.nets) → e < net_count h → nets ++ record { weight = weight; pins = set_of nat_cmp numbers } ∷
+      [] ≡ map (mapped_net cs) (take (e + 1) h.nets)
   pushed same l =
-      ap₂ (λ (ns : List Net) (n : Net). ns ++ n ∷ []) same (ap₂ (λ (w : ℕ) (ps : List ℕ). let n : Net = record { weight = w; pins = set_of nat_cmp ps } in n) weighed numbers_are)
+      ap₂ (λ (ns : List Net) (n : Net). ns ++ n ∷ []) same (ap₂ (λ (w : ℕ) (ps : List ℕ). let n : Net = record { weight = w; pins = set_of nat_cmp ps } in
+      n)
+      weighed numbers_are)
       ∙ sym (map_more (mapped_net cs) h.nets e (record { weight = 0; pins = [] }) l)
 
 pub push_net-requires-clause-vertices : goal.push_net-requires-clause-vertices
@@ -36,25 +40,29 @@ push_net-requires-clause-vertices c =
     All-map (λ i. i < c.args.count) (slice_index cs) c.pins.result.now
     (λ k d l. let v = c.pins.ensures.below k d l in let n = c.requires.vertices in c.requires.below _ 0 (omega arith))
     in
-    let here : All (λ i. i < c.args.count) c.deref.result.now = subst (All (λ i. i < c.args.count)) (sym (c.deref.ensures.value ∙ c.in_ok-map_pins.ensures)) all in
+    let here : All (λ i. i < c.args.count) c.deref.result.now = subst (All (λ i. i < c.args.count)) (sym (c.deref.ensures.value ∙ c.in_ok-map_pins.ensures))
+    all in
     subst (λ (m : ℕ). All (λ i. i < m) c.deref.result.now) (sym c.loop-e.invariant.vertices) here
 
 pub push_net-requires-clause-all_pins : goal.push_net-requires-clause-all_pins
 push_net-requires-clause-all_pins c =
     let l : c.loop-e.e < net_count c.args.h.now = omega (arith, c.loop-e-test.true, c.nets-e-end.ensures.count) in
-    (room c.args.h.now c.args.clusters.now c.deref.result.now c.pins.result.now c.loop-e.nets.nets c.loop-e.e c.net_weight.result c.pins.ensures.value c.net_weight.ensures.value (c.deref.ensures.value ∙ c.in_ok-map_pins.ensures)
+    (room c.args.h.now c.args.clusters.now c.deref.result.now c.pins.result.now c.loop-e.nets.nets c.loop-e.e c.net_weight.result c.pins.ensures.value
+    c.net_weight.ensures.value (c.deref.ensures.value ∙ c.in_ok-map_pins.ensures)
     c.nets-e-end.ensures.bounds l c.loop-e.invariant.nets).all_pins
 
 pub push_net-requires-clause-net_weight : goal.push_net-requires-clause-net_weight
 push_net-requires-clause-net_weight c =
     let l : c.loop-e.e < net_count c.args.h.now = omega (arith, c.loop-e-test.true, c.nets-e-end.ensures.count) in
-    (room c.args.h.now c.args.clusters.now c.deref.result.now c.pins.result.now c.loop-e.nets.nets c.loop-e.e c.net_weight.result c.pins.ensures.value c.net_weight.ensures.value (c.deref.ensures.value ∙ c.in_ok-map_pins.ensures)
+    (room c.args.h.now c.args.clusters.now c.deref.result.now c.pins.result.now c.loop-e.nets.nets c.loop-e.e c.net_weight.result c.pins.ensures.value
+    c.net_weight.ensures.value (c.deref.ensures.value ∙ c.in_ok-map_pins.ensures)
     c.nets-e-end.ensures.bounds l c.loop-e.invariant.nets).net_weight
 
 pub push_net-requires-clause-pin_weight : goal.push_net-requires-clause-pin_weight
 push_net-requires-clause-pin_weight c =
     let l : c.loop-e.e < net_count c.args.h.now = omega (arith, c.loop-e-test.true, c.nets-e-end.ensures.count) in
-    (room c.args.h.now c.args.clusters.now c.deref.result.now c.pins.result.now c.loop-e.nets.nets c.loop-e.e c.net_weight.result c.pins.ensures.value c.net_weight.ensures.value (c.deref.ensures.value ∙ c.in_ok-map_pins.ensures)
+    (room c.args.h.now c.args.clusters.now c.deref.result.now c.pins.result.now c.loop-e.nets.nets c.loop-e.e c.net_weight.result c.pins.ensures.value
+    c.net_weight.ensures.value (c.deref.ensures.value ∙ c.in_ok-map_pins.ensures)
     c.nets-e-end.ensures.bounds l c.loop-e.invariant.nets).pin_weight
 
 pub loop-e-preserved : goal.loop-e-preserved
@@ -63,6 +71,8 @@ loop-e-preserved c =
     record {
       vertices = c.in_ok-push_net.ensures.sizes.vertices ∙ c.loop-e.invariant.vertices;
       nets = ap (λ (x : Hyper). x.nets) c.in_ok-push_net.ensures.ok
-          ∙ pushed c.args.h.now c.args.clusters.now c.deref.result.now c.pins.result.now c.loop-e.nets.nets c.loop-e.e c.net_weight.result c.pins.ensures.value c.net_weight.ensures.value (c.deref.ensures.value ∙ c.in_ok-map_pins.ensures)
+          ∙ pushed c.args.h.now c.args.clusters.now c.deref.result.now c.pins.result.now c.loop-e.nets.nets c.loop-e.e c.net_weight.result
+          c.pins.ensures.value
+          c.net_weight.ensures.value (c.deref.ensures.value ∙ c.in_ok-map_pins.ensures)
           c.loop-e.invariant.nets l;
     }

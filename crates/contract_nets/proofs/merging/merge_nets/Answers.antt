@@ -1,5 +1,6 @@
 -- Each key, one after the other.
-use Rattle.std.proofs.Common.{Some, Option, Result, Ok, Err, nat_cmp, take, rules, ◌≡◌, ◌≢◌, ℕ, ◌+◌, ◌<◌, ◌≤◌, ◌^◌, Bool, true, false, true≢false, List, [], ◌∷◌, ◌++◌, length, map, drop, get_or, slice_index, slice_set, replicate, All, Bor, refl, sym, ap, ◌∙◌, subst, arith}
+use Rattle.std.proofs.Common.{Some, Option, Result, Ok, Err, nat_cmp, take, rules, ◌≡◌, ◌≢◌, ℕ, ◌+◌, ◌<◌, ◌≤◌, ◌^◌, Bool, true, false, true≢false, List, []}
+use Rattle.std.proofs.Common.{◌∷◌, ◌++◌, length, map, drop, get_or, slice_index, slice_set, replicate, All, Bor, refl, sym, ap, ◌∙◌, subst, arith}
 use Rattle.std.proofs.lemmas.List.{take_all, map_push, drop_more, get_or-replicate, length-replicate}
 use Rattle.std.specs.List.{slice_get}
 use Rattle.std.specs.List.Sorted.{IsStrictlyIncreasing}
@@ -10,7 +11,8 @@ use Rattle.hg_defs.specs.Hypergraph.{Net, Hyper, net_count, net_of, IsWithinLimi
 use Rattle.contract_nets.specs.declared.ledger.TheConstants.{DROPPED}
 use Rattle.contract_nets.specs.Merging.{added, merged, ArePlaces}
 use Rattle.contract_nets.specs.Keys.{Key, pins_of, net_of_key, IsKey}
-use Rattle.contract_nets.proofs.MergeLaws.{pins, IsMerging, IsMerging-start, IsMerging-other, IsMerging-same, whole_at_end, room_at_end, room_at_other, pushed_nets, weight_fits}
+use Rattle.contract_nets.proofs.MergeLaws.{pins, IsMerging, IsMerging-start, IsMerging-other, IsMerging-same, whole_at_end}
+use Rattle.contract_nets.proofs.MergeLaws.{room_at_end, room_at_other, pushed_nets, weight_fits}
 use Rattle.contract_nets.proofs.merging.merge_nets.Goals as goal
 use Rattle.contract_nets.proofs.merging.merge_nets.Goals.{then-not-have_same_pins+in_ok-push_net, else-not-have_same_pins}
 
@@ -39,7 +41,8 @@ push_net-requires-clause-all_pins c =
     let key = get_or c.args.keys.now c.loop-key.key-index no_key in
     let is = c.requires.keys c.loop-key.key-index no_key c.loop-key-test.true in
     rw c.pins.ensures.value
-    ((room_at_other c.args.nets.now c.args.coarse.now c.args.keys.now c.loop-key.key-index c.loop-key.places c.loop-key.coarse c.loop-key.last c.loop-key.weight c.loop-key.invariant c.requires.limits
+    ((room_at_other c.args.nets.now c.args.coarse.now c.args.keys.now c.loop-key.key-index c.loop-key.places c.loop-key.coarse c.loop-key.last
+    c.loop-key.weight c.loop-key.invariant c.requires.limits
     key (drop_more c.args.keys.now c.loop-key.key-index no_key c.loop-key-test.true) is
     (λ e. true≢false (sym (c.if-not-have_same_pins.ensures.1 (sym is.pins ∙ sym e ∙ c.loop-key.invariant.unfinished.pins))))).all_pins)
 
@@ -47,7 +50,8 @@ pub push_net-requires-clause-net_weight : goal.push_net-requires-clause-net_weig
 push_net-requires-clause-net_weight c =
     let key = get_or c.args.keys.now c.loop-key.key-index no_key in
     let is = c.requires.keys c.loop-key.key-index no_key c.loop-key-test.true in
-    ((room_at_other c.args.nets.now c.args.coarse.now c.args.keys.now c.loop-key.key-index c.loop-key.places c.loop-key.coarse c.loop-key.last c.loop-key.weight c.loop-key.invariant c.requires.limits
+    ((room_at_other c.args.nets.now c.args.coarse.now c.args.keys.now c.loop-key.key-index c.loop-key.places c.loop-key.coarse c.loop-key.last
+    c.loop-key.weight c.loop-key.invariant c.requires.limits
     key (drop_more c.args.keys.now c.loop-key.key-index no_key c.loop-key-test.true) is
     (λ e. true≢false (sym (c.if-not-have_same_pins.ensures.1 (sym is.pins ∙ sym e ∙ c.loop-key.invariant.unfinished.pins))))).net_weight)
 
@@ -56,7 +60,8 @@ push_net-requires-clause-pin_weight c =
     let key = get_or c.args.keys.now c.loop-key.key-index no_key in
     let is = c.requires.keys c.loop-key.key-index no_key c.loop-key-test.true in
     rw c.pins.ensures.value
-    ((room_at_other c.args.nets.now c.args.coarse.now c.args.keys.now c.loop-key.key-index c.loop-key.places c.loop-key.coarse c.loop-key.last c.loop-key.weight c.loop-key.invariant c.requires.limits
+    ((room_at_other c.args.nets.now c.args.coarse.now c.args.keys.now c.loop-key.key-index c.loop-key.places c.loop-key.coarse c.loop-key.last
+    c.loop-key.weight c.loop-key.invariant c.requires.limits
     key (drop_more c.args.keys.now c.loop-key.key-index no_key c.loop-key-test.true) is
     (λ e. true≢false (sym (c.if-not-have_same_pins.ensures.1 (sym is.pins ∙ sym e ∙ c.loop-key.invariant.unfinished.pins))))).pin_weight)
 
@@ -64,7 +69,8 @@ pub overflow_add-weight : goal.overflow_add-weight
 overflow_add-weight c =
     let key = get_or c.args.keys.now c.loop-key.key-index no_key in
     let is = c.requires.keys c.loop-key.key-index no_key c.loop-key-test.true in
-    let most = weight_fits c.args.nets.now c.args.coarse.now c.args.keys.now c.loop-key.key-index c.loop-key.places c.loop-key.coarse c.loop-key.last c.loop-key.weight c.loop-key.invariant c.requires.limits
+    let most = weight_fits c.args.nets.now c.args.coarse.now c.args.keys.now c.loop-key.key-index c.loop-key.places c.loop-key.coarse c.loop-key.last
+    c.loop-key.weight c.loop-key.invariant c.requires.limits
     key (drop_more c.args.keys.now c.loop-key.key-index no_key c.loop-key-test.true) is
     in
     let value = c.net_weight-weight.ensures.value in
@@ -94,7 +100,8 @@ loop-key-preserved c =
             (IsMerging-other nets start keys i places c.loop-key.coarse c.loop-key.last c.loop-key.weight m c.requires.limits key next is
             (λ e. true≢false (sym (w.if-not-have_same_pins.ensures.1 (sym is.pins ∙ sym e ∙ m.unfinished.pins))))
             joined.coarse
-            (w.coarse-is ∙ pushed_nets nets start keys i places c.loop-key.coarse c.loop-key.last c.loop-key.weight m c.requires.limits _ w.pins.result.now w.pins.ensures.value w.pins.ensures.rising w.in_ok-push_net.ensures.ok))),
+            (w.coarse-is ∙ pushed_nets nets start keys i places c.loop-key.coarse c.loop-key.last c.loop-key.weight m c.requires.limits _ w.pins.result.now
+            w.pins.ensures.value w.pins.ensures.rising w.in_ok-push_net.ensures.ok))),
         ap (pins nets) w.last-is,
       )
       | else-not-have_same_pins w ↦ (
@@ -105,37 +112,49 @@ loop-key-preserved c =
       )
     ]
     in
-    subst (λ (x : ℕ). IsMerging nets start keys (i + 1) (slice_set places key.2 c.nets.result) joined.coarse joined.last (joined.weight + x)) (sym c.net_weight-weight.ensures.value)
-    (IsMerging-same nets start keys i places joined.coarse joined.last joined.weight both.0 c.requires.limits key next is both.1 c.nets.result c.nets.ensures.count c.nets.ensures.bounds.nets c.loop-key-test.true
+    subst (λ (x : ℕ). IsMerging nets start keys (i + 1) (slice_set places key.2 c.nets.result) joined.coarse joined.last (joined.weight + x))
+    (sym c.net_weight-weight.ensures.value)
+    (IsMerging-same nets start keys i places joined.coarse joined.last joined.weight both.0 c.requires.limits key next is both.1 c.nets.result
+    c.nets.ensures.count c.nets.ensures.bounds.nets c.loop-key-test.true
     (c.loop-key.auto.places ∙ ap length c.requires.places ∙ length-replicate (net_count nets) DROPPED) no_key refl)
 
 pub push_net-requires-2-clause-all_pins : goal.push_net-requires-2-clause-all_pins
 push_net-requires-2-clause-all_pins c =
     rw c.pins-2.ensures.value
-    ((room_at_end c.args.nets.now c.args.coarse.now c.args.keys.now c.loop-key.key-index c.loop-key.places c.loop-key.coarse c.loop-key.last c.loop-key.weight c.loop-key.invariant c.requires.limits c.loop-key-test.false).all_pins)
+    ((room_at_end c.args.nets.now c.args.coarse.now c.args.keys.now c.loop-key.key-index c.loop-key.places c.loop-key.coarse c.loop-key.last
+    c.loop-key.weight
+    c.loop-key.invariant c.requires.limits c.loop-key-test.false).all_pins)
 
 pub push_net-requires-2-clause-net_weight : goal.push_net-requires-2-clause-net_weight
 push_net-requires-2-clause-net_weight c =
-    ((room_at_end c.args.nets.now c.args.coarse.now c.args.keys.now c.loop-key.key-index c.loop-key.places c.loop-key.coarse c.loop-key.last c.loop-key.weight c.loop-key.invariant c.requires.limits c.loop-key-test.false).net_weight)
+    ((room_at_end c.args.nets.now c.args.coarse.now c.args.keys.now c.loop-key.key-index c.loop-key.places c.loop-key.coarse c.loop-key.last
+    c.loop-key.weight
+    c.loop-key.invariant c.requires.limits c.loop-key-test.false).net_weight)
 
 pub push_net-requires-2-clause-pin_weight : goal.push_net-requires-2-clause-pin_weight
 push_net-requires-2-clause-pin_weight c =
     rw c.pins-2.ensures.value
-    ((room_at_end c.args.nets.now c.args.coarse.now c.args.keys.now c.loop-key.key-index c.loop-key.places c.loop-key.coarse c.loop-key.last c.loop-key.weight c.loop-key.invariant c.requires.limits c.loop-key-test.false).pin_weight)
+    ((room_at_end c.args.nets.now c.args.coarse.now c.args.keys.now c.loop-key.key-index c.loop-key.places c.loop-key.coarse c.loop-key.last
+    c.loop-key.weight
+    c.loop-key.invariant c.requires.limits c.loop-key-test.false).pin_weight)
 
-module _ (nets start coarse pushed : Hyper) (keys : List Key) (i : ℕ) (places ps : List ℕ) (last : Key) (weight : ℕ) (m : IsMerging nets start keys i places coarse last weight)
-    (limits : IsWithinLimits (record start { nets = merged (map (net_of_key nets) keys) })) (done : length keys ≤ i) (same : ps ≡ pins nets last) (rising : IsStrictlyIncreasing ps)
+module _ (nets start coarse pushed : Hyper) (keys : List Key) (i : ℕ) (places ps : List ℕ) (last : Key) (weight : ℕ)
+    (m : IsMerging nets start keys i places coarse last weight)
+    (limits : IsWithinLimits (record start { nets = merged (map (net_of_key nets) keys) })) (done : length keys ≤ i) (same : ps ≡ pins nets last)
+    (rising : IsStrictlyIncreasing ps)
     (e : pushed ≡ record coarse { nets = coarse.nets ++ record { weight = weight; pins = set_of nat_cmp ps } ∷ [] }) where
   ended : pushed ≡ record start { nets = coarse.nets ++ record { weight = weight; pins = pins nets last } ∷ [] }
   ended = pushed_nets nets start keys i places coarse last weight m limits pushed ps same rising e
 
   merged_end : pushed ≡ record start { nets = merged (map (net_of_key nets) keys) }
-  merged_end = ended ∙ ap (λ (es : List Net). let h : Hyper = record start { nets = es } in h) (whole_at_end nets start keys i places coarse last weight m limits done)
+  merged_end = ended ∙ ap (λ (es : List Net). let h : Hyper = record start { nets = es } in h) (whole_at_end nets start keys i places coarse last weight m
+      limits done)
 
   placed_end : ArePlaces nets.nets (map (λ (x : Net). x.pins) pushed.nets) places
   placed_end =
       subst (λ (ls : List (List ℕ)). ArePlaces nets.nets ls places)
-      (sym (ap (λ (h : Hyper). map (λ (x : Net). x.pins) h.nets) ended ∙ map_push (λ (x : Net). x.pins) coarse.nets (record { weight = weight; pins = pins nets last })))
+      (sym (ap (λ (h : Hyper). map (λ (x : Net). x.pins) h.nets) ended ∙ map_push (λ (x : Net). x.pins) coarse.nets
+      (record { weight = weight; pins = pins nets last })))
       m.placed
 
   all_end : All (λ (key : Key). slice_index places key.2 ≢ DROPPED) keys
@@ -144,17 +163,20 @@ module _ (nets start coarse pushed : Hyper) (keys : List Key) (i : ℕ) (places 
 pub returns-clause-merged : goal.returns-clause-merged
 returns-clause-merged c =
     OnOk-then c.push_net-2.result c.push_net-2.ensures.ok
-    (merged_end c.args.nets.now c.args.coarse.now c.loop-key.coarse c.push_net-2.new.self c.args.keys.now c.loop-key.key-index c.loop-key.places c.pins-2.result.now c.loop-key.last c.loop-key.weight c.loop-key.invariant c.requires.limits
+    (merged_end c.args.nets.now c.args.coarse.now c.loop-key.coarse c.push_net-2.new.self c.args.keys.now c.loop-key.key-index c.loop-key.places
+    c.pins-2.result.now c.loop-key.last c.loop-key.weight c.loop-key.invariant c.requires.limits
     c.loop-key-test.false c.pins-2.ensures.value c.pins-2.ensures.rising)
 
 pub returns-clause-placed : goal.returns-clause-placed
 returns-clause-placed c =
     OnOk-then c.push_net-2.result c.push_net-2.ensures.ok
-    (placed_end c.args.nets.now c.args.coarse.now c.loop-key.coarse c.push_net-2.new.self c.args.keys.now c.loop-key.key-index c.loop-key.places c.pins-2.result.now c.loop-key.last c.loop-key.weight c.loop-key.invariant c.requires.limits
+    (placed_end c.args.nets.now c.args.coarse.now c.loop-key.coarse c.push_net-2.new.self c.args.keys.now c.loop-key.key-index c.loop-key.places
+    c.pins-2.result.now c.loop-key.last c.loop-key.weight c.loop-key.invariant c.requires.limits
     c.loop-key-test.false c.pins-2.ensures.value c.pins-2.ensures.rising)
 
 pub returns-clause-all : goal.returns-clause-all
 returns-clause-all c =
     OnOk-then c.push_net-2.result c.push_net-2.ensures.ok
-    (all_end c.args.nets.now c.args.coarse.now c.loop-key.coarse c.push_net-2.new.self c.args.keys.now c.loop-key.key-index c.loop-key.places c.pins-2.result.now c.loop-key.last c.loop-key.weight c.loop-key.invariant c.requires.limits
+    (all_end c.args.nets.now c.args.coarse.now c.loop-key.coarse c.push_net-2.new.self c.args.keys.now c.loop-key.key-index c.loop-key.places
+    c.pins-2.result.now c.loop-key.last c.loop-key.weight c.loop-key.invariant c.requires.limits
     c.loop-key-test.false c.pins-2.ensures.value c.pins-2.ensures.rising)

@@ -18,17 +18,21 @@ loop-v-init c =
       sum = ap (total (λ (w : ℕ). w)) c.requires.zero ∙ total-zeros count;
     }
 
-below : (f : ℕ → ℕ) (clusters weights : List ℕ) (v n m : ℕ) → weights ≡ map f (range_with_len 0 n) → All (λ i. i < n) clusters → v < m → length clusters ≡ m → slice_index clusters v < length weights
+below : (f : ℕ → ℕ) (clusters weights : List ℕ) (v n m : ℕ) → weights ≡ map f (range_with_len 0 n) → All (λ i. i < n) clusters → v < m →
+    length clusters ≡ m →
+    slice_index clusters v < length weights
 below f clusters weights v n m same few h e =
     let a = few v 0 (omega arith) in
     let b = ap length same ∙ length-map-range_with_len f 0 n in
     omega arith
 
 pub vertex_weight-requires : goal.vertex_weight-requires
-vertex_weight-requires c = below _ c.args.clusters.now c.loop-v.coarse.weights c.loop-v.v _ (vertex_count c.args.h.now) c.loop-v.invariant.weights c.requires.below (omega (arith, c.loop-v-test.true, c.vertices-v-end.ensures.count)) c.requires.vertices
+vertex_weight-requires c = below _ c.args.clusters.now c.loop-v.coarse.weights c.loop-v.v _ (vertex_count c.args.h.now) c.loop-v.invariant.weights
+    c.requires.below (omega (arith, c.loop-v-test.true, c.vertices-v-end.ensures.count)) c.requires.vertices
 
 pub set_vertex_weight-requires-clause-vertex : goal.set_vertex_weight-requires-clause-vertex
-set_vertex_weight-requires-clause-vertex c = below _ c.args.clusters.now c.loop-v.coarse.weights c.loop-v.v _ (vertex_count c.args.h.now) c.loop-v.invariant.weights c.requires.below (omega (arith, c.loop-v-test.true, c.vertices-v-end.ensures.count)) c.requires.vertices
+set_vertex_weight-requires-clause-vertex c = below _ c.args.clusters.now c.loop-v.coarse.weights c.loop-v.v _ (vertex_count c.args.h.now)
+    c.loop-v.invariant.weights c.requires.below (omega (arith, c.loop-v-test.true, c.vertices-v-end.ensures.count)) c.requires.vertices
 
 pub set_vertex_weight-requires-clause-fits : goal.set_vertex_weight-requires-clause-fits
 set_vertex_weight-requires-clause-fits c =
@@ -57,8 +61,10 @@ loop-v-preserved c =
     let t = c.set_vertex_weight.ensures.total in
     let more = total-take_more (λ (w : ℕ). w) h.weights c.loop-v.v 0 v in
     record {
-      rest = rw e (ap (λ (x : Hyper). record x { weights = slice_set old.weights i (c.vertex_weight.result + c.vertex_weight-in-loop-v.result) }) c.loop-v.invariant.rest);
+      rest = rw e (ap (λ (x : Hyper). record x { weights = slice_set old.weights i (c.vertex_weight.result + c.vertex_weight-in-loop-v.result) })
+          c.loop-v.invariant.rest);
       weights = ap (λ (x : Hyper). x.weights) e ∙ ap (slice_set old.weights i) weight
-          ∙ weight_in-set_more h.weights cs old.weights c.loop-v.v (vertex_count c.args.coarse.now) c.loop-v.invariant.weights v k (c.requires.below c.loop-v.v 0 k);
+          ∙ weight_in-set_more h.weights cs old.weights c.loop-v.v (vertex_count c.args.coarse.now) c.loop-v.invariant.weights v k
+          (c.requires.below c.loop-v.v 0 k);
       sum = omega arith;
     }

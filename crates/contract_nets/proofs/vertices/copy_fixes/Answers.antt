@@ -17,7 +17,8 @@ loop-v-init c =
       fixes = c.requires.free ∙ free_are h.fixes c.args.clusters.now c.vertices-v.result (vertex_count c.args.coarse.now) long;
     }
 
-module _ (h : Hyper) (cs xs : List ℕ) (v n fix : ℕ) (sound : IsHypergraph h) (long : length cs ≡ vertex_count h) (positive : 0 < v) (within : v ≤ vertex_count h) (same : xs ≡ map (fix_in (drop v h.fixes) (drop v cs)) (range_with_len 0 n)) (read : fix ≡ fix_of h (v - 1)) where
+module _ (h : Hyper) (cs xs : List ℕ) (v n fix : ℕ) (sound : IsHypergraph h) (long : length cs ≡ vertex_count h) (positive : 0 < v)
+    (within : v ≤ vertex_count h) (same : xs ≡ map (fix_in (drop v h.fixes) (drop v cs)) (range_with_len 0 n)) (read : fix ≡ fix_of h (v - 1)) where
   fixes : v - 1 < length h.fixes
   fixes = let b = sound.fixes in omega arith
 
@@ -32,7 +33,8 @@ module _ (h : Hyper) (cs xs : List ℕ) (v n fix : ℕ) (sound : IsHypergraph h)
       let up : v ≡ v - 1 + 1 = omega arith in
       subst (λ (u : ℕ). xs ≡ map (fix_in (drop u h.fixes) (drop u cs)) (range_with_len 0 n)) up same
 
-  written : All (λ i. i < n) cs → fix ≢ FREE → slice_set xs (slice_index cs (v - 1)) fix ≡ map (fix_in (drop (v - 1) h.fixes) (drop (v - 1) cs)) (range_with_len 0 n)
+  written : All (λ i. i < n) cs → fix ≢ FREE → slice_set xs (slice_index cs (v - 1)) fix ≡ map (fix_in (drop (v - 1) h.fixes) (drop (v - 1) cs))
+      (range_with_len 0 n)
   written few fixed =
       ap (slice_set xs (slice_index cs (v - 1))) fix_is
       ∙ fix_in-set_more h.fixes cs xs (v - 1) n later fixes clusters (few (v - 1) 0 clusters) (λ free. fixed (fix_is ∙ free))
@@ -48,7 +50,8 @@ loop-v-preserved-then-fix-ne-FREE c =
     record {
       rest = rw e (ap (λ (x : Hyper). record x { fixes = slice_set c.loop-v.coarse.fixes i c.fix-fix.result }) c.loop-v.invariant.rest);
       fixes = ap (λ (x : Hyper). x.fixes) e
-          ∙ written c.args.h.now c.args.clusters.now c.loop-v.coarse.fixes c.loop-v.v (vertex_count c.args.coarse.now) c.fix-fix.result c.vertices-v.ensures.sound c.requires.vertices c.loop-v-test.true within c.loop-v.invariant.fixes c.fix-fix.ensures.value
+          ∙ written c.args.h.now c.args.clusters.now c.loop-v.coarse.fixes c.loop-v.v (vertex_count c.args.coarse.now) c.fix-fix.result
+          c.vertices-v.ensures.sound c.requires.vertices c.loop-v-test.true within c.loop-v.invariant.fixes c.fix-fix.ensures.value
           c.requires.below c.if-fix-ne-FREE.true;
     }
 
@@ -57,6 +60,7 @@ loop-v-preserved c =
     let within : c.loop-v.v ≤ vertex_count c.args.h.now = omega (arith, c.loop-v.auto.v, c.vertices-v.ensures.count) in
     record {
       rest = c.loop-v.invariant.rest;
-      fixes = kept c.args.h.now c.args.clusters.now c.loop-v.coarse.fixes c.loop-v.v (vertex_count c.args.coarse.now) c.fix-fix.result c.vertices-v.ensures.sound c.requires.vertices c.loop-v-test.true within c.loop-v.invariant.fixes c.fix-fix.ensures.value
+      fixes = kept c.args.h.now c.args.clusters.now c.loop-v.coarse.fixes c.loop-v.v (vertex_count c.args.coarse.now) c.fix-fix.result
+          c.vertices-v.ensures.sound c.requires.vertices c.loop-v-test.true within c.loop-v.invariant.fixes c.fix-fix.ensures.value
           c.if-fix-ne-FREE.false;
     }

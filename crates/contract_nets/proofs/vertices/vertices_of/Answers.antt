@@ -31,7 +31,13 @@ module _ (started changed cleared weighed : Hyper) (ws cs : List ℕ) (n : ℕ) 
   weighed_is =
       e
       ∙ ap (λ (x : Hyper). record x { weights = map (weight_in ws cs) (range_with_len 0 (vertex_count cleared)) }) cleared_rest
-      ∙ ap (λ (m : ℕ). let h : Hyper = record { weights = map (weight_in ws cs) (range_with_len 0 m); nets = []; objective = p; fixes = replicate n FREE } in h) cleared_count
+      ∙ ap (λ (m : ℕ). let h : Hyper = record {
+        weights = map (weight_in ws cs) (range_with_len 0 m);
+        nets = [];
+        objective = p;
+        fixes = replicate n FREE;
+      } in
+      h) cleared_count
 
   weighed_count : vertex_count weighed ≡ n
   weighed_count = ap (λ (x : Hyper). length x.weights) weighed_is ∙ length-map-range_with_len (weight_in ws cs) 0 n
@@ -44,7 +50,13 @@ module _ (started changed cleared weighed : Hyper) (ws cs : List ℕ) (n : ℕ) 
   finished fs fixed f =
       f
       ∙ ap (λ (x : Hyper). record x { fixes = map (fix_in fs cs) (range_with_len 0 (vertex_count weighed)) }) weighed_is
-      ∙ ap (λ (m : ℕ). let h : Hyper = record { weights = map (weight_in ws cs) (range_with_len 0 n); nets = []; objective = p; fixes = map (fix_in fs cs) (range_with_len 0 m) } in h) weighed_count
+      ∙ ap (λ (m : ℕ). let h : Hyper = record {
+        weights = map (weight_in ws cs) (range_with_len 0 n);
+        nets = [];
+        objective = p;
+        fixes = map (fix_in fs cs)
+            (range_with_len 0 m);
+      } in h) weighed_count
 
 pub copy_fixes-requires-clause-below : goal.copy_fixes-requires-clause-below
 copy_fixes-requires-clause-below c =
@@ -53,9 +65,15 @@ copy_fixes-requires-clause-below c =
     c.requires.below
 
 pub copy_fixes-requires-clause-free : goal.copy_fixes-requires-clause-free
-copy_fixes-requires-clause-free c = free _ _ _ _ _ _ _ _ _ c.in_ok-coarse.ensures.value c.set_objective.ensures c.clear_weights.ensures c.add_weights.ensures
+copy_fixes-requires-clause-free c = free _ _ _ _ _ _ _ _ _ c.in_ok-coarse.ensures.value c.set_objective.ensures c.clear_weights.ensures
+    c.add_weights.ensures
 
 pub returns : goal.returns
 returns c =
     finished _ _ _ _ _ _ _ _ _ c.in_ok-coarse.ensures.value c.set_objective.ensures c.clear_weights.ensures c.add_weights.ensures _ _ c.copy_fixes.ensures
-    ∙ ap (λ (o : Objective). let h : Hyper = record { weights = map (weight_in c.args.h.now.weights c.args.clusters.now) (range_with_len 0 c.args.count); nets = []; objective = o; fixes = map (fix_in c.args.h.now.fixes c.args.clusters.now) (range_with_len 0 c.args.count) } in h) c.objective.ensures
+    ∙ ap (λ (o : Objective). let h : Hyper = record {
+      weights = map (weight_in c.args.h.now.weights c.args.clusters.now) (range_with_len 0 c.args.count);
+      nets = [];
+      objective = o;
+      fixes = map (fix_in c.args.h.now.fixes c.args.clusters.now) (range_with_len 0 c.args.count);
+    } in h) c.objective.ensures

@@ -2,7 +2,9 @@ use Rattle.std.proofs.Common.{◌≡◌, ◌+◌, ◌-◌, ◌<◌, ◌∙◌, l
 use Rattle.flow_net.specs.Residual.{head, mate}
 use Rattle.flow_net.proofs.LevelLaws.{queue_room, queue_more, scan_begin, scan_take, scan_skip, level_kept, node_level, scan_end}
 use Rattle.flow_net.proofs.levels.scan.Goals as goal
-use Rattle.flow_net.proofs.levels.scan.Goals.{then-levels-from-eq0+then-rests-back-gt0, else-levels-from-eq0, else-levels-from-eq0-via-then-levels-from-eq0+else-rests-back-gt0, else-levels-from-eq0-via-else-levels-from-eq0}
+use Rattle.flow_net.proofs.levels.scan.Goals.{then-levels-from-eq0+then-rests-back-gt0, else-levels-from-eq0}
+use Rattle.flow_net.proofs.levels.scan.Goals.{else-levels-from-eq0-via-then-levels-from-eq0+else-rests-back-gt0}
+use Rattle.flow_net.proofs.levels.scan.Goals.{else-levels-from-eq0-via-else-levels-from-eq0}
 
 pub offset_bounds-queue-start : goal.offset_bounds-queue-start
 offset_bounds-queue-start c =
@@ -24,7 +26,8 @@ pub loop-at-init : goal.loop-at-init
 loop-at-init c = record {
   scanned =
       scan_begin c.args.halves.heads.now c.args.halves.nexts.now c.args.halves.firsts.now c.args.rests.now c.args.halves.linked
-      c.args.levels.now c.args.ways.now c.args.queue.now c.args.halves.sink c.args.start c.args.end c.requires.levels c.requires.waiting c.requires.searched;
+      c.args.levels.now c.args.ways.now c.args.queue.now c.args.halves.sink c.args.start c.args.end c.requires.levels c.requires.waiting
+      c.requires.searched;
   level = refl;
 }
 
@@ -60,7 +63,8 @@ loop-at-preserved c =
     let node = slice_index c.args.queue.now c.args.start in
     let x = slice_index c.args.levels.now node + 1 in
     let rests = c.args.rests.now in
-    let node_level : 0 < slice_index c.loop-at.levels node = node_level g.heads.now g.nexts.now g.firsts.now rests g.linked c.loop-at.levels c.loop-at.ways c.loop-at.queue g.sink c.args.start c.loop-at.end node at s in
+    let node_level : 0 < slice_index c.loop-at.levels node = node_level g.heads.now g.nexts.now g.firsts.now rests g.linked c.loop-at.levels c.loop-at.ways
+    c.loop-at.queue g.sink c.args.start c.loop-at.end node at s in
     elim c.if-levels-from-eq0.branch [
       | then-levels-from-eq0+then-rests-back-gt0 w ↦
           let e : slice_index c.loop-at.levels u ≡ 0 = w.if-levels-from-eq0.true in
@@ -68,22 +72,27 @@ loop-at-preserved c =
           record {
             scanned =
                 rw (w.levels-is, w.ways-is, w.queue-is, w.end-is, c.mate-back.ensures)
-                (scan_take g.heads.now g.nexts.now g.firsts.now rests g.linked c.loop-at.levels c.loop-at.ways c.loop-at.queue g.sink c.args.start c.loop-at.end node at u x
-                (c.loop-at.auto.levels ∙ c.requires.levels) (c.loop-at.auto.ways ∙ c.requires.ways ∙ sym c.loop-at.auto.levels) (c.loop-at.auto.queue ∙ c.requires.queue ∙ sym c.loop-at.auto.levels)
+                (scan_take g.heads.now g.nexts.now g.firsts.now rests g.linked c.loop-at.levels c.loop-at.ways c.loop-at.queue g.sink c.args.start
+                c.loop-at.end node at u x
+                (c.loop-at.auto.levels ∙ c.requires.levels) (c.loop-at.auto.ways ∙ c.requires.ways ∙ sym c.loop-at.auto.levels) (c.loop-at.auto.queue ∙
+                c.requires.queue ∙ sym c.loop-at.auto.levels)
                 s c.loop-at-test.true refl c.loop-at.invariant.level e r);
             level =
-                c.loop-at.invariant.level ∙ ap (λ n. n + 1) (sym (ap (λ xs. slice_index xs node) w.levels-is ∙ level_kept g.heads.now c.loop-at.levels c.loop-at.ways g.sink u x 0 node e node_level));
+                c.loop-at.invariant.level ∙ ap (λ n. n + 1)
+                (sym (ap (λ xs. slice_index xs node) w.levels-is ∙ level_kept g.heads.now c.loop-at.levels c.loop-at.ways g.sink u x 0 node e node_level));
           }
       | else-levels-from-eq0 w ↦
           let skip : (slice_index c.loop-at.levels u ≡ 0 → slice_index rests (mate (at - 1)) ≡ 0) =
           elim w.else-levels-from-eq0.branch [
-            | else-levels-from-eq0-via-then-levels-from-eq0+else-rests-back-gt0 w' ↦ (λ z. ap (slice_index rests) (sym c.mate-back.ensures) ∙ (let f = w'.if-rests-back-gt0.false in omega arith))
+            | else-levels-from-eq0-via-then-levels-from-eq0+else-rests-back-gt0 w' ↦ (λ z. ap (slice_index rests) (sym c.mate-back.ensures) ∙
+                (let f = w'.if-rests-back-gt0.false in omega arith))
             | else-levels-from-eq0-via-else-levels-from-eq0 w' ↦ (λ z. absurd (w'.if-levels-from-eq0.false z))
           ] in
           record {
             scanned =
                 rw (w.levels-is, w.ways-is, w.queue-is, w.end-is)
-                (scan_skip g.heads.now g.nexts.now g.firsts.now rests g.linked c.loop-at.levels c.loop-at.ways c.loop-at.queue g.sink c.args.start c.loop-at.end node at
+                (scan_skip g.heads.now g.nexts.now g.firsts.now rests g.linked c.loop-at.levels c.loop-at.ways c.loop-at.queue g.sink c.args.start
+                c.loop-at.end node at
                 s c.loop-at-test.true skip);
             level = c.loop-at.invariant.level ∙ ap (λ xs. slice_index xs node + 1) (sym w.levels-is);
           }

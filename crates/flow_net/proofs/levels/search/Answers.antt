@@ -17,7 +17,8 @@ returns-then-start-end-clause-closed c =
     let g = c.args.halves in
     let long : length c.loop-levels.levels ≡ length g.firsts.now =
     c.loop-levels.auto.levels ∙ length-set c.loop-level.levels g.sink 1 ∙ c.loop-level.auto.levels ∙ c.requires.levels in
-    λ e. search_closed g.heads.now g.nexts.now g.firsts.now c.args.rests.now g.linked c.loop-levels.levels c.loop-levels.ways c.loop-levels.queue g.sink c.loop-levels.start c.loop-levels.end
+    λ e. search_closed g.heads.now g.nexts.now g.firsts.now c.args.rests.now g.linked c.loop-levels.levels c.loop-levels.ways c.loop-levels.queue g.sink
+    c.loop-levels.start c.loop-levels.end
     long (omega arith) c.loop-levels.invariant.searched
 
 pub overflow_add-start : goal.overflow_add-start

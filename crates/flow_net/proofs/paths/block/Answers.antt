@@ -22,10 +22,12 @@ loop-step-preserved c =
       inside = c.in-Some.ensures.node;
       tree = c.in-Some.ensures.tree;
       marked = c.in-Some.ensures.marked;
-      raised = raised_then g.heads.now g.source g.sink 0 0 c.args.rests.now c.loop-step.rests c.push_at_sink-start.new.rests c.loop-step.auto.rests c.loop-step.invariant.raised c.push_at_sink-start.ensures.raised;
+      raised = raised_then g.heads.now g.source g.sink 0 0 c.args.rests.now c.loop-step.rests c.push_at_sink-start.new.rests c.loop-step.auto.rests
+          c.loop-step.invariant.raised c.push_at_sink-start.ensures.raised;
     }
 
 pub returns-in-None-clause-raised : goal.returns-in-None-clause-raised
 returns-in-None-clause-raised c =
     let g = c.args.halves in
-    raised_then g.heads.now g.source g.sink 0 0 c.args.rests.now c.loop-step.rests c.push_at_sink-start.new.rests c.loop-step.auto.rests c.loop-step.invariant.raised c.push_at_sink-start.ensures.raised
+    raised_then g.heads.now g.source g.sink 0 0 c.args.rests.now c.loop-step.rests c.push_at_sink-start.new.rests c.loop-step.auto.rests
+    c.loop-step.invariant.raised c.push_at_sink-start.ensures.raised

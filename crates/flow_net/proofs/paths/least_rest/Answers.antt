@@ -9,14 +9,18 @@ bounds-ways-node c = let a = c.loop-step.invariant.inside in omega arith
 pub bounds-rests-half : goal.bounds-rests-half
 bounds-rests-half c =
     let i = c.loop-step.invariant in
-    let s = way_step c.args.halves.heads.now c.args.levels.now c.args.ways.now c.args.halves.sink c.loop-step.node c.loop-step._step _ c.requires.tree i.inside i.height c.loop-step-test.true in
+    let s = way_step c.args.halves.heads.now c.args.levels.now c.args.ways.now c.args.halves.sink c.loop-step.node c.loop-step._step _ c.requires.tree
+    i.inside
+    i.height c.loop-step-test.true in
     let half = s.half in
     omega arith
 
 pub bounds-halves-half : goal.bounds-halves-half
 bounds-halves-half c =
     let i = c.loop-step.invariant in
-    let s = way_step c.args.halves.heads.now c.args.levels.now c.args.ways.now c.args.halves.sink c.loop-step.node c.loop-step._step _ c.requires.tree i.inside i.height c.loop-step-test.true in
+    let s = way_step c.args.halves.heads.now c.args.levels.now c.args.ways.now c.args.halves.sink c.loop-step.node c.loop-step._step _ c.requires.tree
+    i.inside
+    i.height c.loop-step-test.true in
     s.half
 
 pub loop-step-init : goal.loop-step-init
@@ -59,7 +63,8 @@ returns-clause-carried c =
     let i = c.loop-step.invariant in
     let height = i.height in
     let done = c.loop-step-test.false in
-    i.carried c.loop-step.least (omega arith) (carries-none c.args.halves.heads.now c.args.rests.now c.args.ways.now c.loop-step.least _ c.loop-step.node (omega arith))
+    i.carried c.loop-step.least (omega arith) (carries-none c.args.halves.heads.now c.args.rests.now c.args.ways.now c.loop-step.least _ c.loop-step.node
+    (omega arith))
 
 pub returns-clause-positive : goal.returns-clause-positive
 returns-clause-positive c = c.loop-step.invariant.positive

@@ -19,4 +19,5 @@ returns-clause-marked c =
     let inside : c.args.node < length c.args.currents.now = omega arith in
     let within = c.requires.marked.within c.args.node inside in
     let some : 0 < at = omega arith in
-    marked_next g.heads.now g.nexts.now g.firsts.now c.args.currents.now c.args.entries.now c.args.node (at - 1) g.linked c.requires.marked (omega arith) (c.requires.marked.leaves c.args.node inside some) inside
+    marked_next g.heads.now g.nexts.now g.firsts.now c.args.currents.now c.args.entries.now c.args.node (at - 1) g.linked c.requires.marked (omega arith)
+    (c.requires.marked.leaves c.args.node inside some) inside

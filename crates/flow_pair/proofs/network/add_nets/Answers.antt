@@ -32,7 +32,8 @@ loop-e-preserved c =
       least = let a = i.least in omega arith;
       most = let a = i.most in omega arith;
       nodes = let a = i.nodes in omega arith;
-      arcs = nets-rest h s.blocks.now s.first s.second s.region.now c.loop-e.network c.add_net.new.network _ h.nets e net inside refl nodes x.more_arcs i.arcs;
+      arcs = nets-rest h s.blocks.now s.first s.second s.region.now c.loop-e.network c.add_net.new.network _ h.nets e net inside refl nodes x.more_arcs
+          i.arcs;
       idle = x.idle;
       few =
           let a = i.few in

@@ -10,7 +10,8 @@ loop-v-preserved c =
     record {
       nodes = let a = x.more_nodes in let b = c.loop-v.invariant.nodes in omega arith;
       arcs =
-          pins-rest s.h.now s.blocks.now s.first s.second s.region.now c.loop-v.network.arcs c.add_pin.new.network.arcs _ c.args.pins.now c.args.at c.loop-v.v-index c.loop-v-test.true
+          pins-rest s.h.now s.blocks.now s.first s.second s.region.now c.loop-v.network.arcs c.add_pin.new.network.arcs _ c.args.pins.now c.args.at
+          c.loop-v.v-index c.loop-v-test.true
           x.more_arcs c.loop-v.invariant.arcs;
       idle = x.idle;
       few =

@@ -14,4 +14,8 @@ pub returns-in-Err : goal.returns-in-Err
 returns-in-Err c =
     let xs = c.args.region.now in
     let absent = searched xs c.args.v (Err c.in-Err.field-0) c.in-Err.ensures.position (λ i j l m. rising-le xs c.requires i j l m) in
-    sym (position-none xs c.args.v (λ i l e. elim (cases_lt i c.in-Err.field-0) [ inl m ↦ (let a = absent.1 i m in omega arith) | inr m ↦ (let a = absent.2 i m l in omega arith) ]))
+    sym (position-none xs c.args.v (λ i l e. elim (cases_lt i c.in-Err.field-0) [
+      | inl m ↦ (let a = absent.1 i m in omega arith)
+      | inr m ↦
+          (let a = absent.2 i m l in omega arith)
+    ]))

@@ -13,14 +13,16 @@ returns-then-count-eq0-clause-touched c =
     let net = net_of c.args.h.now c.args.e in
     let a = c.args.a in
     let b = c.args.b in
-    let none = no_pin p net.pins a c.count.result (c.count.ensures ∙ ap (λ x. pins_in p (net_of x c.args.e).pins a) c.requires.belongs) c.if-count-eq0.true in
+    let none = no_pin p net.pins a c.count.result (c.count.ensures ∙ ap (λ x. pins_in p (net_of x c.args.e).pins a) c.requires.belongs)
+    c.if-count-eq0.true in
     λ v l. or-none (is_in c.args.touched.now v) ∙ ap (λ t. is_in c.args.touched.now v || t) (sym (ap (λ t. (t && has_pin p net b) && holds net v) none))
 
 pub returns-then-count-eq0-clause-both : goal.returns-then-count-eq0-clause-both
 returns-then-count-eq0-clause-both c =
     let p = c.args.p.now.blocks in
     let net = net_of c.args.h.now c.args.e in
-    let none = no_pin p net.pins c.args.a c.count.result (c.count.ensures ∙ ap (λ x. pins_in p (net_of x c.args.e).pins c.args.a) c.requires.belongs) c.if-count-eq0.true in
+    let none = no_pin p net.pins c.args.a c.count.result (c.count.ensures ∙ ap (λ x. pins_in p (net_of x c.args.e).pins c.args.a) c.requires.belongs)
+    c.if-count-eq0.true in
     sym (ap (λ t. t && has_pin p net c.args.b) none)
 
 pub returns-then-count-eq0-2-clause-touched : goal.returns-then-count-eq0-2-clause-touched
@@ -29,8 +31,10 @@ returns-then-count-eq0-2-clause-touched c =
     let net = net_of c.args.h.now c.args.e in
     let a = c.args.a in
     let b = c.args.b in
-    let some = some_pin p net.pins a c.count.result (c.count.ensures ∙ ap (λ x. pins_in p (net_of x c.args.e).pins a) c.requires.belongs) c.if-count-eq0.false in
-    let none = no_pin p net.pins b c.count-2.result (c.count-2.ensures ∙ ap (λ x. pins_in p (net_of x c.args.e).pins b) c.requires.belongs) c.if-count-eq0-2.true in
+    let some = some_pin p net.pins a c.count.result (c.count.ensures ∙ ap (λ x. pins_in p (net_of x c.args.e).pins a) c.requires.belongs)
+    c.if-count-eq0.false in
+    let none = no_pin p net.pins b c.count-2.result (c.count-2.ensures ∙ ap (λ x. pins_in p (net_of x c.args.e).pins b) c.requires.belongs)
+    c.if-count-eq0-2.true in
     λ v l. or-none (is_in c.args.touched.now v)
     ∙ ap (λ t. is_in c.args.touched.now v || t) (sym (ap (λ t. (t && has_pin p net b) && holds net v) some ∙ ap (λ t. t && holds net v) none))
 
@@ -38,8 +42,10 @@ pub returns-then-count-eq0-2-clause-both : goal.returns-then-count-eq0-2-clause-
 returns-then-count-eq0-2-clause-both c =
     let p = c.args.p.now.blocks in
     let net = net_of c.args.h.now c.args.e in
-    let some = some_pin p net.pins c.args.a c.count.result (c.count.ensures ∙ ap (λ x. pins_in p (net_of x c.args.e).pins c.args.a) c.requires.belongs) c.if-count-eq0.false in
-    let none = no_pin p net.pins c.args.b c.count-2.result (c.count-2.ensures ∙ ap (λ x. pins_in p (net_of x c.args.e).pins c.args.b) c.requires.belongs) c.if-count-eq0-2.true in
+    let some = some_pin p net.pins c.args.a c.count.result (c.count.ensures ∙ ap (λ x. pins_in p (net_of x c.args.e).pins c.args.a) c.requires.belongs)
+    c.if-count-eq0.false in
+    let none = no_pin p net.pins c.args.b c.count-2.result (c.count-2.ensures ∙ ap (λ x. pins_in p (net_of x c.args.e).pins c.args.b) c.requires.belongs)
+    c.if-count-eq0-2.true in
     sym (ap (λ t. t && has_pin p net c.args.b) some ∙ none)
 
 pub returns-clause-touched : goal.returns-clause-touched
@@ -48,8 +54,10 @@ returns-clause-touched c =
     let net = net_of c.args.h.now c.args.e in
     let a = c.args.a in
     let b = c.args.b in
-    let first = some_pin p net.pins a c.count.result (c.count.ensures ∙ ap (λ x. pins_in p (net_of x c.args.e).pins a) c.requires.belongs) c.if-count-eq0.false in
-    let second = some_pin p net.pins b c.count-2.result (c.count-2.ensures ∙ ap (λ x. pins_in p (net_of x c.args.e).pins b) c.requires.belongs) c.if-count-eq0-2.false in
+    let first = some_pin p net.pins a c.count.result (c.count.ensures ∙ ap (λ x. pins_in p (net_of x c.args.e).pins a) c.requires.belongs)
+    c.if-count-eq0.false in
+    let second = some_pin p net.pins b c.count-2.result (c.count-2.ensures ∙ ap (λ x. pins_in p (net_of x c.args.e).pins b) c.requires.belongs)
+    c.if-count-eq0-2.false in
     λ v l. c.mark.ensures v l ∙ ap (λ xs. is_in c.args.touched.now v || list_any (nat_eq v) xs) c.pins.ensures.value
     ∙ ap (λ t. is_in c.args.touched.now v || t) (sym (ap (λ t. (t && has_pin p net b) && holds net v) first ∙ ap (λ t. t && holds net v) second))
 
@@ -57,6 +65,9 @@ pub returns-clause-both : goal.returns-clause-both
 returns-clause-both c =
     let p = c.args.p.now.blocks in
     let net = net_of c.args.h.now c.args.e in
-    let first = some_pin p net.pins c.args.a c.count.result (c.count.ensures ∙ ap (λ x. pins_in p (net_of x c.args.e).pins c.args.a) c.requires.belongs) c.if-count-eq0.false in
-    let second = some_pin p net.pins c.args.b c.count-2.result (c.count-2.ensures ∙ ap (λ x. pins_in p (net_of x c.args.e).pins c.args.b) c.requires.belongs) c.if-count-eq0-2.false in
+    let first = some_pin p net.pins c.args.a c.count.result (c.count.ensures ∙ ap (λ x. pins_in p (net_of x c.args.e).pins c.args.a) c.requires.belongs)
+    c.if-count-eq0.false in
+    let second = some_pin p net.pins c.args.b c.count-2.result (c.count-2.ensures ∙ ap (λ x. pins_in p (net_of x c.args.e).pins c.args.b)
+    c.requires.belongs)
+    c.if-count-eq0-2.false in
     sym (ap (λ t. t && has_pin p net c.args.b) first ∙ second)

@@ -10,5 +10,6 @@ pub returns-clause-some : goal.returns-clause-some
 returns-clause-some c =
     let nets = c.args.h.now.nets in
     let test : Net → Bool = λ e. has_pin c.args.p.now.blocks e c.args.a && has_pin c.args.p.now.blocks e c.args.b in
-    let all : list_any test (take c.loop-e.e nets) ≡ list_any test nets = ap (list_any test) (take_all c.loop-e.e nets (let a = c.nets-e-end.ensures.count in let b = c.loop-e-test.false in omega arith)) in
+    let all : list_any test (take c.loop-e.e nets) ≡ list_any test nets = ap (list_any test)
+    (take_all c.loop-e.e nets (let a = c.nets-e-end.ensures.count in let b = c.loop-e-test.false in omega arith)) in
     (λ e. none-filter test nets (sym all ∙ sym c.loop-e.invariant.some ∙ e), λ e. c.loop-e.invariant.some ∙ all ∙ filter-none test nets e)

@@ -6,7 +6,8 @@ use Rattle.flow_pair.proofs.region.take_next.Goals as goal
 pub loop-v-preserved : goal.loop-v-preserved
 loop-v-preserved c =
     let s = c.args.side in
-    take_step s.h.now (is_next s.h.now s.blocks.now s.from s.to) c.loop-v.left c.in_ok-left.left c.args.room c.loop-v.v c.is_next.result c.loop-v.list.items c.take.new.list.items c.args.list.now.items
+    take_step s.h.now (is_next s.h.now s.blocks.now s.from s.to) c.loop-v.left c.in_ok-left.left c.args.room c.loop-v.v c.is_next.result c.loop-v.list.items
+    c.take.new.list.items c.args.list.now.items
     (let a = c.vertices-v-end.ensures.count in let b = c.loop-v-test.true in omega arith) c.is_next.ensures c.in_ok-left.ensures c.loop-v.invariant
 
 pub returns : goal.returns

@@ -17,7 +17,8 @@ pub region_network-requires-clause-vertices : goal.region_network-requires-claus
 region_network-requires-clause-vertices c =
     let p = c.args.p.now in
     let sound : IsHypergraph c.args.h.now = subst IsHypergraph c.requires.belongs c.blocks-blocks.ensures.parted.sound in
-    subst (All (λ v. v < vertex_count c.args.h.now)) (sym (c.slice.ensures ∙ c.requires.region)) (region_vertices c.args.h.now p.limit p.blocks c.args.a c.args.b sound)
+    subst (All (λ v. v < vertex_count c.args.h.now)) (sym (c.slice.ensures ∙ c.requires.region)) (region_vertices c.args.h.now p.limit p.blocks c.args.a
+    c.args.b sound)
 
 pub region_network-requires-clause-pair : goal.region_network-requires-clause-pair
 region_network-requires-clause-pair c =
@@ -34,7 +35,9 @@ overflow_cast-result c =
     let is = c.slice.ensures ∙ c.requires.region in
     let small =
     end_value-small h p.k p.limit p.blocks a b c.in_ok-blocks.blocks c.max_flow.new.self c.in_ok-cut.cut.value c.in_ok-cut.cut.side
-    (subst IsHypergraph c.requires.belongs parted.sound) (subst IsWithinLimits c.requires.belongs parted.bounds) (subst (λ x. IsPartition x p.k p.blocks) c.requires.belongs parted.partition) (subst (λ x. Fits x p.k p.limit p.blocks) c.requires.belongs c.requires.fits) c.requires.order c.requires.blocks
+    (subst IsHypergraph c.requires.belongs parted.sound) (subst IsWithinLimits c.requires.belongs parted.bounds)
+    (subst (λ x. IsPartition x p.k p.blocks) c.requires.belongs parted.partition) (subst (λ x. Fits x p.k p.limit p.blocks) c.requires.belongs
+    c.requires.fits) c.requires.order c.requires.blocks
     (c.in_ok-cut.ensures.kept.0 ∙ ap (λ n. n.nodes) c.in_ok-network.ensures ∙ ap (λ r. (pair_network h p.blocks a b r).nodes) is)
     (c.in_ok-cut.ensures.kept.1 ∙ ap (λ n. n.arcs) c.in_ok-network.ensures ∙ ap (λ r. (pair_network h p.blocks a b r).arcs) is)
     c.in_ok-cut.ensures.sound c.in_ok-cut.ensures.flow c.in_ok-cut.ensures.cut
@@ -51,7 +54,9 @@ returns c =
     let parted = c.blocks-blocks.ensures.parted in
     let is = c.slice.ensures ∙ c.requires.region in
     pair_end h p.k p.limit p.blocks a b c.in_ok-blocks.blocks c.max_flow.new.self c.in_ok-cut.cut.value c.in_ok-cut.cut.side
-    (subst IsHypergraph c.requires.belongs parted.sound) (subst IsWithinLimits c.requires.belongs parted.bounds) (subst (λ x. IsPartition x p.k p.blocks) c.requires.belongs parted.partition) (subst (λ x. Fits x p.k p.limit p.blocks) c.requires.belongs c.requires.fits) c.requires.order c.requires.blocks
+    (subst IsHypergraph c.requires.belongs parted.sound) (subst IsWithinLimits c.requires.belongs parted.bounds)
+    (subst (λ x. IsPartition x p.k p.blocks) c.requires.belongs parted.partition) (subst (λ x. Fits x p.k p.limit p.blocks) c.requires.belongs
+    c.requires.fits) c.requires.order c.requires.blocks
     (c.in_ok-cut.ensures.kept.0 ∙ ap (λ n. n.nodes) c.in_ok-network.ensures ∙ ap (λ r. (pair_network h p.blocks a b r).nodes) is)
     (c.in_ok-cut.ensures.kept.1 ∙ ap (λ n. n.arcs) c.in_ok-network.ensures ∙ ap (λ r. (pair_network h p.blocks a b r).arcs) is)
     c.in_ok-cut.ensures.sound c.in_ok-cut.ensures.flow c.in_ok-cut.ensures.cut

@@ -1,5 +1,6 @@
 -- One pin more: its block is counted where it is new.
-use Rattle.std.proofs.Common.{◌≡◌, ℕ, ◌+◌, ◌<◌, ◌≤◌, Bool, true, false, not, ◌||◌, if◌then◌else◌, nat_eq, length, map, take, slice_index, refl, sym, ap, ap₂, ◌∙◌, arith}
+use Rattle.std.proofs.Common.{◌≡◌, ℕ, ◌+◌, ◌<◌, ◌≤◌, Bool, true, false, not, ◌||◌, if◌then◌else◌, nat_eq, length}
+use Rattle.std.proofs.Common.{map, take, slice_index, refl, sym, ap, ap₂, ◌∙◌, arith}
 use Rattle.std.specs.Set.{is_member, distinct_count}
 use Rattle.std.proofs.lemmas.List.{map_more}
 use Rattle.hg_defs.specs.Partition.{block_of}
@@ -29,5 +30,6 @@ loop-v-preserved c =
     let most = byte-le c.insert.result in (
       ap₂ (λ (m n : ℕ). m + n) c.loop-v.invariant.0 added ∙ sym (distinct_push xs x) ∙ sym (ap (distinct_count nat_eq) more),
       omega (arith, c.loop-v.invariant.1, c.from-count.ensures),
-      λ b. c.insert.ensures.joined b ∙ ap (λ t. nat_eq b x || t) (c.loop-v.invariant.2 b) ∙ sym (is_member_push xs x b) ∙ sym (ap (λ ys. is_member nat_eq ys b) more),
+      λ b. c.insert.ensures.joined b ∙ ap (λ t. nat_eq b x || t) (c.loop-v.invariant.2 b) ∙ sym (is_member_push xs x b) ∙
+          sym (ap (λ ys. is_member nat_eq ys b) more),
     )

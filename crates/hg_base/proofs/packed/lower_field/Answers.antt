@@ -5,4 +5,5 @@ use Rattle.hg_base.proofs.packed.lower_field.Goals as goal
 
 pub returns-clause-fields : goal.returns-clause-fields
 returns-clause-fields c q =
-    ap (λ (u : ℕ). packed.field (c.args.word - u) c.args.bits q + (if nat_eq q c.args.place then 1 else 0)) c.unit.ensures ∙ lowered_field c.args.word c.args.bits c.args.place q c.requires.some
+    ap (λ (u : ℕ). packed.field (c.args.word - u) c.args.bits q + (if nat_eq q c.args.place then 1 else 0)) c.unit.ensures ∙ lowered_field c.args.word
+    c.args.bits c.args.place q c.requires.some

@@ -7,4 +7,5 @@ use Rattle.hg_base.proofs.placement.greedy.Goals as goal
 
 pub place_ranks-requires-clause-listed : goal.place_ranks-requires-clause-listed
 place_ranks-requires-clause-listed c =
-    subst (ListsFree c.args.h.now) (sym (ap (map (λ (r : Reverse ℕ × ℕ). r.1)) c.deref.ensures.value ∙ c.in_ok-ranks.ensures.order)) (heaviest_first-lists_free c.args.h.now)
+    subst (ListsFree c.args.h.now) (sym (ap (map (λ (r : Reverse ℕ × ℕ). r.1)) c.deref.ensures.value ∙ c.in_ok-ranks.ensures.order))
+    (heaviest_first-lists_free c.args.h.now)

@@ -18,12 +18,14 @@ pub ranks_of-requires : goal.ranks_of-requires
 ranks_of-requires c = listed_vertices c.args.h.now c.args.order.now c.requires.listed
 
 pub place_ranks-requires-clause-listed : goal.place_ranks-requires-clause-listed
-place_ranks-requires-clause-listed c = subst (ListsFree c.args.h.now) (sym (vertices_of c.args.h.now c.args.order.now c.deref.result.now (c.deref.ensures.value ∙ c.in_ok-ranks.ensures))) c.requires.listed
+place_ranks-requires-clause-listed c = subst (ListsFree c.args.h.now)
+    (sym (vertices_of c.args.h.now c.args.order.now c.deref.result.now (c.deref.ensures.value ∙ c.in_ok-ranks.ensures))) c.requires.listed
 
 pub place_ranks-requires-clause-weights : goal.place_ranks-requires-clause-weights
 place_ranks-requires-clause-weights c =
     let h = c.args.h.now in
-    All-same (λ (r : Reverse ℕ × ℕ). r.0.0 ≡ weight_of h r.1) c.deref.result.now (map (rank_of h) c.args.order.now) (c.deref.ensures.value ∙ c.in_ok-ranks.ensures)
+    All-same (λ (r : Reverse ℕ × ℕ). r.0.0 ≡ weight_of h r.1) c.deref.result.now (map (rank_of h) c.args.order.now) (c.deref.ensures.value ∙
+    c.in_ok-ranks.ensures)
     (All-map (λ (r : Reverse ℕ × ℕ). r.0.0 ≡ weight_of h r.1) (rank_of h) c.args.order.now (λ k d l. refl))
 
 pub returns-clause-ok : goal.returns-clause-ok
@@ -33,10 +35,12 @@ returns-clause-ok c =
 
 pub returns-clause-within : goal.returns-clause-within
 returns-clause-within c =
-    subst (λ (o : List ℕ). OnOk c.place_ranks.result (first_overfilling c.args.h.now c.args.limit (unplaced c.args.h.now c.args.k) (placing_order c.args.h.now o) ≡ None))
+    subst (λ (o : List ℕ). OnOk c.place_ranks.result (first_overfilling c.args.h.now c.args.limit (unplaced c.args.h.now c.args.k)
+    (placing_order c.args.h.now o) ≡ None))
     (vertices_of c.args.h.now c.args.order.now c.deref.result.now (c.deref.ensures.value ∙ c.in_ok-ranks.ensures)) c.place_ranks.ensures.within
 
 pub returns-clause-cause : goal.returns-clause-cause
 returns-clause-cause c =
-    subst (λ (o : List ℕ). IfErr c.place_ranks.result (HasCause (first_overfilling c.args.h.now c.args.limit (unplaced c.args.h.now c.args.k) (placing_order c.args.h.now o))))
+    subst (λ (o : List ℕ). IfErr c.place_ranks.result (HasCause (first_overfilling c.args.h.now c.args.limit (unplaced c.args.h.now c.args.k)
+    (placing_order c.args.h.now o))))
     (vertices_of c.args.h.now c.args.order.now c.deref.result.now (c.deref.ensures.value ∙ c.in_ok-ranks.ensures)) c.place_ranks.ensures.cause

@@ -21,19 +21,22 @@ place_free-requires-clause-blocks c =
 
 pub place_free-requires-clause-some : goal.place_free-requires-clause-some
 place_free-requires-clause-some c =
-    let loads = fixed_loads c.args.h.now c.args.k c.args.limit (map (λ (r : Reverse ℕ × ℕ). r.1) c.args.ranks.now) c.in_ok-placing.placing c.place_fixed.new.self
+    let loads = fixed_loads c.args.h.now c.args.k c.args.limit (map (λ (r : Reverse ℕ × ℕ). r.1) c.args.ranks.now) c.in_ok-placing.placing
+    c.place_fixed.new.self
     c.in_ok-placing.ensures.state c.in_default.ensures.0 c.in_default.ensures.1 in
     omega (arith, c.requires.some)
 
 pub place_free-requires-clause-few : goal.place_free-requires-clause-few
 place_free-requires-clause-few c =
-    let loads = fixed_loads c.args.h.now c.args.k c.args.limit (map (λ (r : Reverse ℕ × ℕ). r.1) c.args.ranks.now) c.in_ok-placing.placing c.place_fixed.new.self
+    let loads = fixed_loads c.args.h.now c.args.k c.args.limit (map (λ (r : Reverse ℕ × ℕ). r.1) c.args.ranks.now) c.in_ok-placing.placing
+    c.place_fixed.new.self
     c.in_ok-placing.ensures.state c.in_default.ensures.0 c.in_default.ensures.1 in
     omega (arith, c.requires.few)
 
 pub place_free-requires-clause-vertices : goal.place_free-requires-clause-vertices
 place_free-requires-clause-vertices c =
-    All-vertices (λ v. v < vertex_count c.args.h.now) c.args.ranks.now (listed_vertices c.args.h.now (map (λ (r : Reverse ℕ × ℕ). r.1) c.args.ranks.now) c.requires.listed)
+    All-vertices (λ v. v < vertex_count c.args.h.now) c.args.ranks.now (listed_vertices c.args.h.now (map (λ (r : Reverse ℕ × ℕ). r.1) c.args.ranks.now)
+    c.requires.listed)
 
 pub place_free-requires-clause-free : goal.place_free-requires-clause-free
 place_free-requires-clause-free c =
@@ -58,12 +61,14 @@ returns-clause-within c =
 pub returns-clause-partition : goal.returns-clause-partition
 returns-clause-partition c =
     subst (IsPartition c.args.h.now c.args.k) (sym (returns-clause-ok c))
-    (least_loaded-partition c.args.h.now c.args.k (map (λ (r : Reverse ℕ × ℕ). r.1) c.args.ranks.now) c.in_ok-placing.ensures.sound c.requires.fixed c.requires.some)
+    (least_loaded-partition c.args.h.now c.args.k (map (λ (r : Reverse ℕ × ℕ). r.1) c.args.ranks.now) c.in_ok-placing.ensures.sound c.requires.fixed
+    c.requires.some)
 
 pub returns-clause-fixes : goal.returns-clause-fixes
 returns-clause-fixes c =
     subst (Obeys c.args.h.now) (sym (returns-clause-ok c))
-    (least_loaded-obeys c.args.h.now c.args.k (map (λ (r : Reverse ℕ × ℕ). r.1) c.args.ranks.now) c.in_ok-placing.ensures.sound c.requires.fixed c.requires.some)
+    (least_loaded-obeys c.args.h.now c.args.k (map (λ (r : Reverse ℕ × ℕ). r.1) c.args.ranks.now) c.in_ok-placing.ensures.sound c.requires.fixed
+    c.requires.some)
 
 pub returns-clause-fits : goal.returns-clause-fits
 returns-clause-fits c =

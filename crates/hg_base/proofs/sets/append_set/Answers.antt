@@ -14,7 +14,8 @@ returns-then-not-is_rising-clause-ok c =
     let at : c.len-start.result ≡ length old = omega arith in
     let tail = tail_is whole old more c.len-start.result all at in
     let short : c.sort_set-count.result ≤ length c.sort_set-count.new.numbers = omega arith in
-    let fits : c.len-start.result + c.sort_set-count.result ≤ c.extend_from_slice.new.self.len = (let l = ap length tail in let n = c.in_ok-extend_from_slice.ensures.len in omega arith) in
+    let fits : c.len-start.result + c.sort_set-count.result ≤ c.extend_from_slice.new.self.len =
+    (let l = ap length tail in let n = c.in_ok-extend_from_slice.ensures.len in omega arith) in
     c.truncate.ensures.items
     ∙ kept_tail whole old more c.len-start.result all at c.sort_set-count.new.numbers _ _ c.sort_set-count.result _ short fits
     ∙ ap (λ xs. old ++ xs) (c.sort_set-count.ensures.set ∙ ap (set_of nat_cmp) tail)

@@ -1,4 +1,5 @@
-use Rattle.hg_defs.proofs.LevelLaws.{levels_one_more, levels_listed, level_is_contraction, levels_stay, level_is_added, lifted-projected, only_lifted, lifted_follows, projection_keeps_cost, lifted_projected_back}
+use Rattle.hg_defs.proofs.LevelLaws.{levels_one_more, levels_listed, level_is_contraction, levels_stay, level_is_added, lifted-projected}
+use Rattle.hg_defs.proofs.LevelLaws.{only_lifted, lifted_follows, projection_keeps_cost, lifted_projected_back}
 use Rattle.hg_defs.proofs.laws.levels_of_clusterings.Goals as goal
 
 pub returns-clause-count : goal.returns-clause-count

@@ -1,4 +1,5 @@
-use Rattle.hg_defs.proofs.SynchronousLaws.{wishes_are_best, wishes_by_saving, sync_moves-wishes, sync_moves-distinct, sync_moves-allowed, sync_moves-booked, sync_moves-from, sync_moves-saved, settled-nothing, unsettled-moves}
+use Rattle.hg_defs.proofs.SynchronousLaws.{wishes_are_best, wishes_by_saving, sync_moves-wishes, sync_moves-distinct, sync_moves-allowed}
+use Rattle.hg_defs.proofs.SynchronousLaws.{sync_moves-booked, sync_moves-from, sync_moves-saved, settled-nothing, unsettled-moves}
 use Rattle.hg_defs.proofs.laws.moves_of_synchronous_round.Goals as goal
 
 pub returns-clause-wishes : goal.returns-clause-wishes

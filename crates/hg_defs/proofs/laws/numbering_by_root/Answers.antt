@@ -1,4 +1,5 @@
-use Rattle.hg_defs.proofs.NumberingLaws.{numbers_tell_roots, numbers_rise, numbers_are_as_many, number_counts_roots, numbers_are_clustering, numbering_keeps_together, numbering_keeps_singles}
+use Rattle.hg_defs.proofs.NumberingLaws.{numbers_tell_roots, numbers_rise, numbers_are_as_many, number_counts_roots}
+use Rattle.hg_defs.proofs.NumberingLaws.{numbers_are_clustering, numbering_keeps_together, numbering_keeps_singles}
 use Rattle.hg_defs.proofs.laws.numbering_by_root.Goals as goal
 
 pub returns-clause-told : goal.returns-clause-told

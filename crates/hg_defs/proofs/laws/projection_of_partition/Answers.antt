@@ -1,4 +1,5 @@
-use Rattle.hg_defs.proofs.ContractionLaws.{cost_kept, loads_kept, fitting_projected, fitting_lifted, partition_projected, partition_lifted, fixes_projected, fixes_lifted}
+use Rattle.hg_defs.proofs.ContractionLaws.{cost_kept, loads_kept, fitting_projected, fitting_lifted}
+use Rattle.hg_defs.proofs.ContractionLaws.{partition_projected, partition_lifted, fixes_projected, fixes_lifted}
 use Rattle.hg_defs.proofs.laws.projection_of_partition.Goals as goal
 
 pub returns-clause-cost : goal.returns-clause-cost

@@ -23,5 +23,6 @@ pub nets-preserved : goal.nets-preserved
 nets-preserved c =
     c.in_ok-push_net.ensures.ok
     ∙ ap (λ (h : Hyper). record h { nets = h.nets ++ record { weight = 1; pins = set_of nat_cmp c.pins_of.result } ∷ [] }) c.nets.invariant
-    ∙ ap (λ (pins : List ℕ). record (made_first c.args.n c.nets.i) { nets = (made_first c.args.n c.nets.i).nets ++ record { weight = 1; pins = set_of nat_cmp pins } ∷ [] }) c.pins_of.ensures.pins
+    ∙ ap (λ (pins : List ℕ). record (made_first c.args.n c.nets.i)
+    { nets = (made_first c.args.n c.nets.i).nets ++ record { weight = 1; pins = set_of nat_cmp pins } ∷ [] }) c.pins_of.ensures.pins
     ∙ sym (made_first-more c.args.n c.nets.i)

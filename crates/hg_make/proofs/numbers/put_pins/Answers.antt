@@ -15,7 +15,8 @@ returns-in_err-put_token-clause-bytes g c =
     let sep = c.separator.ensures more (length-numbers_from pins (i + 1)) in
     exit c.from_residual.result c.from_residual.ensures.0
     (spelt (one_more before.0 token (numbers_line more) before.1.1 (pins_line-next pins i (omega arith)))
-    (cut (numbers_line more) (wrote before.1.0 (spelt (ap (λ (n : ℕ). decimal (n + 1) ++ c.separator.result ∷ []) c.from.ensures ∙ ap (λ (s : ℕ). decimal (get_or pins i 0 + 1) ++ s ∷ []) sep) c.in_err-put_token.ensures.bytes))))
+    (cut (numbers_line more) (wrote before.1.0 (spelt (ap (λ (n : ℕ). decimal (n + 1) ++ c.separator.result ∷ []) c.from.ensures ∙
+    ap (λ (s : ℕ). decimal (get_or pins i 0 + 1) ++ s ∷ []) sep) c.in_err-put_token.ensures.bytes))))
 
 pub pins-preserved : goal.pins-preserved
 pins-preserved g c =
@@ -27,7 +28,8 @@ pins-preserved g c =
     let sep = c.separator.ensures more (length-numbers_from pins (i + 1)) in (
       before.0 ++ token,
       (
-        wrote before.1.0 (spelt (ap (λ (n : ℕ). decimal (n + 1) ++ c.separator.result ∷ []) c.from.ensures ∙ ap (λ (s : ℕ). decimal (get_or pins i 0 + 1) ++ s ∷ []) sep) c.in_ok-put_token.ensures.bytes),
+        wrote before.1.0 (spelt (ap (λ (n : ℕ). decimal (n + 1) ++ c.separator.result ∷ []) c.from.ensures ∙
+            ap (λ (s : ℕ). decimal (get_or pins i 0 + 1) ++ s ∷ []) sep) c.in_ok-put_token.ensures.bytes),
         sym (one_more before.0 token (numbers_line more) before.1.1 (pins_line-next pins i (omega arith))),
         c.in_ok-put_token.ensures.cause.kept ∙ before.1.2,
       ),

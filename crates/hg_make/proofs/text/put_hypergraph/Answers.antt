@@ -23,8 +23,10 @@ returns-in_err-put_header-clause-bytes g c =
     let nets = c.has_weighted_nets-net_weights.ensures in
     let vertices = c.has_weighted_vertices-vertex_weights.ensures in
     unfinished c.from_residual.result c.from_residual.ensures.0 c.new-pen.ensures
-    (spelt (lines-parts (header h (are_nets_weighted h) (are_vertices_weighted h)) (net_lines h (are_nets_weighted h)) (weight_lines h (are_vertices_weighted h)))
-    (cut (flat_map numbers_line (weight_lines h (are_vertices_weighted h))) (cut (flat_map numbers_line (net_lines h (are_nets_weighted h))) (spelt (ap₂ (λ (n v : Bool). numbers_line (header h n v)) nets vertices) c.in_err-put_header.ensures.bytes))))
+    (spelt (lines-parts (header h (are_nets_weighted h) (are_vertices_weighted h)) (net_lines h (are_nets_weighted h))
+    (weight_lines h (are_vertices_weighted h)))
+    (cut (flat_map numbers_line (weight_lines h (are_vertices_weighted h))) (cut (flat_map numbers_line (net_lines h (are_nets_weighted h)))
+    (spelt (ap₂ (λ (n v : Bool). numbers_line (header h n v)) nets vertices) c.in_err-put_header.ensures.bytes))))
 
 pub returns-in_err-put_nets-clause-bytes : goal.returns-in_err-put_nets-clause-bytes
 returns-in_err-put_nets-clause-bytes g c =
@@ -32,8 +34,11 @@ returns-in_err-put_nets-clause-bytes g c =
     let nets = c.has_weighted_nets-net_weights.ensures in
     let vertices = c.has_weighted_vertices-vertex_weights.ensures in
     unfinished c.from_residual-in_err-put_nets.result c.from_residual-in_err-put_nets.ensures.0 c.new-pen.ensures
-    (spelt (lines-parts (header h (are_nets_weighted h) (are_vertices_weighted h)) (net_lines h (are_nets_weighted h)) (weight_lines h (are_vertices_weighted h)))
-    (cut (flat_map numbers_line (weight_lines h (are_vertices_weighted h))) (wrote (spelt (ap₂ (λ (n v : Bool). numbers_line (header h n v)) nets vertices) c.in_ok-put_header.ensures.bytes) (spelt (ap (λ (n : Bool). flat_map numbers_line (net_lines h n)) nets) c.in_err-put_nets.ensures.bytes))))
+    (spelt (lines-parts (header h (are_nets_weighted h) (are_vertices_weighted h)) (net_lines h (are_nets_weighted h))
+    (weight_lines h (are_vertices_weighted h)))
+    (cut (flat_map numbers_line (weight_lines h (are_vertices_weighted h)))
+    (wrote (spelt (ap₂ (λ (n v : Bool). numbers_line (header h n v)) nets vertices) c.in_ok-put_header.ensures.bytes)
+    (spelt (ap (λ (n : Bool). flat_map numbers_line (net_lines h n)) nets) c.in_err-put_nets.ensures.bytes))))
 
 pub returns-in_err-put_weights-clause-bytes : goal.returns-in_err-put_weights-clause-bytes
 returns-in_err-put_weights-clause-bytes g c =
@@ -41,8 +46,11 @@ returns-in_err-put_weights-clause-bytes g c =
     let nets = c.has_weighted_nets-net_weights.ensures in
     let vertices = c.has_weighted_vertices-vertex_weights.ensures in
     unfinished c.from_residual-in_err-put_weights.result c.from_residual-in_err-put_weights.ensures.0 c.new-pen.ensures
-    (spelt (lines-parts (header h (are_nets_weighted h) (are_vertices_weighted h)) (net_lines h (are_nets_weighted h)) (weight_lines h (are_vertices_weighted h)))
-    (wrote (wrote (spelt (ap₂ (λ (n v : Bool). numbers_line (header h n v)) nets vertices) c.in_ok-put_header.ensures.bytes) (spelt (ap (λ (n : Bool). flat_map numbers_line (net_lines h n)) nets) c.in_ok-put_nets.ensures.bytes)) (spelt (ap (λ (v : Bool). flat_map numbers_line (weight_lines h v)) vertices) c.in_err-put_weights.ensures.bytes)))
+    (spelt (lines-parts (header h (are_nets_weighted h) (are_vertices_weighted h)) (net_lines h (are_nets_weighted h))
+    (weight_lines h (are_vertices_weighted h)))
+    (wrote (wrote (spelt (ap₂ (λ (n v : Bool). numbers_line (header h n v)) nets vertices) c.in_ok-put_header.ensures.bytes)
+    (spelt (ap (λ (n : Bool). flat_map numbers_line (net_lines h n)) nets) c.in_ok-put_nets.ensures.bytes))
+    (spelt (ap (λ (v : Bool). flat_map numbers_line (weight_lines h v)) vertices) c.in_err-put_weights.ensures.bytes)))
 
 pub returns-clause-bytes : goal.returns-clause-bytes
 returns-clause-bytes g c =
@@ -50,5 +58,8 @@ returns-clause-bytes g c =
     let nets = c.has_weighted_nets-net_weights.ensures in
     let vertices = c.has_weighted_vertices-vertex_weights.ensures in
     ended c.end.result c.new-pen.ensures
-    (spelt (lines-parts (header h (are_nets_weighted h) (are_vertices_weighted h)) (net_lines h (are_nets_weighted h)) (weight_lines h (are_vertices_weighted h)))
-    (wrote (wrote (spelt (ap₂ (λ (n v : Bool). numbers_line (header h n v)) nets vertices) c.in_ok-put_header.ensures.bytes) (spelt (ap (λ (n : Bool). flat_map numbers_line (net_lines h n)) nets) c.in_ok-put_nets.ensures.bytes)) (spelt (ap (λ (v : Bool). flat_map numbers_line (weight_lines h v)) vertices) c.in_ok-put_weights.ensures.bytes))) c.end.ensures.bytes
+    (spelt (lines-parts (header h (are_nets_weighted h) (are_vertices_weighted h)) (net_lines h (are_nets_weighted h))
+    (weight_lines h (are_vertices_weighted h)))
+    (wrote (wrote (spelt (ap₂ (λ (n v : Bool). numbers_line (header h n v)) nets vertices) c.in_ok-put_header.ensures.bytes)
+    (spelt (ap (λ (n : Bool). flat_map numbers_line (net_lines h n)) nets) c.in_ok-put_nets.ensures.bytes))
+    (spelt (ap (λ (v : Bool). flat_map numbers_line (weight_lines h v)) vertices) c.in_ok-put_weights.ensures.bytes))) c.end.ensures.bytes

@@ -16,7 +16,8 @@ returns-in_err-put_net-clause-bytes g c =
     let later = flat_map numbers_line (map (net_numbers c.args.weighted) (drop (e + 1) h.nets)) in
     exit c.from_residual.result c.from_residual.ensures.0
     (spelt (one_more before.0 line later before.1.1 (nets_lines-next c.args.weighted h.nets e (record { weight = 0; pins = [] }) (omega arith)))
-    (cut later (wrote before.1.0 (spelt (net_written c.args.weighted (net_of h e) _ _ c.net_weight.ensures.value c.pins.ensures.value) c.in_err-put_net.ensures.bytes))))
+    (cut later (wrote before.1.0 (spelt (net_written c.args.weighted (net_of h e) _ _ c.net_weight.ensures.value c.pins.ensures.value)
+    c.in_err-put_net.ensures.bytes))))
 
 pub nets-preserved : goal.nets-preserved
 nets-preserved g c =
@@ -27,7 +28,8 @@ nets-preserved g c =
     let later = flat_map numbers_line (map (net_numbers c.args.weighted) (drop (e + 1) h.nets)) in (
       before.0 ++ line,
       (
-        wrote before.1.0 (spelt (net_written c.args.weighted (net_of h e) _ _ c.net_weight.ensures.value c.pins.ensures.value) c.in_ok-put_net.ensures.bytes),
+        wrote before.1.0 (spelt (net_written c.args.weighted (net_of h e) _ _ c.net_weight.ensures.value c.pins.ensures.value)
+            c.in_ok-put_net.ensures.bytes),
         sym (one_more before.0 line later before.1.1 (nets_lines-next c.args.weighted h.nets e (record { weight = 0; pins = [] }) (omega arith))),
         c.in_ok-put_net.ensures.cause.kept ∙ before.1.2,
       ),

@@ -16,4 +16,5 @@ pub returns-in-None-clause-lines : goal.returns-in-None-clause-lines
 returns-in-None-clause-lines c =
     let text : List ℕ = c.args.text.now in
     lines_last text c.requires (λ k h. false_from_ne_true _ (c.in-None.ensures k (omega arith) h))
-    ∙ sym (rw (c.split_at.ensures.front, c.split_at.ensures.back, take_all (length text) text (omega arith), drop_all (length text) text (omega arith)) refl)
+    ∙ sym (rw (c.split_at.ensures.front, c.split_at.ensures.back, take_all (length text) text (omega arith), drop_all (length text) text (omega arith))
+    refl)

@@ -13,7 +13,8 @@ use Rattle.hg_text.proofs.numeral.number.Goals.{then-count-eq0-via-then-count-eq
 pub returns-then-count-eq0 : goal.returns-then-count-eq0
 returns-then-count-eq0 c =
     let field : List ℕ = c.args.field.now in
-    let early : (prefix_len is_ascii_digit field ≡ 0) ⊎ (prefix_len is_ascii_digit field < length field) = elim c.then-count-eq0.either [ inl e ↦ inl (omega arith) | inr l ↦ inr (omega arith) ] in
+    let early : (prefix_len is_ascii_digit field ≡ 0) ⊎ (prefix_len is_ascii_digit field < length field) = elim c.then-count-eq0.either
+    [ inl e ↦ inl (omega arith) | inr l ↦ inr (omega arith) ] in
     sym (number_not_digits field early)
 
 pub returns : goal.returns

@@ -30,7 +30,8 @@ returns-in_err-weight-clause-nets c =
       | inr e ↦ inr (first_err n (nets_in shape) c.args.lines.now c.in_err-weight.field-0.0
           (sym c.loop.invariant.read
           ∙ ap (λ (ls : List Line). with_front c.loop.hyper.nets (each (net_in shape) (with_pins_before shape c.loop.before ls))) now
-          ∙ front_err (net_in shape) c.loop.hyper.nets (c.loop.before, c.in-Some.line) (with_pins_before shape (c.loop.before + length (pin_numbers shape c.in-Some.line)) (take (n - (i + 1)) later)) c.in_err-weight.field-0.0 e))
+          ∙ front_err (net_in shape) c.loop.hyper.nets (c.loop.before, c.in-Some.line)
+          (with_pins_before shape (c.loop.before + length (pin_numbers shape c.in-Some.line)) (take (n - (i + 1)) later)) c.in_err-weight.field-0.0 e))
     ] in
     rw (p.1, p.2) cause
 
@@ -53,7 +54,8 @@ loop-preserved c =
     let pushed : c.push_net.new.self.nets ≡ nets ++ net ∷ [] =
     ap (λ (h : Hyper). h.nets) c.in_ok-push_net.ensures.ok
     ∙ ap (λ (xs : List ℕ). nets ++ record { weight = weight; pins = set_of nat_cmp xs } ∷ []) lent in
-    let count : c.len.result ≡ length (pin_numbers shape c.in-Some.line) = c.len.ensures ∙ sym c.as_slice.ensures.len ∙ ap length lent ∙ c.in_ok-weight.ensures.count in
+    let count : c.len.result ≡ length (pin_numbers shape c.in-Some.line) = c.len.ensures ∙ sym c.as_slice.ensures.len ∙ ap length lent ∙
+    c.in_ok-weight.ensures.count in
     let size : c.len.result ≡ length pins = count ∙ sym c.in_ok-weight.ensures.count in
     let fewer : length (set_of nat_cmp pins) ≤ length pins = length-set_of-le nat_cmp pins in
     let light : weight < 2 ^ 32 = c.in_ok-weight.ensures.weight in
@@ -61,7 +63,9 @@ loop-preserved c =
     record {
       read = ap (λ (es : List Net). with_front es (each (net_in shape) (with_pins_before shape (before + c.len.result) rest))) pushed
           ∙ ap (λ (k : ℕ). with_front (nets ++ net ∷ []) (each (net_in shape) (with_pins_before shape (before + k) rest))) count
-          ∙ sym (front_ok (net_in shape) nets (before, c.in-Some.line) (with_pins_before shape (before + length (pin_numbers shape c.in-Some.line)) rest) net c.in_ok-weight.ensures.net)
+          ∙ sym (front_ok (net_in shape) nets (before, c.in-Some.line) (with_pins_before shape (before + length (pin_numbers shape c.in-Some.line)) rest)
+          net
+          c.in_ok-weight.ensures.net)
           ∙ sym (ap (λ (ls : List Line). with_front nets (each (net_in shape) (with_pins_before shape before ls))) now)
           ∙ c.loop.invariant.read;
       kept = drop_rest kept i c.in-Some.line later first;
@@ -71,6 +75,13 @@ loop-preserved c =
       pins = omega (arith, ap (total (λ e. length e.pins)) pushed, total_push (λ e. length e.pins) nets net);
       limit = omega (arith, c.in_ok-weight.ensures.limit);
       net_weight = omega (arith, ap (total (λ e. e.weight)) pushed, total_push (λ e. e.weight) nets net);
-      pin_weight = omega (arith, ap (total (λ e. e.weight * length e.pins)) pushed, total_push (λ e. e.weight * length e.pins) nets net, product_le weight (length (set_of nat_cmp pins)) (length pins) light fewer);
-      others = nets_twice c.args.hyper.now c.loop.hyper c.push_net.new.self (nets ++ record { weight = weight; pins = set_of nat_cmp c.as_slice.result.now } ∷ []) c.loop.invariant.others c.in_ok-push_net.ensures.ok;
+      pin_weight = omega (
+        arith,
+        ap (total (λ e. e.weight * length e.pins)) pushed,
+        total_push (λ e. e.weight * length e.pins) nets net,
+        product_le weight (length (set_of nat_cmp pins)) (length pins) light fewer,
+      );
+      others = nets_twice c.args.hyper.now c.loop.hyper c.push_net.new.self
+          (nets ++ record { weight = weight; pins = set_of nat_cmp c.as_slice.result.now } ∷
+          []) c.loop.invariant.others c.in_ok-push_net.ensures.ok;
     }

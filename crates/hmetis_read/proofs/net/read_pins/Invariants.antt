@@ -8,7 +8,8 @@ use Rattle.hmetis_read.proofs.net.read_pins.Given as goal
 abbrev pub invariant-loop-number : goal.invariant-loop-number
 invariant-loop-number l =
     record {
-      read : with_front l.pins.items (each (pin_in l.vertices l.line.number) (enumerate_from (l.before + length l.pins.items) (map number_of l.line.fields)))
+      read : with_front l.pins.items (each (pin_in l.vertices l.line.number) (enumerate_from (l.before + length l.pins.items)
+          (map number_of l.line.fields)))
           ≡ each (pin_in l.vertices l.fn.line.number) (enumerate_from l.before (map number_of l.fn.line.fields));
       line : l.line.number ≡ l.fn.line.number;
       vertices : All (λ pin. pin < l.vertices) l.pins.items;

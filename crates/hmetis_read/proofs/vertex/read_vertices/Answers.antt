@@ -39,5 +39,6 @@ loop-vertex-preserved c =
       weights = All-same (λ v. v < 2 ^ 32) c.set_vertex_weight.new.self.weights (set ws i w) written
           (All-set (λ v. v < 2 ^ 32) ws i w c.in_ok-read_vertex.ensures.bound c.loop-vertex.invariant.weights);
       size = ap length written ∙ length-set ws i w ∙ c.loop-vertex.invariant.size;
-      others = weights_twice c.args.hyper.now c.loop-vertex.hyper c.set_vertex_weight.new.self (set ws i w) c.loop-vertex.invariant.others c.set_vertex_weight.ensures.value;
+      others = weights_twice c.args.hyper.now c.loop-vertex.hyper c.set_vertex_weight.new.self (set ws i w) c.loop-vertex.invariant.others
+          c.set_vertex_weight.ensures.value;
     }

@@ -31,7 +31,8 @@ streams-init g c =
       blocks = omega (arith, c.requires.some);
       listed = heaviest_first-lists_free h;
     } in
-    let placed = tried_same c.flat.result.now h k l (heaviest_first c.flat.result.now) (heaviest_first h) c.flat.ensures (ap heaviest_first c.flat.ensures) ready
+    let placed = tried_same c.flat.result.now h k l (heaviest_first c.flat.result.now) (heaviest_first h) c.flat.ensures (ap heaviest_first c.flat.ensures)
+    ready
     c.greedy.result c.greedy.ensures.ok c.greedy.ensures.fits c.greedy.ensures.cause in
     c.in_ok-consider.ensures l [] (greedy h k) start placed
 
@@ -47,18 +48,23 @@ streams-preserved g c =
       blocks = omega (arith, c.requires.some);
       listed = drawn_order-lists_free h c.args.seed c.streams.stream;
     } in
-    let placed = tried_same c.flat-in-streams.result.now h k l c.as_slice.result.now order c.flat-in-streams.ensures (c.as_slice.ensures.value ∙ c.in_ok-order.ensures.order) ready
+    let placed = tried_same c.flat-in-streams.result.now h k l c.as_slice.result.now order c.flat-in-streams.ensures (c.as_slice.ensures.value ∙
+    c.in_ok-order.ensures.order) ready
     c.least_loaded.result c.least_loaded.ensures.ok c.least_loaded.ensures.fits c.least_loaded.ensures.cause in
-    let more = c.in_ok-consider-2.ensures l (greedy h k ∷ drawn_upto h k c.args.seed c.streams.stream) (least_loaded h k order) c.streams.invariant placed in
-    subst (λ (ps : List (List ℕ)). Leads h k l (greedy h k ∷ ps) c.consider-in-streams.new.self) (sym (drawn_next h k c.args.seed c.streams.stream c.streams-test.true)) more
+    let more = c.in_ok-consider-2.ensures l (greedy h k ∷ drawn_upto h k c.args.seed c.streams.stream) (least_loaded h k order) c.streams.invariant
+    placed in
+    subst (λ (ps : List (List ℕ)). Leads h k l (greedy h k ∷ ps) c.consider-in-streams.new.self)
+    (sym (drawn_next h k c.args.seed c.streams.stream c.streams-test.true)) more
 
 pub returns-clause-best : goal.returns-clause-best
 returns-clause-best g c =
     let h = c.args.h.now in
     let k = c.args.k in
     let l = c.args.limit in
-    let led = subst (λ (ps : List (List ℕ)). Leads h k l ps c.streams.leader) (drawn_all h k c.args.seed c.streams.stream c.streams-test.false) c.streams.invariant in
-    let is : c.ok_or.result ≡ ok_or c.streams.leader.blocks NoneFits = c.ok_or.ensures.value ∙ ap (λ (o : Option (List ℕ)). ok_or o NoneFits) c.into_blocks.ensures in
+    let led = subst (λ (ps : List (List ℕ)). Leads h k l ps c.streams.leader) (drawn_all h k c.args.seed c.streams.stream c.streams-test.false)
+    c.streams.invariant in
+    let is : c.ok_or.result ≡ ok_or c.streams.leader.blocks NoneFits = c.ok_or.ensures.value ∙ ap (λ (o : Option (List ℕ)). ok_or o NoneFits)
+    c.into_blocks.ensures in
     subst (λ (r : Result (List ℕ) PlaceEnd). IfOk r (λ p. first_cheapest h k l (named h k c.args.seed) ≡ Some p)) (sym is)
     (best_of h k l (named h k c.args.seed) c.streams.leader.blocks led.first)
 
@@ -67,8 +73,10 @@ returns-clause-none g c e =
     let h = c.args.h.now in
     let k = c.args.k in
     let l = c.args.limit in
-    let led = subst (λ (ps : List (List ℕ)). Leads h k l ps c.streams.leader) (drawn_all h k c.args.seed c.streams.stream c.streams-test.false) c.streams.invariant in
-    let is : c.ok_or.result ≡ ok_or c.streams.leader.blocks NoneFits = c.ok_or.ensures.value ∙ ap (λ (o : Option (List ℕ)). ok_or o NoneFits) c.into_blocks.ensures in
+    let led = subst (λ (ps : List (List ℕ)). Leads h k l ps c.streams.leader) (drawn_all h k c.args.seed c.streams.stream c.streams-test.false)
+    c.streams.invariant in
+    let is : c.ok_or.result ≡ ok_or c.streams.leader.blocks NoneFits = c.ok_or.ensures.value ∙ ap (λ (o : Option (List ℕ)). ok_or o NoneFits)
+    c.into_blocks.ensures in
     none_of h k l (named h k c.args.seed) c.streams.leader.blocks led.first (sym is ∙ e)
 
 pub returns-clause-partition : goal.returns-clause-partition

@@ -36,4 +36,5 @@ loop-v-preserved c =
     (pairs, next)
 
 pub returns : goal.returns
-returns c = c.loop-v.invariant.0 ∙ draws_all c.args.h.now c.args.seed c.args.stream c.loop-v.v (omega (arith, c.loop-v-test.false, c.vertices-v-end.ensures.count))
+returns c = c.loop-v.invariant.0 ∙ draws_all c.args.h.now c.args.seed c.args.stream c.loop-v.v
+    (omega (arith, c.loop-v-test.false, c.vertices-v-end.ensures.count))

@@ -15,8 +15,11 @@ loop-pass-preserved c =
     let at : p ≡ get_or ps i p = search rules in
     let items = c.in_ok-extend_from_slice.ensures.items in
     record {
-      moves = gathered_more (λ (d : Done). d.action) (λ (q : RacedPass). q.view.account.moves) c.loop-pass.done.items c.done.result.now c.extend_from_slice.new.self.items ps i p items c.loop-pass.invariant.moves c.done.ensures.moves at l;
-      numbers = gathered_more (λ (d : Done). d.number) (λ (q : RacedPass). q.view.account.numbers) c.loop-pass.done.items c.done.result.now c.extend_from_slice.new.self.items ps i p items c.loop-pass.invariant.numbers c.done.ensures.numbers at l;
-      gains = gains_more c.loop-pass.gains.items c.push.new.self.items ps i p c.in_ok-push.ensures.items c.loop-pass.invariant.gains (to_z-of_z w64 c.gain.result (search rules) ∙ c.gain.ensures) at l;
+      moves = gathered_more (λ (d : Done). d.action) (λ (q : RacedPass). q.view.account.moves) c.loop-pass.done.items c.done.result.now
+          c.extend_from_slice.new.self.items ps i p items c.loop-pass.invariant.moves c.done.ensures.moves at l;
+      numbers = gathered_more (λ (d : Done). d.number) (λ (q : RacedPass). q.view.account.numbers) c.loop-pass.done.items c.done.result.now
+          c.extend_from_slice.new.self.items ps i p items c.loop-pass.invariant.numbers c.done.ensures.numbers at l;
+      gains = gains_more c.loop-pass.gains.items c.push.new.self.items ps i p c.in_ok-push.ensures.items c.loop-pass.invariant.gains
+          (to_z-of_z w64 c.gain.result (search rules) ∙ c.gain.ensures) at l;
       kept = kept_more ps i p at l c.done.ensures.kept c.loop-pass.invariant.kept;
     }

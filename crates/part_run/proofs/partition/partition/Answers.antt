@@ -38,8 +38,10 @@ pub returns-in_err-deliver-clause-answer : goal.returns-in_err-deliver-clause-an
 returns-in_err-deliver-clause-answer g c =
     let s = c.in_err-deliver.field-0.0 in
     let p = partitioning_of c.args.p.now in
-    let old = outputs_of (port_of (g.K.Sink.got c.args.out.now) (g.K.Sink.faults c.args.out.now) (g.K.Sink.held c.args.out.now)) (port_of (g.R.Sink.got c.args.report.now) (g.R.Sink.faults c.args.report.now) (g.R.Sink.held c.args.report.now)) in
-    let new = outputs_of (port_of (g.K.Sink.got c.deliver.new.out) (g.K.Sink.faults c.deliver.new.out) (g.K.Sink.held c.deliver.new.out)) (port_of (g.R.Sink.got c.deliver.new.report) (g.R.Sink.faults c.deliver.new.report) (g.R.Sink.held c.deliver.new.report)) in
+    let old = outputs_of (port_of (g.K.Sink.got c.args.out.now) (g.K.Sink.faults c.args.out.now) (g.K.Sink.held c.args.out.now))
+    (port_of (g.R.Sink.got c.args.report.now) (g.R.Sink.faults c.args.report.now) (g.R.Sink.held c.args.report.now)) in
+    let new = outputs_of (port_of (g.K.Sink.got c.deliver.new.out) (g.K.Sink.faults c.deliver.new.out) (g.K.Sink.held c.deliver.new.out))
+    (port_of (g.R.Sink.got c.deliver.new.report) (g.R.Sink.faults c.deliver.new.report) (g.R.Sink.held c.deliver.new.report)) in
     let same_blocks : c.blocks-2.result.now ≡ c.in_ok-partition.partition.blocks = c.blocks-2.ensures.value in
     passed_on _ _ c.from_residual-in_err-deliver.result s c.from_residual-in_err-deliver.ensures.1
     (inr (inr (record {
@@ -48,6 +50,8 @@ returns-in_err-deliver-clause-answer g c =
       accepted = c.in_ok-flat.ensures.answer;
       result = subst (λ (h : Hyper). IsResult p h c.in_ok-partition.partition.blocks) c.in_ok-h.ensures c.in_ok-partition.ensures.answer;
       cause =
-          subst (λ (h : Hyper). IsWriteRefusal old new (part_text c.in_ok-partition.partition.blocks) (report_for p h c.in_ok-partition.partition.blocks) s) (c.flat.ensures ∙ c.in_ok-h.ensures)
-          (subst (λ (blocks : List ℕ). IsWriteRefusal old new (part_text blocks) (report_for p c.flat.result.now blocks) s) same_blocks c.in_err-deliver.ensures.answer);
+          subst (λ (h : Hyper). IsWriteRefusal old new (part_text c.in_ok-partition.partition.blocks) (report_for p h c.in_ok-partition.partition.blocks) s)
+          (c.flat.ensures ∙ c.in_ok-h.ensures)
+          (subst (λ (blocks : List ℕ). IsWriteRefusal old new (part_text blocks) (report_for p c.flat.result.now blocks) s) same_blocks
+          c.in_err-deliver.ensures.answer);
     })))

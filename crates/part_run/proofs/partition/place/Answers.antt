@@ -6,5 +6,6 @@ use Rattle.part_run.proofs.partition.place.Goals as goal
 pub overflow_add-result : goal.overflow_add-result
 overflow_add-result c =
     let below : c.in-Err-Overfills.vertex < vertex_count c.args.h.now =
-    unplaced_below c.args.h.now c.args.p.now.balance.k c.args.limit c.in-Err-Overfills.vertex c.requires.sound c.requires.fixed (omega arith) (rw c.in-Err-Overfills.field-0-is at c.in-Err-Overfills.ensures.cause) in
+    unplaced_below c.args.h.now c.args.p.now.balance.k c.args.limit c.in-Err-Overfills.vertex c.requires.sound c.requires.fixed (omega arith)
+    (rw c.in-Err-Overfills.field-0-is at c.in-Err-Overfills.ensures.cause) in
     omega (arith, c.requires.bounds.vertices)

@@ -9,7 +9,8 @@ returns-in_err-write-clause-bytes g c =
 
 pub returns-in_err-put_number-clause-bytes : goal.returns-in_err-put_number-clause-bytes
 returns-in_err-put_number-clause-bytes g c =
-    exit c.from_residual-in_err-put_number.result c.from_residual-in_err-put_number.ensures.0 (cut (codes "\n") (wrote c.in_ok-write.ensures.bytes (rw c.from.ensures at c.in_err-put_number.ensures.bytes)))
+    exit c.from_residual-in_err-put_number.result c.from_residual-in_err-put_number.ensures.0
+    (cut (codes "\n") (wrote c.in_ok-write.ensures.bytes (rw c.from.ensures at c.in_err-put_number.ensures.bytes)))
 
 pub returns-clause-bytes : goal.returns-clause-bytes
 returns-clause-bytes g c = wrote (wrote c.in_ok-write.ensures.bytes (rw c.from.ensures at c.in_ok-put_number.ensures.bytes)) c.write-2.ensures.bytes

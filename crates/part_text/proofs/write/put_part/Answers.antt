@@ -10,7 +10,8 @@ returns-in_err-put_all-clause-bytes g c =
     let room = c.write_lines-start.new.room in
     let start = c.write_lines-start.result in
     let front : take (4092 - start) (drop start room) ≡ text_of_part (take c.min.result c.pieces.rest.now) =
-    take_all (4092 - start) (drop start room) (omega (arith, length-drop start room)) ∙ c.write_lines-start.ensures.text ∙ ap text_of_part c.split_at.ensures.front in
+    take_all (4092 - start) (drop start room) (omega (arith, length-drop start room)) ∙ c.write_lines-start.ensures.text ∙
+    ap text_of_part c.split_at.ensures.front in
     let whole = before.1.1 ∙ ap (λ (l : List ℕ). before.0 ++ l) (part_text-split c.pieces.rest.now _ c.min.result front) in
     piece-failed c.from_residual.result _ _ _ before.0 _ _ _ c.from_residual.ensures.0 before.1.0 c.in_err-put_all.ensures.bytes.err whole
 
@@ -21,6 +22,14 @@ pieces-preserved g c =
     let start = c.write_lines-start.result in
     let piece = take (4092 - start) (drop start room) in
     let front : piece ≡ text_of_part (take c.min.result c.pieces.rest.now) =
-    take_all (4092 - start) (drop start room) (omega (arith, length-drop start room)) ∙ c.write_lines-start.ensures.text ∙ ap text_of_part c.split_at.ensures.front in
-    let whole = before.1.1 ∙ ap (λ (l : List ℕ). before.0 ++ l) (part_text-split c.pieces.rest.now _ c.min.result front ∙ ap (λ (l : List ℕ). piece ++ text_of_part l) (sym c.split_at.ensures.back)) in
-    (before.0 ++ piece, (Appends-trans _ _ _ before.0 piece before.1.0 c.in_ok-put_all.ensures.bytes.ok, whole ∙ sym (append_assoc before.0 piece _), c.in_ok-put_all.ensures.cause.kept ∙ before.1.2))
+    take_all (4092 - start) (drop start room) (omega (arith, length-drop start room)) ∙ c.write_lines-start.ensures.text ∙
+    ap text_of_part c.split_at.ensures.front in
+    let whole = before.1.1 ∙ ap (λ (l : List ℕ). before.0 ++ l) (part_text-split c.pieces.rest.now _ c.min.result front ∙
+    ap (λ (l : List ℕ). piece ++ text_of_part l) (sym c.split_at.ensures.back)) in (
+      before.0 ++ piece,
+      (
+        Appends-trans _ _ _ before.0 piece before.1.0 c.in_ok-put_all.ensures.bytes.ok,
+        whole ∙ sym (append_assoc before.0 piece _),
+        c.in_ok-put_all.ensures.cause.kept ∙ before.1.2,
+      ),
+    )

@@ -5,7 +5,8 @@ use Rattle.part_text.proofs.write.put_part.Given as goal
 
 abbrev pub invariant-pieces : goal.invariant-pieces
 invariant-pieces g l = (done : List ℕ)
-    × (Appends (g.K.Sink.got l.fn.sink) (g.K.Sink.got l.sink) done × (text_of_part l.blocks ≡ done ++ text_of_part l.rest) × (g.K.Sink.faults l.sink ≡ g.K.Sink.faults l.fn.sink))
+    × (Appends (g.K.Sink.got l.fn.sink) (g.K.Sink.got l.sink) done × (text_of_part l.blocks ≡ done ++ text_of_part l.rest) ×
+    (g.K.Sink.faults l.sink ≡ g.K.Sink.faults l.fn.sink))
 
 abbrev pub decreases-pieces : goal.decreases-pieces
 decreases-pieces g l = length l.rest

@@ -9,8 +9,10 @@ use Rattle.part_text.proofs.write.write_lines.Goals as goal
 pub write_digits-start-requires : goal.write_digits-start-requires
 write_digits-start-requires c =
     let small : c.from.result < 2 ^ 32 = omega arith in
-    let one_less = ap length c.in-Some.ensures.steps in
-    (omega (arith, decimal-short c.from.result small, one_less, length-append (iter_rest (rev_source c.next.new.self)) (c.in-Some.block.now ∷ [])), omega (arith, length-set c.lines.room (c.lines.start - 1) 10))
+    let one_less = ap length c.in-Some.ensures.steps in (
+      omega (arith, decimal-short c.from.result small, one_less, length-append (iter_rest (rev_source c.next.new.self)) (c.in-Some.block.now ∷ [])),
+      omega (arith, length-set c.lines.room (c.lines.start - 1) 10),
+    )
 
 pub lines-preserved : goal.lines-preserved
 lines-preserved c =
@@ -20,5 +22,15 @@ lines-preserved c =
     let steps = c.in-Some.ensures.steps in
     let one_less = ap length steps in
     let written = c.write_digits-start.ensures.written ∙ ap (λ (n : ℕ). decimal n ++ drop (start - 1) (set room (start - 1) 10)) c.from.ensures in
-    let before = c.lines.invariant.0 ∙ ap (λ (xs : List ℕ). part_text xs ++ drop start room) steps in
-    (part_text-line _ _ room _ _ start before (omega (arith, one_less, length-append (iter_rest (rev_source c.next.new.self)) (c.in-Some.block.now ∷ []))) c.lines.invariant.2 written, omega (arith, decimal-short c.from.result small, one_less, length-append (iter_rest (rev_source c.next.new.self)) (c.in-Some.block.now ∷ [])), omega (arith, length-set room (start - 1) 10))
+    let before = c.lines.invariant.0 ∙ ap (λ (xs : List ℕ). part_text xs ++ drop start room) steps in (
+      part_text-line _ _ room _ _ start before (omega (arith, one_less, length-append (iter_rest (rev_source c.next.new.self)) (c.in-Some.block.now ∷ [])))
+          c.lines.invariant.2 written,
+      omega (
+        arith,
+        decimal-short c.from.result small,
+        one_less,
+        length-append (iter_rest (rev_source c.next.new.self))
+            (c.in-Some.block.now ∷ []),
+      ),
+      omega (arith, length-set room (start - 1) 10),
+    )

@@ -15,7 +15,8 @@ count_net-requires-clause-inside c i d l =
     let h = c.args.h.now in
     let bits : c.bits_of.result ≡ net_bits h c.loop-e.e = c.bits_of.ensures.value ∙ ap (λ ps. bits_of (length ps)) c.pins-pins.ensures.value in
     let inside =
-    part_inside h c.args.k c.args.starts.now c.args.words.now c.loop-e.e (get_or c.args.blocks.now i d) (slice_index c.args.starts.now c.loop-e.e) c.bits_of.result c.requires.laid (omega arith)
+    part_inside h c.args.k c.args.starts.now c.args.words.now c.loop-e.e (get_or c.args.blocks.now i d) (slice_index c.args.starts.now c.loop-e.e)
+    c.bits_of.result c.requires.laid (omega arith)
     (c.requires.parted.partition.blocks i d l) (c.requires.laid.starts_at c.loop-e.e (omega arith)) bits in
     omega arith
 
@@ -23,6 +24,7 @@ pub loop-e-preserved : goal.loop-e-preserved
 loop-e-preserved c =
     let h = c.args.h.now in
     let bits : c.bits_of.result ≡ net_bits h c.loop-e.e = c.bits_of.ensures.value ∙ ap (λ ps. bits_of (length ps)) c.pins-pins.ensures.value in
-    counted_net h c.args.k c.args.blocks.now c.loop-e.words c.count_net.new.words c.loop-e.e (slice_index c.args.starts.now c.loop-e.e) c.bits_of.result c.pins-pins.result.now
+    counted_net h c.args.k c.args.blocks.now c.loop-e.words c.count_net.new.words c.loop-e.e (slice_index c.args.starts.now c.loop-e.e) c.bits_of.result
+    c.pins-pins.result.now
     (c.requires.laid.starts_at c.loop-e.e (omega arith)) bits c.pins-pins.ensures.value (omega arith) c.requires.parted.partition.blocks
     c.count_net.ensures.counts c.count_net.ensures.others c.loop-e.invariant

@@ -15,7 +15,8 @@ lower-requires-clause-inside c =
     let blocks = c.requires.parted.partition in
     let vertex = c.requires.vertex in
     let inside =
-    part_inside h c.args.k c.args.starts.now c.args.words.now e (slice_index c.args.blocks.now c.args.v) (slice_index c.args.starts.now e) c.bits_of-bits.result c.requires.laid net
+    part_inside h c.args.k c.args.starts.now c.args.words.now e (slice_index c.args.blocks.now c.args.v) (slice_index c.args.starts.now e)
+    c.bits_of-bits.result c.requires.laid net
     (blocks.blocks c.args.v 0 (let long = blocks.vertices in omega arith)) (c.requires.laid.starts_at e net) bits in
     omega arith
 
@@ -31,8 +32,10 @@ lower-requires-clause-held c =
     let e = slice_index c.nets_of-e-items.result.now c.loop-e.e-index in
     let net = c.nets_of-e-items.ensures.below c.loop-e.e-index 0 c.loop-e-test.true in
     let bits : c.bits_of-bits.result ≡ net_bits h e = c.bits_of-bits.ensures.value ∙ ap (λ ps. bits_of (length ps)) c.pins.ensures.value in
-    pin_held h c.args.k c.args.blocks.now c.args.v c.args.to e c.loop-e.e-index c.nets_of-e-items.result.now c.requires.parted.sound c.requires.parted.partition c.requires.vertex c.requires.block
-    c.requires.other c.nets_of-e-items.ensures.value c.loop-e-test.true refl c.loop-e.words (slice_index c.args.starts.now e) c.bits_of-bits.result (c.requires.laid.starts_at e net) bits c.loop-e.invariant
+    pin_held h c.args.k c.args.blocks.now c.args.v c.args.to e c.loop-e.e-index c.nets_of-e-items.result.now c.requires.parted.sound
+    c.requires.parted.partition c.requires.vertex c.requires.block
+    c.requires.other c.nets_of-e-items.ensures.value c.loop-e-test.true refl c.loop-e.words (slice_index c.args.starts.now e) c.bits_of-bits.result
+    (c.requires.laid.starts_at e net) bits c.loop-e.invariant
 
 pub raise-requires-clause-inside : goal.raise-requires-clause-inside
 raise-requires-clause-inside c =
@@ -41,7 +44,8 @@ raise-requires-clause-inside c =
     let net = c.nets_of-e-items.ensures.below c.loop-e.e-index 0 c.loop-e-test.true in
     let bits : c.bits_of-bits.result ≡ net_bits h e = c.bits_of-bits.ensures.value ∙ ap (λ ps. bits_of (length ps)) c.pins.ensures.value in
     let inside =
-    part_inside h c.args.k c.args.starts.now c.args.words.now e c.args.to (slice_index c.args.starts.now e) c.bits_of-bits.result c.requires.laid net c.requires.block
+    part_inside h c.args.k c.args.starts.now c.args.words.now e c.args.to (slice_index c.args.starts.now e) c.bits_of-bits.result c.requires.laid net
+    c.requires.block
     (c.requires.laid.starts_at e net) bits in
     omega arith
 
@@ -57,8 +61,10 @@ raise-requires-clause-room c =
     let e = slice_index c.nets_of-e-items.result.now c.loop-e.e-index in
     let net = c.nets_of-e-items.ensures.below c.loop-e.e-index 0 c.loop-e-test.true in
     let bits : c.bits_of-bits.result ≡ net_bits h e = c.bits_of-bits.ensures.value ∙ ap (λ ps. bits_of (length ps)) c.pins.ensures.value in
-    pin_room h c.args.k c.args.blocks.now c.args.v c.args.to e c.loop-e.e-index c.nets_of-e-items.result.now c.requires.parted.sound c.requires.parted.partition c.requires.vertex c.requires.block
-    c.requires.other c.nets_of-e-items.ensures.value c.loop-e-test.true refl c.loop-e.words (slice_index c.args.starts.now e) c.bits_of-bits.result (c.requires.laid.starts_at e net) bits c.loop-e.invariant
+    pin_room h c.args.k c.args.blocks.now c.args.v c.args.to e c.loop-e.e-index c.nets_of-e-items.result.now c.requires.parted.sound
+    c.requires.parted.partition c.requires.vertex c.requires.block
+    c.requires.other c.nets_of-e-items.ensures.value c.loop-e-test.true refl c.loop-e.words (slice_index c.args.starts.now e) c.bits_of-bits.result
+    (c.requires.laid.starts_at e net) bits c.loop-e.invariant
     c.lower.new.words c.lower.ensures.counts (subst (λ ps. length ps ≤ 2 ^ 25) c.pins.ensures.value c.pins.ensures.few)
 
 pub loop-e-preserved : goal.loop-e-preserved
@@ -67,8 +73,10 @@ loop-e-preserved c =
     let e = slice_index c.nets_of-e-items.result.now c.loop-e.e-index in
     let net = c.nets_of-e-items.ensures.below c.loop-e.e-index 0 c.loop-e-test.true in
     let bits : c.bits_of-bits.result ≡ net_bits h e = c.bits_of-bits.ensures.value ∙ ap (λ ps. bits_of (length ps)) c.pins.ensures.value in
-    pin_moved h c.args.k c.args.blocks.now c.args.v c.args.to e c.loop-e.e-index c.nets_of-e-items.result.now c.requires.parted.sound c.requires.parted.partition c.requires.vertex c.requires.block
-    c.requires.other c.nets_of-e-items.ensures.value c.loop-e-test.true refl c.loop-e.words (slice_index c.args.starts.now e) c.bits_of-bits.result (c.requires.laid.starts_at e net) bits c.loop-e.invariant
+    pin_moved h c.args.k c.args.blocks.now c.args.v c.args.to e c.loop-e.e-index c.nets_of-e-items.result.now c.requires.parted.sound
+    c.requires.parted.partition c.requires.vertex c.requires.block
+    c.requires.other c.nets_of-e-items.ensures.value c.loop-e-test.true refl c.loop-e.words (slice_index c.args.starts.now e) c.bits_of-bits.result
+    (c.requires.laid.starts_at e net) bits c.loop-e.invariant
     c.lower.new.words c.lower.ensures.counts c.raise.new.words c.lower.ensures.others c.raise.ensures.counts c.raise.ensures.others
 
 pub returns : goal.returns

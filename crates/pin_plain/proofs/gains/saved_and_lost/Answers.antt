@@ -11,17 +11,22 @@ use Rattle.pin_plain.proofs.gains.saved_and_lost.Goals as goal
 
 pub count-requires-clause-inside : goal.count-requires-clause-inside
 count-requires-clause-inside c =
-    told_inside c.args.lent.now.h.now c.args.lent.now.k c.args.lent.now.blocks.now c.args.lent.now.starts.now c.args.lent.now.words.now c.args.lent.now.told (slice_index c.nets_of-e-items.result.now c.loop-e.e-index) 0 c.bits_of-bits.result c.pins.result.now
+    told_inside c.args.lent.now.h.now c.args.lent.now.k c.args.lent.now.blocks.now c.args.lent.now.starts.now c.args.lent.now.words.now c.args.lent.now.told
+    (slice_index c.nets_of-e-items.result.now c.loop-e.e-index) 0 c.bits_of-bits.result c.pins.result.now
     (c.nets_of-e-items.ensures.below c.loop-e.e-index 0 c.loop-e-test.true) c.pins.ensures.value c.bits_of-bits.ensures.value c.args.to c.requires.block
 
 pub count-requires-clause-few : goal.count-requires-clause-few
-count-requires-clause-few c = told_few c.args.lent.now.h.now c.args.lent.now.k c.args.lent.now.blocks.now c.args.lent.now.starts.now c.args.lent.now.words.now c.args.lent.now.told
+count-requires-clause-few c = told_few c.args.lent.now.h.now c.args.lent.now.k c.args.lent.now.blocks.now c.args.lent.now.starts.now
+    c.args.lent.now.words.now
+    c.args.lent.now.told
 
 pub saved-requires : goal.saved-requires
 saved-requires c =
     let e = slice_index c.nets_of-e-items.result.now c.loop-e.e-index in
     let now =
-    told_count c.args.lent.now.h.now c.args.lent.now.k c.args.lent.now.blocks.now c.args.lent.now.starts.now c.args.lent.now.words.now c.args.lent.now.told e 0 c.bits_of-bits.result c.pins.result.now
+    told_count c.args.lent.now.h.now c.args.lent.now.k c.args.lent.now.blocks.now c.args.lent.now.starts.now c.args.lent.now.words.now c.args.lent.now.told
+    e 0
+    c.bits_of-bits.result c.pins.result.now
     (c.nets_of-e-items.ensures.below c.loop-e.e-index 0 c.loop-e-test.true) c.pins.ensures.value c.bits_of-bits.ensures.value c.args.to c.requires.block in
     let few = pins_in-le c.args.lent.now.blocks.now (net_of c.args.lent.now.h.now e).pins c.args.to in
     let same = ap length c.pins.ensures.value in
@@ -33,10 +38,14 @@ overflow_add-up c =
     let h = c.args.lent.now.h.now in
     let e = slice_index c.nets_of-e-items.result.now c.loop-e.e-index in
     let now =
-    told_count h c.args.lent.now.k c.args.lent.now.blocks.now c.args.lent.now.starts.now c.args.lent.now.words.now c.args.lent.now.told e 0 c.bits_of-bits.result c.pins.result.now
+    told_count h c.args.lent.now.k c.args.lent.now.blocks.now c.args.lent.now.starts.now c.args.lent.now.words.now c.args.lent.now.told e 0
+    c.bits_of-bits.result c.pins.result.now
     (c.nets_of-e-items.ensures.below c.loop-e.e-index 0 c.loop-e-test.true) c.pins.ensures.value c.bits_of-bits.ensures.value c.args.to c.requires.block in
-    let one = saved_is h c.args.lent.now.blocks.now c.args.to e _ _ _ _ _ c.net_weight-weight.ensures.value c.objective-objective.ensures (c.count.ensures.value ∙ now) (ap length c.pins.ensures.value) c.saved.ensures.value in
-    let bound = saved_so_far h c.args.lent.now.blocks.now c.args.to c.args.v c.loop-e.e-index c.nets_of-e-items.result.now c.args.lent.now.told.parted.bounds c.nets_of-e-items.ensures.value c.loop-e-test.true in
+    let one = saved_is h c.args.lent.now.blocks.now c.args.to e _ _ _ _ _ c.net_weight-weight.ensures.value c.objective-objective.ensures
+    (c.count.ensures.value ∙ now) (ap length c.pins.ensures.value) c.saved.ensures.value in
+    let bound = saved_so_far h c.args.lent.now.blocks.now c.args.to c.args.v c.loop-e.e-index c.nets_of-e-items.result.now
+    c.args.lent.now.told.parted.bounds
+    c.nets_of-e-items.ensures.value c.loop-e-test.true in
     let up = c.loop-e.invariant.up in
     omega arith
 
@@ -45,11 +54,14 @@ count-requires-in-loop-e-clause-inside c =
     let whole = c.args.lent.now.told.parted.partition in
     let long = whole.vertices in
     let vertex = c.requires.vertex in
-    told_inside c.args.lent.now.h.now c.args.lent.now.k c.args.lent.now.blocks.now c.args.lent.now.starts.now c.args.lent.now.words.now c.args.lent.now.told (slice_index c.nets_of-e-items.result.now c.loop-e.e-index) 0 c.bits_of-bits.result c.pins.result.now
-    (c.nets_of-e-items.ensures.below c.loop-e.e-index 0 c.loop-e-test.true) c.pins.ensures.value c.bits_of-bits.ensures.value (block_of c.args.lent.now.blocks.now c.args.v) (whole.blocks c.args.v 0 (omega arith))
+    told_inside c.args.lent.now.h.now c.args.lent.now.k c.args.lent.now.blocks.now c.args.lent.now.starts.now c.args.lent.now.words.now c.args.lent.now.told
+    (slice_index c.nets_of-e-items.result.now c.loop-e.e-index) 0 c.bits_of-bits.result c.pins.result.now
+    (c.nets_of-e-items.ensures.below c.loop-e.e-index 0 c.loop-e-test.true) c.pins.ensures.value c.bits_of-bits.ensures.value
+    (block_of c.args.lent.now.blocks.now c.args.v) (whole.blocks c.args.v 0 (omega arith))
 
 pub count-requires-in-loop-e-clause-few : goal.count-requires-in-loop-e-clause-few
-count-requires-in-loop-e-clause-few c = told_few c.args.lent.now.h.now c.args.lent.now.k c.args.lent.now.blocks.now c.args.lent.now.starts.now c.args.lent.now.words.now c.args.lent.now.told
+count-requires-in-loop-e-clause-few c = told_few c.args.lent.now.h.now c.args.lent.now.k c.args.lent.now.blocks.now c.args.lent.now.starts.now
+    c.args.lent.now.words.now c.args.lent.now.told
 
 pub overflow_add-down : goal.overflow_add-down
 overflow_add-down c =
@@ -60,10 +72,14 @@ overflow_add-down c =
     let vertex = c.requires.vertex in
     let from = block_of c.args.lent.now.blocks.now c.args.v in
     let now =
-    told_count h c.args.lent.now.k c.args.lent.now.blocks.now c.args.lent.now.starts.now c.args.lent.now.words.now c.args.lent.now.told e 0 c.bits_of-bits.result c.pins.result.now
-    (c.nets_of-e-items.ensures.below c.loop-e.e-index 0 c.loop-e-test.true) c.pins.ensures.value c.bits_of-bits.ensures.value from (whole.blocks c.args.v 0 (omega arith)) in
-    let one = lost_is h c.args.lent.now.blocks.now from e _ _ _ _ _ c.net_weight-weight.ensures.value c.objective-objective.ensures (c.count-in-loop-e.ensures.value ∙ now) (ap length c.pins.ensures.value) c.lost.ensures.value in
-    let bound = lost_so_far h c.args.lent.now.blocks.now from c.args.v c.loop-e.e-index c.nets_of-e-items.result.now c.args.lent.now.told.parted.bounds c.nets_of-e-items.ensures.value c.loop-e-test.true in
+    told_count h c.args.lent.now.k c.args.lent.now.blocks.now c.args.lent.now.starts.now c.args.lent.now.words.now c.args.lent.now.told e 0
+    c.bits_of-bits.result c.pins.result.now
+    (c.nets_of-e-items.ensures.below c.loop-e.e-index 0 c.loop-e-test.true) c.pins.ensures.value c.bits_of-bits.ensures.value from
+    (whole.blocks c.args.v 0 (omega arith)) in
+    let one = lost_is h c.args.lent.now.blocks.now from e _ _ _ _ _ c.net_weight-weight.ensures.value c.objective-objective.ensures
+    (c.count-in-loop-e.ensures.value ∙ now) (ap length c.pins.ensures.value) c.lost.ensures.value in
+    let bound = lost_so_far h c.args.lent.now.blocks.now from c.args.v c.loop-e.e-index c.nets_of-e-items.result.now c.args.lent.now.told.parted.bounds
+    c.nets_of-e-items.ensures.value c.loop-e-test.true in
     let down = c.loop-e.invariant.down in
     omega arith
 
@@ -76,9 +92,12 @@ loop-e-preserved c =
     let vertex = c.requires.vertex in
     let from = block_of c.args.lent.now.blocks.now c.args.v in
     let net = c.nets_of-e-items.ensures.below c.loop-e.e-index 0 c.loop-e-test.true in
-    let read = told_count h c.args.lent.now.k c.args.lent.now.blocks.now c.args.lent.now.starts.now c.args.lent.now.words.now c.args.lent.now.told e 0 c.bits_of-bits.result c.pins.result.now net c.pins.ensures.value c.bits_of-bits.ensures.value in
-    let up = saved_is h c.args.lent.now.blocks.now c.args.to e _ _ _ _ _ c.net_weight-weight.ensures.value c.objective-objective.ensures (c.count.ensures.value ∙ read c.args.to c.requires.block) (ap length c.pins.ensures.value) c.saved.ensures.value in
-    let down = lost_is h c.args.lent.now.blocks.now from e _ _ _ _ _ c.net_weight-weight.ensures.value c.objective-objective.ensures (c.count-in-loop-e.ensures.value ∙ read from (whole.blocks c.args.v 0 (omega arith))) (ap length c.pins.ensures.value) c.lost.ensures.value in
+    let read = told_count h c.args.lent.now.k c.args.lent.now.blocks.now c.args.lent.now.starts.now c.args.lent.now.words.now c.args.lent.now.told e 0
+    c.bits_of-bits.result c.pins.result.now net c.pins.ensures.value c.bits_of-bits.ensures.value in
+    let up = saved_is h c.args.lent.now.blocks.now c.args.to e _ _ _ _ _ c.net_weight-weight.ensures.value c.objective-objective.ensures
+    (c.count.ensures.value ∙ read c.args.to c.requires.block) (ap length c.pins.ensures.value) c.saved.ensures.value in
+    let down = lost_is h c.args.lent.now.blocks.now from e _ _ _ _ _ c.net_weight-weight.ensures.value c.objective-objective.ensures
+    (c.count-in-loop-e.ensures.value ∙ read from (whole.blocks c.args.v 0 (omega arith))) (ap length c.pins.ensures.value) c.lost.ensures.value in
     let more_up = total-take_more (net_saved h c.args.lent.now.blocks.now c.args.to) c.nets_of-e-items.result.now c.loop-e.e-index 0 c.loop-e-test.true in
     let more_down = total-take_more (net_lost h c.args.lent.now.blocks.now from) c.nets_of-e-items.result.now c.loop-e.e-index 0 c.loop-e-test.true in
     record {
@@ -89,7 +108,8 @@ loop-e-preserved c =
 pub returns-clause-saved_bound : goal.returns-clause-saved_bound
 returns-clause-saved_bound c =
     let h = c.args.lent.now.h.now in
-    let all = ap (total (net_saved h c.args.lent.now.blocks.now c.args.to)) (take_all c.loop-e.e-index c.nets_of-e-items.result.now (omega arith) ∙ c.nets_of-e-items.ensures.value) in
+    let all = ap (total (net_saved h c.args.lent.now.blocks.now c.args.to)) (take_all c.loop-e.e-index c.nets_of-e-items.result.now (omega arith) ∙
+    c.nets_of-e-items.ensures.value) in
     let bound = saved_bound h c.args.lent.now.blocks.now c.args.to c.args.v c.args.lent.now.told.parted.bounds in
     let up = c.loop-e.invariant.up in
     omega arith
@@ -98,7 +118,8 @@ pub returns-clause-lost_bound : goal.returns-clause-lost_bound
 returns-clause-lost_bound c =
     let h = c.args.lent.now.h.now in
     let from = block_of c.args.lent.now.blocks.now c.args.v in
-    let all = ap (total (net_lost h c.args.lent.now.blocks.now from)) (take_all c.loop-e.e-index c.nets_of-e-items.result.now (omega arith) ∙ c.nets_of-e-items.ensures.value) in
+    let all = ap (total (net_lost h c.args.lent.now.blocks.now from)) (take_all c.loop-e.e-index c.nets_of-e-items.result.now (omega arith) ∙
+    c.nets_of-e-items.ensures.value) in
     let bound = lost_bound h c.args.lent.now.blocks.now from c.args.v c.args.lent.now.told.parted.bounds in
     let down = c.loop-e.invariant.down in
     omega arith

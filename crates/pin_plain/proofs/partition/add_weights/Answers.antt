@@ -20,8 +20,12 @@ loop-v-preserved c =
     let h = c.args.h.now in
     let long = c.requires.partition.vertices in
     subst
-    (λ (w : ℕ). (b : ℕ) → b < length (slice_set c.loop-v.loads (slice_index c.args.blocks.now c.loop-v.v) (slice_index c.loop-v.loads (slice_index c.args.blocks.now c.loop-v.v) + w))
-    → slice_index (slice_set c.loop-v.loads (slice_index c.args.blocks.now c.loop-v.v) (slice_index c.loop-v.loads (slice_index c.args.blocks.now c.loop-v.v) + w)) b
+    (λ (w : ℕ). (b : ℕ) → b < length (slice_set c.loop-v.loads (slice_index c.args.blocks.now c.loop-v.v)
+    (slice_index c.loop-v.loads (slice_index c.args.blocks.now c.loop-v.v) + w))
+    → slice_index (slice_set c.loop-v.loads (slice_index c.args.blocks.now c.loop-v.v)
+    (slice_index c.loop-v.loads (slice_index c.args.blocks.now c.loop-v.v) +
+    w)) b
     ≡ weight_in (take (c.loop-v.v + 1) h.weights) (take (c.loop-v.v + 1) c.args.blocks.now) b)
     (sym c.vertex_weight.ensures.value)
-    (weight_added h.weights c.args.blocks.now c.loop-v.loads c.loop-v.v (omega arith) (omega arith) (let low = c.requires.partition.blocks c.loop-v.v 0 (omega arith) in omega arith) c.loop-v.invariant)
+    (weight_added h.weights c.args.blocks.now c.loop-v.loads c.loop-v.v (omega arith) (omega arith) (let low = c.requires.partition.blocks c.loop-v.v 0
+    (omega arith) in omega arith) c.loop-v.invariant)

@@ -20,7 +20,8 @@ push_net-requires-clause-all_pins c =
 
 pub push_net-requires-clause-pin_weight : goal.push_net-requires-clause-pin_weight
 push_net-requires-clause-pin_weight c =
-    let none : total (λ (e : Net). e.weight * length e.pins) c.in_ok-flat.flat.nets ≡ 0 = ap (λ (h : Hyper). total (λ (e : Net). e.weight * length e.pins) h.nets) c.in_ok-flat.ensures.value in
+    let none : total (λ (e : Net). e.weight * length e.pins) c.in_ok-flat.flat.nets ≡ 0 = ap (λ (h : Hyper). total (λ (e : Net). e.weight * length e.pins)
+    h.nets) c.in_ok-flat.ensures.value in
     let same = ap length c.as_slice.ensures.value in
     let count : length c.in_ok-pins.pins.items ≡ c.args.vertices = c.in_ok-pins.ensures.count in
     let few = c.requires in

@@ -19,7 +19,8 @@ overflow_add-before g c =
     let o = cost-lt c.args.h.now opening bounds in
     let m = cost-lt c.args.h.now c.args.part.now.blocks bounds in
     let sum = c.sum_of.ensures ∙ ap (total_z (λ (g : ℤ). g)) c.slice.ensures ∙ c.requires.sum in
-    let exact = before_is c.from.result c.sum_of.result (cost c.args.h.now opening) (cost c.args.h.now c.args.part.now.blocks) c.cost-made.result c.from.ensures c.cost-made.ensures.value sum o m in
+    let exact = before_is c.from.result c.sum_of.result (cost c.args.h.now opening) (cost c.args.h.now c.args.part.now.blocks) c.cost-made.result
+    c.from.ensures c.cost-made.ensures.value sum o m in
     let a = c.from.ensures in
     let b = c.cost-made.ensures.value in
     omega (arith, ints)
@@ -32,7 +33,8 @@ overflow_cast-before g c =
     let o = cost-lt c.args.h.now opening bounds in
     let m = cost-lt c.args.h.now c.args.part.now.blocks bounds in
     let sum = c.sum_of.ensures ∙ ap (total_z (λ (g : ℤ). g)) c.slice.ensures ∙ c.requires.sum in
-    let exact = before_is c.from.result c.sum_of.result (cost c.args.h.now opening) (cost c.args.h.now c.args.part.now.blocks) c.cost-made.result c.from.ensures c.cost-made.ensures.value sum o m in
+    let exact = before_is c.from.result c.sum_of.result (cost c.args.h.now opening) (cost c.args.h.now c.args.part.now.blocks) c.cost-made.result
+    c.from.ensures c.cost-made.ensures.value sum o m in
     rw exact (omega (arith, ints), omega (arith, ints))
 
 pub returns-clause-round : goal.returns-clause-round
@@ -43,7 +45,8 @@ returns-clause-round g c =
     let o = cost-lt c.args.h.now opening bounds in
     let m = cost-lt c.args.h.now c.args.part.now.blocks bounds in
     let sum = c.sum_of.ensures ∙ ap (total_z (λ (g : ℤ). g)) c.slice.ensures ∙ c.requires.sum in
-    let exact = before_is c.from.result c.sum_of.result (cost c.args.h.now opening) (cost c.args.h.now c.args.part.now.blocks) c.cost-made.result c.from.ensures c.cost-made.ensures.value sum o m in
+    let exact = before_is c.from.result c.sum_of.result (cost c.args.h.now opening) (cost c.args.h.now c.args.part.now.blocks) c.cost-made.result
+    c.from.ensures c.cost-made.ensures.value sum o m in
     let before = ap nat_abs exact in
     let again = replayed_again c.args.h.now c.args.part.now.k c.args.part.now.blocks c.args.moves whole c.requires.stands in
     record {
@@ -58,7 +61,8 @@ returns-clause-round g c =
         before = before;
         made = c.cost-made.ensures.value ∙ ap (cost c.args.h.now) (sym again);
         fits = subst (Fits c.args.h.now c.args.part.now.k c.args.part.now.limit) (sym again) c.requires.fits;
-        kept = c.in_ok-kept.ensures.kept ∙ ap (λ (xs : List Move). best_prefix c.args.h.now c.args.part.now.k c.args.part.now.limit (undone c.args.part.now.blocks xs) xs) c.slice-2.ensures;
+        kept = c.in_ok-kept.ensures.kept ∙ ap (λ (xs : List Move). best_prefix c.args.h.now c.args.part.now.k c.args.part.now.limit
+            (undone c.args.part.now.blocks xs) xs) c.slice-2.ensures;
         after = c.cost.ensures.value ∙ ap (λ (x : Parted). cost c.args.h.now x.blocks) c.in_ok-kept.ensures.partition
             ∙ ap (λ (xs : List Move). cost c.args.h.now (replay_first (undone c.args.part.now.blocks xs) xs c.in_ok-kept.kept)) c.slice-2.ensures;
         no_pair = record { first = refl; second = refl; value = refl; region = c.new.ensures };

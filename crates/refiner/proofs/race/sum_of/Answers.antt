@@ -6,7 +6,8 @@ use Rattle.refiner.proofs.race.sum_of.Goals as goal
 
 pub loop-gain-preserved : goal.loop-gain-preserved
 loop-gain-preserved c =
-    let more : total_z (λ (g : ℤ). g) (take (c.loop-gain.gain-index + 1) c.args.gains.now) ≡ total_z (λ (g : ℤ). g) (take c.loop-gain.gain-index c.args.gains.now) +ℤ get_or c.args.gains.now c.loop-gain.gain-index (pos 0) =
+    let more : total_z (λ (g : ℤ). g) (take (c.loop-gain.gain-index + 1) c.args.gains.now) ≡ total_z (λ (g : ℤ). g)
+    (take c.loop-gain.gain-index c.args.gains.now) +ℤ get_or c.args.gains.now c.loop-gain.gain-index (pos 0) =
     total_z-take_more (λ (g : ℤ). g) c.args.gains.now c.loop-gain.gain-index (pos 0) c.loop-gain-test.true in
     let is = c.from-sum.ensures in
     record {

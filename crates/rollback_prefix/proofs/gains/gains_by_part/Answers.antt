@@ -13,9 +13,17 @@ pub collect-requires-clause-ready : goal.collect-requires-clause-ready
 collect-requires-clause-ready g c κs lf =
     let ends = c.into_par_iter.ensures in
     let inside = nat_range-All
-    (λ i. (i * c.args.size < length c.args.nets.now) × IsReplay c.args.h.now c.args.k c.args.before.now c.args.moves.now × IsOrder (vertex_count c.args.h.now) c.args.moves.now c.args.order.now × All (λ e. e < net_count c.args.h.now) c.args.nets.now × (pin_weight c.args.h.now c.args.nets.now < 2 ^ 57))
+    (λ i. (i * c.args.size < length c.args.nets.now) × IsReplay c.args.h.now c.args.k c.args.before.now c.args.moves.now × IsOrder
+    (vertex_count c.args.h.now)
+    c.args.moves.now c.args.order.now × All (λ e. e < net_count c.args.h.now) c.args.nets.now × (pin_weight c.args.h.now c.args.nets.now < 2 ^ 57))
     0 c.div_ceil-parts.result
-    (λ i low high. (part_begins (length c.args.nets.now) c.args.size i c.div_ceil-parts.result c.requires.size c.div_ceil-parts.ensures high, c.requires.replay, c.requires.order, c.requires.nets, c.requires.bound)) in
+    (λ i low high. (
+      part_begins (length c.args.nets.now) c.args.size i c.div_ceil-parts.result c.requires.size c.div_ceil-parts.ensures high,
+      c.requires.replay,
+      c.requires.order,
+      c.requires.nets,
+      c.requires.bound,
+    )) in
     rw (c.with_min_len.ensures.base, c.map.ensures.base, c.map.ensures.f, ends.0, ends.1) (λ k d lt. (inside k d lt, λ y p. tt))
 
 pub returns-clause-whole : goal.returns-clause-whole
@@ -46,5 +54,8 @@ returns-clause-parts g c j d l =
     let low : j < length h.0 = omega arith in
     let at : get_or chain.0 j 0 ≡ 0 + j = ap (λ (xs : List ℕ). get_or xs j 0) places ∙ get_or-range_with_len 0 c.div_ceil-parts.result j 0 (omega arith) in
     let is : get_or chain.0 j 0 ≡ j = omega arith in
-    let post = zip_at (λ (x : ℕ) r. IfOk r (λ v. AreSavings c.args.h.now c.args.before.now c.args.moves.now (part_of c.args.nets.now c.args.size x) v.items)) chain.0 h.0 j 0 d chain.2 low in
-    rw h.2 (subst (λ x. IfOk (get_or h.0 j d) (λ v. AreSavings c.args.h.now c.args.before.now c.args.moves.now (part_of c.args.nets.now c.args.size x) v.items)) is post)
+    let post = zip_at (λ (x : ℕ) r. IfOk r (λ v. AreSavings c.args.h.now c.args.before.now c.args.moves.now (part_of c.args.nets.now c.args.size x)
+    v.items))
+    chain.0 h.0 j 0 d chain.2 low in
+    rw h.2 (subst (λ x. IfOk (get_or h.0 j d) (λ v. AreSavings c.args.h.now c.args.before.now c.args.moves.now (part_of c.args.nets.now c.args.size x)
+    v.items)) is post)

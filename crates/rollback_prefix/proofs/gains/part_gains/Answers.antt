@@ -14,13 +14,15 @@ pub add_net-requires-clause-places : goal.add_net-requires-clause-places
 add_net-requires-clause-places c =
     subst (λ (xs : List ℕ). ArePinMoves xs c.args.moves.now c.as_slice.result.now) c.pins.ensures.value
     (subst (λ (xs : List ℕ). ArePinMoves c.pins.result.now c.args.moves.now xs) (sym c.as_slice.ensures.value)
-    (pin_moves (vertex_count c.args.h.now) c.pins.result.now c.args.moves.now c.args.order.now c.find_places.new.places.items c.requires.order c.in_ok-find_places.ensures))
+    (pin_moves (vertex_count c.args.h.now) c.pins.result.now c.args.moves.now c.args.order.now c.find_places.new.places.items c.requires.order
+    c.in_ok-find_places.ensures))
 
 pub add_net-requires-clause-small : goal.add_net-requires-clause-small
 add_net-requires-clause-small c =
     subst AreSmall (sym c.as_mut_slice-in-loop-e.ensures.value)
     (savings_small c.args.h.now c.args.before.now c.args.moves.now (take c.loop-e.e-index c.args.nets.now) c.loop-e.gains.items c.loop-e.invariant.gains
-    (let a = total-take-le (λ e. (net_of c.args.h.now e).weight * length (net_of c.args.h.now e).pins) c.args.nets.now c.loop-e.e-index in let d = c.requires.bound in omega arith))
+    (let a = total-take-le (λ e. (net_of c.args.h.now e).weight * length (net_of c.args.h.now e).pins) c.args.nets.now c.loop-e.e-index in
+    let d = c.requires.bound in omega arith))
 
 pub loop-e-preserved : goal.loop-e-preserved
 loop-e-preserved c =
@@ -30,10 +32,13 @@ loop-e-preserved c =
     let counts_are = written c.loop-e.counts.len c.add_net.new.counts c.loop-e.counts.items long_counts in
     record {
       gains =
-          subst (λ (xs : List ℤ). AreSavings c.args.h.now c.args.before.now c.args.moves.now (take (c.loop-e.e-index + 1) c.args.nets.now) xs) (sym gains_are)
-          (savings_more c.args.h.now c.args.before.now c.args.moves.now c.args.nets.now c.loop-e.e-index c.loop-e.gains.items c.add_net.new.gains c.loop-e-test.true c.loop-e.invariant.gains
+          subst (λ (xs : List ℤ). AreSavings c.args.h.now c.args.before.now c.args.moves.now (take (c.loop-e.e-index + 1) c.args.nets.now) xs)
+          (sym gains_are)
+          (savings_more c.args.h.now c.args.before.now c.args.moves.now c.args.nets.now c.loop-e.e-index c.loop-e.gains.items c.add_net.new.gains
+          c.loop-e-test.true c.loop-e.invariant.gains
           (let s = c.loop-e.invariant.gains.size in omega arith)
-          (λ i m. c.add_net.ensures.gains i m ∙ ap (λ (xs : List ℤ). get_or xs i (pos 0) +ℤ saved_by_net c.args.h.now c.args.before.now c.args.moves.now (get_or c.args.nets.now c.loop-e.e-index 0) i) c.as_mut_slice-in-loop-e.ensures.value));
+          (λ i m. c.add_net.ensures.gains i m ∙ ap (λ (xs : List ℤ). get_or xs i (pos 0) +ℤ saved_by_net c.args.h.now c.args.before.now c.args.moves.now
+          (get_or c.args.nets.now c.loop-e.e-index 0) i) c.as_mut_slice-in-loop-e.ensures.value));
       zeros = subst AreZeros (sym counts_are) c.add_net.ensures.zeros;
       size = ap length counts_are ∙ long_counts ∙ (let s = c.loop-e.invariant.size in omega arith);
     }

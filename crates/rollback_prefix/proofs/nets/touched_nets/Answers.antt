@@ -18,12 +18,16 @@ loop-e-preserved c =
           let low = c.nets_of-e-items.ensures.below c.loop-e.e-index 0 c.loop-e-test.true in
           let inside : e < length c.loop-e.seen.items = let n = c.loop-e.invariant.seen.size in omega arith in
           let fresh = get_or_default c.loop-e.seen.items e false c.index.result.now inside ∙ sym c.index.ensures in
-          let more = seen_more (net_count c.args.h.now) c.loop-e.seen.items c.loop-e.nets.items e low (fresh ∙ w.if-not-index.true) c.loop-e.invariant.seen in
+          let more = seen_more (net_count c.args.h.now) c.loop-e.seen.items c.loop-e.nets.items e low (fresh ∙ w.if-not-index.true)
+          c.loop-e.invariant.seen in
           record {
-            seen = subst (λ (xs : List Bool). AreSeen (net_count c.args.h.now) xs c.if-not-index.nets.items) (sym seen_are) (subst (λ (xs : List ℕ). AreSeen (net_count c.args.h.now) (set c.loop-e.seen.items e true) xs) (sym nets_are) more);
-            all = λ j d x l q. subst (λ (xs : List ℕ). Contains xs x) (sym nets_are) (Contains-append_left c.loop-e.nets.items (e ∷ []) x (c.loop-e.invariant.all j d x l q));
+            seen = subst (λ (xs : List Bool). AreSeen (net_count c.args.h.now) xs c.if-not-index.nets.items) (sym seen_are)
+                (subst (λ (xs : List ℕ). AreSeen (net_count c.args.h.now) (set c.loop-e.seen.items e true) xs) (sym nets_are) more);
+            all = λ j d x l q. subst (λ (xs : List ℕ). Contains xs x) (sym nets_are) (Contains-append_left c.loop-e.nets.items (e ∷ []) x
+                (c.loop-e.invariant.all j d x l q));
             row = below_more (λ j. Contains c.if-not-index.nets.items (get_or c.nets_of-e-items.result.now j 0)) c.loop-e.e-index
-                (λ j l. subst (λ (xs : List ℕ). Contains xs (get_or c.nets_of-e-items.result.now j 0)) (sym nets_are) (Contains-append_left c.loop-e.nets.items (e ∷ []) (get_or c.nets_of-e-items.result.now j 0) (c.loop-e.invariant.row j l)))
+                (λ j l. subst (λ (xs : List ℕ). Contains xs (get_or c.nets_of-e-items.result.now j 0)) (sym nets_are)
+                (Contains-append_left c.loop-e.nets.items (e ∷ []) (get_or c.nets_of-e-items.result.now j 0) (c.loop-e.invariant.row j l)))
                 (subst (λ (xs : List ℕ). Contains xs e) (sym nets_are) (Contains-push c.loop-e.nets.items e));
           }
       | else-not-index w ↦
@@ -34,7 +38,8 @@ loop-e-preserved c =
           let inside : e < length c.loop-e.seen.items = let n = c.loop-e.invariant.seen.size in omega arith in
           let fresh = get_or_default c.loop-e.seen.items e false c.index.result.now inside ∙ sym c.index.ensures in
           record {
-            seen = subst (λ (xs : List Bool). AreSeen (net_count c.args.h.now) xs c.if-not-index.nets.items) (sym seen_are) (subst (λ (xs : List ℕ). AreSeen (net_count c.args.h.now) c.loop-e.seen.items xs) (sym nets_are) c.loop-e.invariant.seen);
+            seen = subst (λ (xs : List Bool). AreSeen (net_count c.args.h.now) xs c.if-not-index.nets.items) (sym seen_are)
+                (subst (λ (xs : List ℕ). AreSeen (net_count c.args.h.now) c.loop-e.seen.items xs) (sym nets_are) c.loop-e.invariant.seen);
             all = λ j d x l q. subst (λ (xs : List ℕ). Contains xs x) (sym nets_are) (c.loop-e.invariant.all j d x l q);
             row = below_more (λ j. Contains c.if-not-index.nets.items (get_or c.nets_of-e-items.result.now j 0)) c.loop-e.e-index
                 (λ j l. subst (λ (xs : List ℕ). Contains xs (get_or c.nets_of-e-items.result.now j 0)) (sym nets_are) (c.loop-e.invariant.row j l))

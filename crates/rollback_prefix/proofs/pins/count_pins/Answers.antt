@@ -20,7 +20,8 @@ pub overflow_add-counts : goal.overflow_add-counts
 overflow_add-counts c =
     let low : get_or c.args.blocks.now (get_or c.args.pins.now c.loop-v.v-index 0) 0 < length c.args.counts.now = omega arith in
     let is = c.loop-v.invariant.counts.each (get_or c.args.blocks.now (get_or c.args.pins.now c.loop-v.v-index 0) 0) low in
-    let few = pins_in-le c.args.blocks.now (take c.loop-v.v-index c.args.pins.now) (get_or c.args.blocks.now (get_or c.args.pins.now c.loop-v.v-index 0) 0) in
+    let few = pins_in-le c.args.blocks.now (take c.loop-v.v-index c.args.pins.now) (get_or c.args.blocks.now (get_or c.args.pins.now c.loop-v.v-index 0)
+    0) in
     let long = length-take c.loop-v.v-index c.args.pins.now in
     omega arith
 
@@ -28,7 +29,8 @@ pub loop-v-preserved : goal.loop-v-preserved
 loop-v-preserved c =
     let low : get_or c.args.blocks.now (get_or c.args.pins.now c.loop-v.v-index 0) 0 < length c.args.counts.now = omega arith in
     record {
-      counts = counts_more (length c.args.counts.now) c.args.blocks.now c.args.pins.now c.loop-v.counts c.loop-v.v-index c.loop-v-test.true low c.loop-v.invariant.counts;
+      counts = counts_more (length c.args.counts.now) c.args.blocks.now c.args.pins.now c.loop-v.counts c.loop-v.v-index c.loop-v-test.true low
+          c.loop-v.invariant.counts;
       touched =
           let is = c.loop-v.invariant.touched in
           let inside : get_or c.args.blocks.now (get_or c.args.pins.now c.loop-v.v-index 0) 0 < length c.loop-v.counts = omega arith in

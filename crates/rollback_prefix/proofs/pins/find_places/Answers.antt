@@ -11,7 +11,8 @@ pub returns : goal.returns
 returns c =
     let whole = take_all c.loop-v.v-index c.args.pins.now c.loop-v-test.false in
     let all = subst (λ (xs : List ℕ). AreFound xs c.args.order.now c.loop-v.places.items) whole c.loop-v.invariant in
-    found_sorted c.args.pins.now c.args.order.now c.loop-v.places.items c.sort_unstable.new.self.items all c.sort_unstable.ensures.permutation c.sort_unstable.ensures.sorted
+    found_sorted c.args.pins.now c.args.order.now c.loop-v.places.items c.sort_unstable.new.self.items all c.sort_unstable.ensures.permutation
+    c.sort_unstable.ensures.sorted
 
 pub loop-v-preserved : goal.loop-v-preserved
 loop-v-preserved c =
@@ -19,9 +20,11 @@ loop-v-preserved c =
       | then-place-gt0+in_ok-push w ↦
           subst (λ (xs : List ℕ). AreFound (take (c.loop-v.v-index + 1) c.args.pins.now) c.args.order.now xs)
           (sym (ap (λ v. v.items) w.places-is ∙ w.in_ok-push.ensures.items))
-          (found_more c.args.pins.now c.args.order.now c.loop-v.places.items c.loop-v.v-index c.loop-v-test.true c.requires.rising c.requires.once w.if-place-gt0.true c.loop-v.invariant)
+          (found_more c.args.pins.now c.args.order.now c.loop-v.places.items c.loop-v.v-index c.loop-v-test.true c.requires.rising c.requires.once
+          w.if-place-gt0.true c.loop-v.invariant)
       | else-place-gt0 w ↦
           subst (λ (xs : List ℕ). AreFound (take (c.loop-v.v-index + 1) c.args.pins.now) c.args.order.now xs)
           (sym (ap (λ v. v.items) w.places-is))
-          (found_same c.args.pins.now c.args.order.now c.loop-v.places.items c.loop-v.v-index c.loop-v-test.true c.requires.rising c.requires.once (omega arith) c.loop-v.invariant)
+          (found_same c.args.pins.now c.args.order.now c.loop-v.places.items c.loop-v.v-index c.loop-v-test.true c.requires.rising c.requires.once
+          (omega arith) c.loop-v.invariant)
     ]

@@ -10,11 +10,13 @@ overflow_add-joined c =
 
 pub overflow_sub-result : goal.overflow_sub-result
 overflow_sub-result c =
-    let told = shift_told c.args.counts.now c.args.from c.args.to c.from.result c.from-2.result c.requires.from c.requires.to c.requires.pin c.from.ensures c.from-2.ensures in
+    let told = shift_told c.args.counts.now c.args.from c.args.to c.from.result c.from-2.result c.requires.from c.requires.to c.requires.pin c.from.ensures
+    c.from-2.ensures in
     omega arith
 
 pub returns-clause-touched : goal.returns-clause-touched
 returns-clause-touched c =
-    let told = shift_told c.args.counts.now c.args.from c.args.to c.from.result c.from-2.result c.requires.from c.requires.to c.requires.pin c.from.ensures c.from-2.ensures in
+    let told = shift_told c.args.counts.now c.args.from c.args.to c.from.result c.from-2.result c.requires.from c.requires.to c.requires.pin c.from.ensures
+    c.from-2.ensures in
     let is = c.requires.touched in
     omega arith

@@ -13,38 +13,48 @@ recalculate-requires-clause-partition g c κs within =
     let p = c.args.p.now in
     let whole = subst (λ (x : Hyper). IsPartition x p.k p.blocks) c.requires.belongs c.blocks-2.ensures.parted.partition in
     let long : length c.undo_in_lists.new.blocks ≡ c.in_ok-before.before.len = omega arith in
-    let before = c.as_slice.ensures.value ∙ written c.in_ok-before.before.len c.undo_in_lists.new.blocks c.in_ok-before.before.items long ∙ c.undo_in_lists.ensures.blocks
+    let before = c.as_slice.ensures.value ∙ written c.in_ok-before.before.len c.undo_in_lists.new.blocks c.in_ok-before.before.items long ∙
+    c.undo_in_lists.ensures.blocks
     ∙ ap (λ (q : List ℕ). undone q c.args.moves.now) (c.as_mut_slice.ensures.value ∙ c.in_ok-before.ensures.items ∙ c.blocks-2.ensures.value) in
-    subst (λ k. IsPartition c.args.h.now k c.as_slice.result.now) (sym c.k.ensures) (subst (λ (xs : List ℕ). IsPartition c.args.h.now p.k xs) (sym before) (undone_partition c.args.h.now p.k p.blocks c.args.moves.now whole c.requires.moves))
+    subst (λ k. IsPartition c.args.h.now k c.as_slice.result.now) (sym c.k.ensures) (subst (λ (xs : List ℕ). IsPartition c.args.h.now p.k xs) (sym before)
+    (undone_partition c.args.h.now p.k p.blocks c.args.moves.now whole c.requires.moves))
 
 pub recalculate-requires-clause-moves : goal.recalculate-requires-clause-moves
 recalculate-requires-clause-moves g c κs within =
     let p = c.args.p.now in
     let whole = subst (λ (x : Hyper). IsPartition x p.k p.blocks) c.requires.belongs c.blocks-2.ensures.parted.partition in
     let long : length c.undo_in_lists.new.blocks ≡ c.in_ok-before.before.len = omega arith in
-    let before = c.as_slice.ensures.value ∙ written c.in_ok-before.before.len c.undo_in_lists.new.blocks c.in_ok-before.before.items long ∙ c.undo_in_lists.ensures.blocks
+    let before = c.as_slice.ensures.value ∙ written c.in_ok-before.before.len c.undo_in_lists.new.blocks c.in_ok-before.before.items long ∙
+    c.undo_in_lists.ensures.blocks
     ∙ ap (λ (q : List ℕ). undone q c.args.moves.now) (c.as_mut_slice.ensures.value ∙ c.in_ok-before.ensures.items ∙ c.blocks-2.ensures.value) in
-    subst (λ k. StartFrom c.args.h.now k c.as_slice.result.now c.args.moves.now) (sym c.k.ensures) (subst (λ (xs : List ℕ). StartFrom c.args.h.now p.k xs c.args.moves.now) (sym before) (starts_from c.args.h.now p.k p.blocks c.args.moves.now whole c.requires.moves))
+    subst (λ k. StartFrom c.args.h.now k c.as_slice.result.now c.args.moves.now) (sym c.k.ensures)
+    (subst (λ (xs : List ℕ). StartFrom c.args.h.now p.k xs c.args.moves.now) (sym before) (starts_from c.args.h.now p.k p.blocks c.args.moves.now whole
+    c.requires.moves))
 
 pub best_length-kept-requires-clause-partition : goal.best_length-kept-requires-clause-partition
 best_length-kept-requires-clause-partition g c =
     let p = c.args.p.now in
     let whole = subst (λ (x : Hyper). IsPartition x p.k p.blocks) c.requires.belongs c.blocks-2.ensures.parted.partition in
     let long : length c.undo_in_lists.new.blocks ≡ c.in_ok-before.before.len = omega arith in
-    let before = c.as_slice-2.ensures.value ∙ written c.in_ok-before.before.len c.undo_in_lists.new.blocks c.in_ok-before.before.items long ∙ c.undo_in_lists.ensures.blocks
+    let before = c.as_slice-2.ensures.value ∙ written c.in_ok-before.before.len c.undo_in_lists.new.blocks c.in_ok-before.before.items long ∙
+    c.undo_in_lists.ensures.blocks
     ∙ ap (λ (q : List ℕ). undone q c.args.moves.now) (c.as_mut_slice.ensures.value ∙ c.in_ok-before.ensures.items ∙ c.blocks-2.ensures.value) in
     let k_is : length c.as_mut_slice-3.result.now ≡ p.k = let all = c.in_ok-loads.ensures.all in omega arith in
-    subst (λ k. IsPartition c.args.h.now k c.as_slice-2.result.now) (sym k_is) (subst (λ (xs : List ℕ). IsPartition c.args.h.now p.k xs) (sym before) (undone_partition c.args.h.now p.k p.blocks c.args.moves.now whole c.requires.moves))
+    subst (λ k. IsPartition c.args.h.now k c.as_slice-2.result.now) (sym k_is) (subst (λ (xs : List ℕ). IsPartition c.args.h.now p.k xs) (sym before)
+    (undone_partition c.args.h.now p.k p.blocks c.args.moves.now whole c.requires.moves))
 
 pub best_length-kept-requires-clause-moves : goal.best_length-kept-requires-clause-moves
 best_length-kept-requires-clause-moves g c =
     let p = c.args.p.now in
     let whole = subst (λ (x : Hyper). IsPartition x p.k p.blocks) c.requires.belongs c.blocks-2.ensures.parted.partition in
     let long : length c.undo_in_lists.new.blocks ≡ c.in_ok-before.before.len = omega arith in
-    let before = c.as_slice-2.ensures.value ∙ written c.in_ok-before.before.len c.undo_in_lists.new.blocks c.in_ok-before.before.items long ∙ c.undo_in_lists.ensures.blocks
+    let before = c.as_slice-2.ensures.value ∙ written c.in_ok-before.before.len c.undo_in_lists.new.blocks c.in_ok-before.before.items long ∙
+    c.undo_in_lists.ensures.blocks
     ∙ ap (λ (q : List ℕ). undone q c.args.moves.now) (c.as_mut_slice.ensures.value ∙ c.in_ok-before.ensures.items ∙ c.blocks-2.ensures.value) in
     let k_is : length c.as_mut_slice-3.result.now ≡ p.k = let all = c.in_ok-loads.ensures.all in omega arith in
-    subst (λ k. StartFrom c.args.h.now k c.as_slice-2.result.now c.args.moves.now) (sym k_is) (subst (λ (xs : List ℕ). StartFrom c.args.h.now p.k xs c.args.moves.now) (sym before) (starts_from c.args.h.now p.k p.blocks c.args.moves.now whole c.requires.moves))
+    subst (λ k. StartFrom c.args.h.now k c.as_slice-2.result.now c.args.moves.now) (sym k_is)
+    (subst (λ (xs : List ℕ). StartFrom c.args.h.now p.k xs c.args.moves.now) (sym before) (starts_from c.args.h.now p.k p.blocks c.args.moves.now whole
+    c.requires.moves))
 
 pub slice_bounds-undo-count : goal.slice_bounds-undo-count
 slice_bounds-undo-count g c = c.best_length-kept.ensures.within
@@ -61,5 +71,6 @@ pub returns-clause-partition : goal.returns-clause-partition
 returns-clause-partition g c =
     let p = c.args.p.now in
     let whole = subst (λ (x : Hyper). IsPartition x p.k p.blocks) c.requires.belongs c.blocks-2.ensures.parted.partition in
-    let left = prefix_left_by_part c.args.h.now p.k p.blocks c.args.moves.now c.best_length-kept.result c.best_length-kept.ensures.within whole c.requires.moves in
+    let left = prefix_left_by_part c.args.h.now p.k p.blocks c.args.moves.now c.best_length-kept.result c.best_length-kept.ensures.within whole
+    c.requires.moves in
     c.undo.ensures ∙ ap (λ (q : List ℕ). record p { blocks = q }) left

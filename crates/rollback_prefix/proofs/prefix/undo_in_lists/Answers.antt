@@ -40,6 +40,9 @@ pub loop-step-preserved : goal.loop-step-preserved
 loop-step-preserved c =
     let m = get_or c.args.moves.now c.loop-step.step-index no_move in
     let e = c.requires.moves.each c.loop-step.step-index no_move c.loop-step-test.true in
-    subst (λ w. IsUndoing c.args.h.now (length c.args.loads.now) c.args.blocks.now c.args.moves.now (c.loop-step.step-index + 1) (set c.loop-step.blocks m.vertex m.from) (loads_after c.loop-step.loads m.to m.from w))
+    subst (λ w. IsUndoing c.args.h.now (length c.args.loads.now) c.args.blocks.now c.args.moves.now (c.loop-step.step-index + 1)
+    (set c.loop-step.blocks m.vertex m.from) (loads_after c.loop-step.loads m.to m.from w))
     (sym c.vertex_weight-weight.ensures.value)
-    (undoing_more c.args.h.now (length c.args.loads.now) c.args.blocks.now c.args.moves.now c.loop-step.step-index no_move c.loop-step.blocks c.loop-step.loads c.loop-step-test.true c.requires.moves.once e.vertex e.from e.to c.loop-step.invariant)
+    (undoing_more c.args.h.now (length c.args.loads.now) c.args.blocks.now c.args.moves.now c.loop-step.step-index no_move c.loop-step.blocks
+    c.loop-step.loads
+    c.loop-step-test.true c.requires.moves.once e.vertex e.from e.to c.loop-step.invariant)

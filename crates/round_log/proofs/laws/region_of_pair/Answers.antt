@@ -1,4 +1,5 @@
-use Rattle.round_log.proofs.RegionLaws.{touching_has_both, near_is_told, next_is_told, takes_while_room, side_fits, side_is_ranked, region_has_sides, region_rises}
+use Rattle.round_log.proofs.RegionLaws.{touching_has_both, near_is_told, next_is_told, takes_while_room, side_fits}
+use Rattle.round_log.proofs.RegionLaws.{side_is_ranked, region_has_sides, region_rises}
 use Rattle.round_log.proofs.laws.region_of_pair.Goals as goal
 
 pub returns-clause-touching : goal.returns-clause-touching

@@ -73,7 +73,8 @@ returns-in_err-put_fits-clause-bytes g c =
     let costs = wrote objective (spelt (ap cost_line c.cost_of.ensures.value) c.in_ok-put_line.ensures.bytes) in
     let loads = loads_of-take h p c.sum_loads-all_loads.result k c.requires.most_k c.sum_loads-all_loads.ensures.loads in
     let lines = wrote costs (spelt (ap loads_text loads) c.in_ok-put_loads.ensures.bytes) in
-    let fits = c.all_within.ensures ∙ ap (λ (l : ℕ). list_all (λ x. nat_le x l) (take k c.sum_loads-all_loads.result)) bound ∙ fits-loads h p _ k (limit (total_weight h) k c.args.eps) loads in
+    let fits = c.all_within.ensures ∙ ap (λ (l : ℕ). list_all (λ x. nat_le x l) (take k c.sum_loads-all_loads.result)) bound ∙
+    fits-loads h p _ k (limit (total_weight h) k c.args.eps) loads in
     unfinished c.from_residual-in_err-put_fits.result c.from_residual-in_err-put_fits.ensures.0 c.new-pen.ensures
     (wrote lines (spelt (ap fits_text fits) c.in_err-put_fits.ensures.bytes))
 
@@ -88,5 +89,6 @@ returns-clause-bytes g c =
     let costs = wrote objective (spelt (ap cost_line c.cost_of.ensures.value) c.in_ok-put_line.ensures.bytes) in
     let loads = loads_of-take h p c.sum_loads-all_loads.result k c.requires.most_k c.sum_loads-all_loads.ensures.loads in
     let lines = wrote costs (spelt (ap loads_text loads) c.in_ok-put_loads.ensures.bytes) in
-    let fits = c.all_within.ensures ∙ ap (λ (l : ℕ). list_all (λ x. nat_le x l) (take k c.sum_loads-all_loads.result)) bound ∙ fits-loads h p _ k (limit (total_weight h) k c.args.eps) loads in
+    let fits = c.all_within.ensures ∙ ap (λ (l : ℕ). list_all (λ x. nat_le x l) (take k c.sum_loads-all_loads.result)) bound ∙
+    fits-loads h p _ k (limit (total_weight h) k c.args.eps) loads in
     ended c.end.result c.new-pen.ensures (wrote lines (spelt (ap fits_text fits) c.in_ok-put_fits.ensures.bytes)) c.end.ensures.bytes

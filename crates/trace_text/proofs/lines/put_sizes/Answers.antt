@@ -23,21 +23,25 @@ pub returns-in_err-put_line-clause-bytes : goal.returns-in_err-put_line-clause-b
 returns-in_err-put_line-clause-bytes g c =
     let h = c.args.h.now in
     exit c.from_residual.result c.from_residual.ensures.0
-    (cut (limit_line c.args.limit) (cut (blocks_line c.args.k) (cut (weight_line (total_weight h)) (cut (nets_line (net_count h)) (spelt (ap vertices_line (c.from.ensures ∙ c.vertices.ensures.count)) c.in_err-put_line.ensures.bytes)))))
+    (cut (limit_line c.args.limit) (cut (blocks_line c.args.k)
+    (cut (weight_line (total_weight h)) (cut (nets_line (net_count h)) (spelt (ap vertices_line (c.from.ensures ∙ c.vertices.ensures.count))
+    c.in_err-put_line.ensures.bytes)))))
 
 pub returns-in_err-put_line-2-clause-bytes : goal.returns-in_err-put_line-2-clause-bytes
 returns-in_err-put_line-2-clause-bytes g c =
     let h = c.args.h.now in
     let one = spelt (ap vertices_line (c.from.ensures ∙ c.vertices.ensures.count)) c.in_ok-put_line.ensures.bytes in
     exit c.from_residual-in_err-put_line-2.result c.from_residual-in_err-put_line-2.ensures.0
-    (cut (limit_line c.args.limit) (cut (blocks_line c.args.k) (cut (weight_line (total_weight h)) (wrote one (spelt (ap nets_line (c.from-2.ensures ∙ c.nets.ensures.count)) c.in_err-put_line-2.ensures.bytes)))))
+    (cut (limit_line c.args.limit) (cut (blocks_line c.args.k)
+    (cut (weight_line (total_weight h)) (wrote one (spelt (ap nets_line (c.from-2.ensures ∙ c.nets.ensures.count)) c.in_err-put_line-2.ensures.bytes)))))
 
 pub returns-in_err-put_line-3-clause-bytes : goal.returns-in_err-put_line-3-clause-bytes
 returns-in_err-put_line-3-clause-bytes g c =
     let one = spelt (ap vertices_line (c.from.ensures ∙ c.vertices.ensures.count)) c.in_ok-put_line.ensures.bytes in
     let two = wrote one (spelt (ap nets_line (c.from-2.ensures ∙ c.nets.ensures.count)) c.in_ok-put_line-2.ensures.bytes) in
     exit c.from_residual-in_err-put_line-3.result c.from_residual-in_err-put_line-3.ensures.0
-    (cut (limit_line c.args.limit) (cut (blocks_line c.args.k) (wrote two (spelt (ap weight_line c.total_weight.ensures) c.in_err-put_line-3.ensures.bytes))))
+    (cut (limit_line c.args.limit) (cut (blocks_line c.args.k)
+    (wrote two (spelt (ap weight_line c.total_weight.ensures) c.in_err-put_line-3.ensures.bytes))))
 
 pub returns-in_err-put_line-4-clause-bytes : goal.returns-in_err-put_line-4-clause-bytes
 returns-in_err-put_line-4-clause-bytes g c =

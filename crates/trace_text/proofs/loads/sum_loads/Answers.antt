@@ -21,8 +21,11 @@ vertices-preserved c =
     let p = c.args.blocks.now in
     let block : slice_index p v < 256 = c.requires.below v 0 (omega arith) in
     let long = c.vertices.invariant.0 in
-    let more = loads-more loads c.args.h.now.weights p v long (omega arith) (omega arith) block c.vertices.invariant.1 in
-    (length-set loads (slice_index p v) _ ∙ long, λ b small. ap (λ (w : ℕ). slice_index (set loads (slice_index p v) (slice_index loads (slice_index p v) + w)) b) c.vertex_weight.ensures.value ∙ more b small)
+    let more = loads-more loads c.args.h.now.weights p v long (omega arith) (omega arith) block c.vertices.invariant.1 in (
+      length-set loads (slice_index p v) _ ∙ long,
+      λ b small. ap (λ (w : ℕ). slice_index (set loads (slice_index p v) (slice_index loads (slice_index p v) + w))
+          b) c.vertex_weight.ensures.value ∙ more b small,
+    )
 
 pub returns-clause-loads : goal.returns-clause-loads
 returns-clause-loads c =

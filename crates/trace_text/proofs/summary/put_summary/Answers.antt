@@ -26,14 +26,18 @@ pub returns-in_err-put_line-clause-bytes : goal.returns-in_err-put_line-clause-b
 returns-in_err-put_line-clause-bytes g c =
     let h = c.args.h.now in
     unfinished c.from_residual.result c.from_residual.ensures.0 c.new-pen.ensures
-    (cut outcome_text (cut (greedy_line (cost h (greedy h c.args.k))) (cut (limit_line c.args.limit) (cut (blocks_line c.args.k) (cut (nets_line (net_count h)) (spelt (ap vertices_line (c.from.ensures ∙ c.vertices.ensures.count)) c.in_err-put_line.ensures.bytes))))))
+    (cut outcome_text (cut (greedy_line (cost h (greedy h c.args.k)))
+    (cut (limit_line c.args.limit) (cut (blocks_line c.args.k)
+    (cut (nets_line (net_count h)) (spelt (ap vertices_line (c.from.ensures ∙ c.vertices.ensures.count)) c.in_err-put_line.ensures.bytes))))))
 
 pub returns-in_err-put_line-2-clause-bytes : goal.returns-in_err-put_line-2-clause-bytes
 returns-in_err-put_line-2-clause-bytes g c =
     let h = c.args.h.now in
     let one = spelt (ap vertices_line (c.from.ensures ∙ c.vertices.ensures.count)) c.in_ok-put_line.ensures.bytes in
     unfinished c.from_residual-in_err-put_line-2.result c.from_residual-in_err-put_line-2.ensures.0 c.new-pen.ensures
-    (cut outcome_text (cut (greedy_line (cost h (greedy h c.args.k))) (cut (limit_line c.args.limit) (cut (blocks_line c.args.k) (wrote one (spelt (ap nets_line (c.from-2.ensures ∙ c.nets.ensures.count)) c.in_err-put_line-2.ensures.bytes))))))
+    (cut outcome_text (cut (greedy_line (cost h (greedy h c.args.k)))
+    (cut (limit_line c.args.limit) (cut (blocks_line c.args.k)
+    (wrote one (spelt (ap nets_line (c.from-2.ensures ∙ c.nets.ensures.count)) c.in_err-put_line-2.ensures.bytes))))))
 
 pub returns-in_err-put_line-3-clause-bytes : goal.returns-in_err-put_line-3-clause-bytes
 returns-in_err-put_line-3-clause-bytes g c =
@@ -41,7 +45,8 @@ returns-in_err-put_line-3-clause-bytes g c =
     let one = spelt (ap vertices_line (c.from.ensures ∙ c.vertices.ensures.count)) c.in_ok-put_line.ensures.bytes in
     let two = wrote one (spelt (ap nets_line (c.from-2.ensures ∙ c.nets.ensures.count)) c.in_ok-put_line-2.ensures.bytes) in
     unfinished c.from_residual-in_err-put_line-3.result c.from_residual-in_err-put_line-3.ensures.0 c.new-pen.ensures
-    (cut outcome_text (cut (greedy_line (cost h (greedy h c.args.k))) (cut (limit_line c.args.limit) (wrote two (spelt (ap blocks_line c.from-3.ensures) c.in_err-put_line-3.ensures.bytes)))))
+    (cut outcome_text (cut (greedy_line (cost h (greedy h c.args.k)))
+    (cut (limit_line c.args.limit) (wrote two (spelt (ap blocks_line c.from-3.ensures) c.in_err-put_line-3.ensures.bytes)))))
 
 pub returns-in_err-put_line-4-clause-bytes : goal.returns-in_err-put_line-4-clause-bytes
 returns-in_err-put_line-4-clause-bytes g c =

@@ -25,5 +25,7 @@ returns-in-Ok-clause-start g c =
 
 pub loop-above-preserved : goal.loop-above-preserved
 loop-above-preserved g c =
-    one_more (NoneFitsAt c.args.stack.now c.args.k c.args.limit c.args.seed) c.depth-depth.result c.loop-above.above (length c.args.stack.now.maps) c.loop-above.invariant
-    (subst (λ (h : Hyper). named_best h c.args.k c.args.limit c.args.seed ≡ None) c.level.ensures (c.in-Err-NoneFits.ensures.none (ap Err c.in-Err-NoneFits.field-0-is)))
+    one_more (NoneFitsAt c.args.stack.now c.args.k c.args.limit c.args.seed) c.depth-depth.result c.loop-above.above (length c.args.stack.now.maps)
+    c.loop-above.invariant
+    (subst (λ (h : Hyper). named_best h c.args.k c.args.limit c.args.seed ≡ None) c.level.ensures
+    (c.in-Err-NoneFits.ensures.none (ap Err c.in-Err-NoneFits.field-0-is)))

@@ -8,4 +8,5 @@ use Rattle.cluster_claim.proofs.pass.Pass.peek.Goals as goal
 
 pub returns-clause-known : goal.returns-clause-known
 returns-clause-known c =
-    λ l. subst (λ (m : Me (Unit {0}) View). 0 < times (c.peek_as.result - 2) m.0.account.known) (sym c.peek_as.ensures.done.0) (learned_known c.peek_as.result c.args.self.now.seat.me.0.account l)
+    λ l. subst (λ (m : Me (Unit {0}) View). 0 < times (c.peek_as.result - 2) m.0.account.known) (sym c.peek_as.ensures.done.0)
+    (learned_known c.peek_as.result c.args.self.now.seat.me.0.account l)

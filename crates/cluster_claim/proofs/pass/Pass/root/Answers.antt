@@ -9,8 +9,10 @@ use Rattle.cluster_claim.proofs.pass.Pass.root.Goals as goal
 
 pub returns-clause-others : goal.returns-clause-others
 returns-clause-others c =
-    λ u q. subst (λ (m : Me (Unit {0}) View). times u m.0.account.taken ≡ times u c.args.self.now.seat.me.0.account.taken) (sym c.root_as.ensures.done.0) (removed_others c.args.self.now.seat.me.0.account.taken c.args.vertex u c.requires.taken q)
+    λ u q. subst (λ (m : Me (Unit {0}) View). times u m.0.account.taken ≡ times u c.args.self.now.seat.me.0.account.taken) (sym c.root_as.ensures.done.0)
+    (removed_others c.args.self.now.seat.me.0.account.taken c.args.vertex u c.requires.taken q)
 
 pub returns-clause-known : goal.returns-clause-known
 returns-clause-known c =
-    subst (λ (m : Me (Unit {0}) View). 0 < times c.args.vertex m.0.account.known) (sym c.root_as.ensures.done.0) (times-insert_key-has c.args.self.now.seat.me.0.account.known c.args.vertex)
+    subst (λ (m : Me (Unit {0}) View). 0 < times c.args.vertex m.0.account.known) (sym c.root_as.ensures.done.0)
+    (times-insert_key-has c.args.self.now.seat.me.0.account.known c.args.vertex)

@@ -8,8 +8,10 @@ use Rattle.cluster_claim.proofs.pass.Pass.take.Goals as goal
 
 pub returns-clause-kept : goal.returns-clause-kept
 returns-clause-kept c =
-    λ u p. subst (λ (m : Me (Unit {0}) View). 0 < times u m.0.account.taken) (sym c.take_as.ensures.done.0) (took_keeps c.args.vertex c.take_as.result c.args.self.now.seat.me.0.account u p)
+    λ u p. subst (λ (m : Me (Unit {0}) View). 0 < times u m.0.account.taken) (sym c.take_as.ensures.done.0)
+    (took_keeps c.args.vertex c.take_as.result c.args.self.now.seat.me.0.account u p)
 
 pub returns-clause-taken : goal.returns-clause-taken
 returns-clause-taken c =
-    λ e. subst (λ (m : Me (Unit {0}) View). 0 < times c.args.vertex m.0.account.taken) (sym c.take_as.ensures.done.0) (took_has c.args.vertex c.take_as.result c.args.self.now.seat.me.0.account e)
+    λ e. subst (λ (m : Me (Unit {0}) View). 0 < times c.args.vertex m.0.account.taken) (sym c.take_as.ensures.done.0)
+    (took_has c.args.vertex c.take_as.result c.args.self.now.seat.me.0.account e)

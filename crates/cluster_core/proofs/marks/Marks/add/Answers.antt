@@ -15,7 +15,9 @@ answer-stage-requires c =
     let k = subst (IsClusterState g) (sym c.self.view_is) c.requires.balance in
     let h = subst (λ (z : State). is_enabled g z.accounts (Add c.args.pass c.args.vertex c.args.root) ≡ true) (sym c.self.view_is) c.requires.enabled in
     let x = add_fits g s k c.args.pass c.args.vertex c.args.root h in
-    let f = found_at s.masses c.args.root c.args.root c.index-found.result.now (λ i. c.args.root) (add_root_below g s k c.args.pass c.args.vertex c.args.root h) c.index-found.ensures in
+    let f = found_at s.masses c.args.root c.args.root c.index-found.result.now (λ i. c.args.root) (add_root_below g s k c.args.pass c.args.vertex
+    c.args.root
+    h) c.index-found.ensures in
     let w = c.vertex_weight-weight.ensures.value in
     omega arith
 
@@ -26,6 +28,8 @@ overflow_add-found c =
     let k = subst (IsClusterState g) (sym c.self.view_is) c.requires.balance in
     let h = subst (λ (z : State). is_enabled g z.accounts (Add c.args.pass c.args.vertex c.args.root) ≡ true) (sym c.self.view_is) c.requires.enabled in
     let x = add_fits g s k c.args.pass c.args.vertex c.args.root h in
-    let f = found_at s.masses c.args.root c.args.root c.index-found.result.now (λ i. c.args.root) (add_root_below g s k c.args.pass c.args.vertex c.args.root h) c.index-found.ensures in
+    let f = found_at s.masses c.args.root c.args.root c.index-found.result.now (λ i. c.args.root) (add_root_below g s k c.args.pass c.args.vertex
+    c.args.root
+    h) c.index-found.ensures in
     let w = c.vertex_weight-weight.ensures.value in
     omega arith

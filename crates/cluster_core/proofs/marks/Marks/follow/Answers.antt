@@ -51,6 +51,14 @@ returns c =
     let g = setup_of c.args._h.now c.args._cap in
     let k = subst (IsClusterState g) (sym c.self.view_is) c.requires.balance in
     let h = subst (λ (z : State). is_enabled g z.accounts (Follow c.args.pass) ≡ true) (sym c.self.view_is) c.requires.enabled in
-    subst (λ f. Leads g c.args.self.now (Follow c.args.pass) f (record s { marks = slice_set s.marks c.vertex-vertex.result (c.root.result + 2); accounts = slice_set s.accounts c.args.pass c.follow.new.self })) (sym c.from.ensures)
-    (subst (λ (z : State). Leads g z (Follow c.args.pass) c.index-found.result.now (record s { marks = slice_set s.marks c.vertex-vertex.result (c.root.result + 2); accounts = slice_set s.accounts c.args.pass c.follow.new.self })) c.self.view_is
-    (follow_leads g s k c.args.pass h c.index.result.now c.index_mut-2.result.now c.follow.new.self c.stage-stage.result c.vertex-vertex.result c.root.result c.index-found.result.now c.index.ensures c.stage-stage.ensures c.vertex-vertex.ensures c.root.ensures c.index-found.ensures c.index_mut-2.ensures.value c.follow.ensures))
+    subst (λ f. Leads g c.args.self.now (Follow c.args.pass) f (record s {
+      marks = slice_set s.marks c.vertex-vertex.result (c.root.result + 2);
+      accounts = slice_set s.accounts c.args.pass c.follow.new.self;
+    })) (sym c.from.ensures)
+    (subst (λ (z : State). Leads g z (Follow c.args.pass) c.index-found.result.now
+    (record s { marks = slice_set s.marks c.vertex-vertex.result (c.root.result + 2); accounts = slice_set s.accounts c.args.pass c.follow.new.self }))
+    c.self.view_is
+    (follow_leads g s k c.args.pass h c.index.result.now c.index_mut-2.result.now c.follow.new.self c.stage-stage.result c.vertex-vertex.result
+    c.root.result
+    c.index-found.result.now c.index.ensures c.stage-stage.ensures c.vertex-vertex.ensures c.root.ensures c.index-found.ensures c.index_mut-2.ensures.value
+    c.follow.ensures))

@@ -65,5 +65,12 @@ returns c =
     let g = setup_of c.args.h.now c.args._cap in
     let k = subst (IsClusterState g) (sym c.self.view_is) c.requires.balance in
     let h = subst (λ (z : State). is_enabled g z.accounts (TakeBack c.args.pass) ≡ true) (sym c.self.view_is) c.requires.enabled in
-    subst (λ (z : State). Leads g z (TakeBack c.args.pass) c.index-found.result.now (record s { masses = slice_set s.masses c.root-root.result (c.index-found.result.now - c.vertex_weight-weight.result); accounts = slice_set s.accounts c.args.pass c.set_stage.new.self })) c.self.view_is
-    (take_back_leads g s k c.args.pass h c.index.result.now c.index_mut-2.result.now c.set_stage.new.self c.stage-stage.result c.vertex.result c.root-root.result c.index-found.result.now c.vertex_weight-weight.result c.index.ensures c.stage-stage.ensures c.vertex.ensures c.root-root.ensures c.index-found.ensures c.vertex_weight-weight.ensures.value c.index_mut-2.ensures.value c.set_stage.ensures)
+    subst (λ (z : State). Leads g z (TakeBack c.args.pass) c.index-found.result.now
+    (record s {
+      masses = slice_set s.masses c.root-root.result (c.index-found.result.now - c.vertex_weight-weight.result);
+      accounts = slice_set s.accounts
+          c.args.pass c.set_stage.new.self;
+    })) c.self.view_is
+    (take_back_leads g s k c.args.pass h c.index.result.now c.index_mut-2.result.now c.set_stage.new.self c.stage-stage.result c.vertex.result
+    c.root-root.result c.index-found.result.now c.vertex_weight-weight.result c.index.ensures c.stage-stage.ensures c.vertex.ensures c.root-root.ensures
+    c.index-found.ensures c.vertex_weight-weight.ensures.value c.index_mut-2.ensures.value c.set_stage.ensures)

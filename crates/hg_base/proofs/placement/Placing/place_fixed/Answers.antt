@@ -5,7 +5,8 @@ use Rattle.std.proofs.lemmas.List.{length-set}
 use Rattle.hg_defs.specs.declared.objective.TheConstants.{FREE}
 use Rattle.hg_defs.specs.Hypergraph.{is_free, vertex_count, fix_of, weight_of}
 use Rattle.hg_defs.specs.LeastLoaded.{placed, first_overfilling}
-use Rattle.hg_base.proofs.PlacingLaws.{put, fixed_from, fixed_from-fixed, fixed_from-free, fixed_from-end, taken-fixed, overfills_now, overfills_later, placed_next}
+use Rattle.hg_base.proofs.PlacingLaws.{put, fixed_from, fixed_from-fixed, fixed_from-free, fixed_from-end}
+use Rattle.hg_base.proofs.PlacingLaws.{taken-fixed, overfills_now, overfills_later, placed_next}
 use Rattle.hg_base.proofs.placement.Placing.place_fixed.Goals as goal
 use Rattle.hg_base.proofs.placement.Placing.place_fixed.Goals.{else-fix-ne-FREE-via-then-fix-ne-FREE+else-not-place, else-fix-ne-FREE-via-else-fix-ne-FREE}
 
@@ -42,7 +43,8 @@ loop-v-preserved c =
           ap (λ (w : ℕ). nat_le (slice_index s.loads b + w) l) (sym w.vertex_weight.ensures.value) ∙ sym w.place.ensures.fits ∙ w.if-not-place.false in
           let state : c.else-fix-ne-FREE.self ≡ put h s v b =
           w.self-is ∙ w.if-not-place.ensures.placed
-          ∙ ap (λ (w : ℕ). record { loads = slice_set s.loads b (slice_index s.loads b + w); blocks = slice_set s.blocks v b }) w.vertex_weight.ensures.value in
+          ∙ ap (λ (w : ℕ). record { loads = slice_set s.loads b (slice_index s.loads b + w); blocks = slice_set s.blocks v b })
+          w.vertex_weight.ensures.value in
           rw state (
             length-set s.blocks v b ∙ c.loop-v.invariant.0,
             length-set s.loads b (slice_index s.loads b + weight_of h v) ∙ c.loop-v.invariant.1,

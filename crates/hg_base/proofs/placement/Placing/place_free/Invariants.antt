@@ -8,4 +8,5 @@ abbrev pub invariant-loop-rank : goal.invariant-loop-rank
 invariant-loop-rank l =
     (length l.self.blocks ≡ length l.fn.self.blocks) × (length l.self.loads ≡ length l.fn.self.loads)
     × (placed l.h l.self (map (λ (r : Reverse ℕ × ℕ). r.1) (drop l.rank-index l.ranks)) ≡ placed l.h l.fn.self (map (λ (r : Reverse ℕ × ℕ). r.1) l.ranks))
-    × (first_overfilling l.h l.limit l.self (map (λ (r : Reverse ℕ × ℕ). r.1) (drop l.rank-index l.ranks)) ≡ first_overfilling l.h l.limit l.fn.self (map (λ (r : Reverse ℕ × ℕ). r.1) l.ranks))
+    × (first_overfilling l.h l.limit l.self (map (λ (r : Reverse ℕ × ℕ). r.1) (drop l.rank-index l.ranks)) ≡ first_overfilling l.h l.limit l.fn.self
+    (map (λ (r : Reverse ℕ × ℕ). r.1) l.ranks))

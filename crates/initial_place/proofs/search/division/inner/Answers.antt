@@ -34,7 +34,8 @@ loop-e-preserved c =
           (let few = c.in_ok-number_pins.ensures.few in
           let same = ap (λ (xs : List ℕ). length xs) w.as_slice.ensures.value in
           subst (λ (g : Hyper). IsInner h g (c.loop-e.e + 1) c.args.count) (sym w.flat-is)
-          (inner_grown h c.loop-e.flat c.loop-e.e c.args.count here c.loop-e.invariant w.push_net.new.self w.net_weight.result (length w.as_slice.result.now)
+          (inner_grown h c.loop-e.flat c.loop-e.e c.args.count here c.loop-e.invariant w.push_net.new.self w.net_weight.result
+          (length w.as_slice.result.now)
           w.in_ok-push_net.ensures.sizes w.net_weight.ensures.value (omega arith)))
       | else-len-gt1 w ↦
           subst (λ (g : Hyper). IsInner h g (c.loop-e.e + 1) c.args.count) (sym w.flat-is)

@@ -6,7 +6,8 @@ use Rattle.move_core.proofs.books.Books.make.Goals as goal
 pub loop-event-preserved : goal.loop-event-preserved
 loop-event-preserved c =
     let o = c.in-Ok.ensures in
-    let m = made_more c.args.self.now c.args.events.now c.loop-event.event-index _ c.loop-event-test.true c.loop-event.self c.step.new.self c.in-Ok._found o.ok
+    let m = made_more c.args.self.now c.args.events.now c.loop-event.event-index _ c.loop-event-test.true c.loop-event.self c.step.new.self c.in-Ok._found
+    o.ok
     c.loop-event.invariant.state c.loop-event.invariant.enabled in
     record {
       place = ap (λ n. n + 1) c.loop-event.invariant.place;

@@ -12,7 +12,8 @@ change-requires-clause-stage c =
     let s : State = c.args.self.now in
     let x = c.args.event in
     let k = c.requires.balance in
-    let own = slot_is s k x c.requires.enabled c.self.inside.passes.items c.pass.result c.index_mut.result.now (ap (λ (z : State). z.accounts) c.self.view_is)
+    let own = slot_is s k x c.requires.enabled c.self.inside.passes.items c.pass.result c.index_mut.result.now
+    (ap (λ (z : State). z.accounts) c.self.view_is)
     c.pass.ensures c.index_mut.ensures.value in
     (gain_room s k x c.requires.enabled c.args.found c.gain-gain.result c.index_mut.result.now c.requires.found c.gain-gain.ensures own).1
 
@@ -21,7 +22,8 @@ change-requires-clause-total c =
     let s : State = c.args.self.now in
     let x = c.args.event in
     let k = c.requires.balance in
-    let own = slot_is s k x c.requires.enabled c.self.inside.passes.items c.pass.result c.index_mut.result.now (ap (λ (z : State). z.accounts) c.self.view_is)
+    let own = slot_is s k x c.requires.enabled c.self.inside.passes.items c.pass.result c.index_mut.result.now
+    (ap (λ (z : State). z.accounts) c.self.view_is)
     c.pass.ensures c.index_mut.ensures.value in
     (gain_room s k x c.requires.enabled c.args.found c.gain-gain.result c.index_mut.result.now c.requires.found c.gain-gain.ensures own).0
 
@@ -41,7 +43,8 @@ returns-clause-ok c =
     let x = c.args.event in
     let k = c.requires.balance in
     let a = account s (pass_of x) in
-    let own = slot_is s k x c.requires.enabled c.self.inside.passes.items c.pass.result c.index_mut.result.now (ap (λ (z : State). z.accounts) c.self.view_is)
+    let own = slot_is s k x c.requires.enabled c.self.inside.passes.items c.pass.result c.index_mut.result.now
+    (ap (λ (z : State). z.accounts) c.self.view_is)
     c.pass.ensures c.index_mut.ensures.value in
     on_ok_weaker c.change.result
     (λ e.

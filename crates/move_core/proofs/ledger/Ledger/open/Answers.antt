@@ -22,7 +22,8 @@ invariant_of-result c =
     let p2 = c.in_ok-from_slice-2.ensures in
     let v : c.in_ok-vec.field-0.items ≡ replicate c.vertices.result 0 = search rules in
     let n = c.vertices.ensures.count in
-    let q = c.in_ok-spreads.ensures ∙ spreads_all s c.nets.result c.deref.result.now c.nets.ensures.count (c.deref.ensures.value ∙ c.in_ok-counts.ensures) in
+    let q = c.in_ok-spreads.ensures ∙ spreads_all s c.nets.result c.deref.result.now c.nets.ensures.count (c.deref.ensures.value ∙
+    c.in_ok-counts.ensures) in
     let e = opened_from s c.args.passes c.of.result.value c.in_ok-from_slice.field-0.items c.in_ok-vec.field-0.items c.in_ok-from_slice-2.field-0.items
     c.in_ok-loads.loads.items c.in_ok-counts.counts.items c.in_ok-spreads.spreads.items c.in_ok-blank_passes.field-0.items c.of.ensures p1.items
     (v ∙ ap (λ m. replicate m 0) n) p2.items c.in_ok-loads.ensures c.in_ok-counts.ensures q c.in_ok-blank_passes.ensures in
@@ -46,7 +47,8 @@ returns-clause-state c =
     let p2 = c.in_ok-from_slice-2.ensures in
     let v : c.in_ok-vec.field-0.items ≡ replicate c.vertices.result 0 = search rules in
     let n = c.vertices.ensures.count in
-    let q = c.in_ok-spreads.ensures ∙ spreads_all s c.nets.result c.deref.result.now c.nets.ensures.count (c.deref.ensures.value ∙ c.in_ok-counts.ensures) in
+    let q = c.in_ok-spreads.ensures ∙ spreads_all s c.nets.result c.deref.result.now c.nets.ensures.count (c.deref.ensures.value ∙
+    c.in_ok-counts.ensures) in
     let e = opened_from s c.args.passes c.of.result.value c.in_ok-from_slice.field-0.items c.in_ok-vec.field-0.items c.in_ok-from_slice-2.field-0.items
     c.in_ok-loads.loads.items c.in_ok-counts.counts.items c.in_ok-spreads.spreads.items c.in_ok-blank_passes.field-0.items c.of.ensures p1.items
     (v ∙ ap (λ m. replicate m 0) n) p2.items c.in_ok-loads.ensures c.in_ok-counts.ensures q c.in_ok-blank_passes.ensures in

@@ -6,4 +6,5 @@ use Rattle.move_table.proofs.pass.Pass.peek_count.Goals as goal
 
 pub load-found-requires-clause-ready : goal.load-found-requires-clause-ready
 load-found-requires-clause-ready c =
-    ready c.shared.result.now.table_id c.shared.result.now.key c.self.inside.seat.me.0 (Peek c.self.inside.number (word.Count c.args.e c.args.b)) c.count_place-place.result.word (search rules) (search rules) (search rules) (search rules) (search rules) (search rules) (search rules)
+    ready c.shared.result.now.table_id c.shared.result.now.key c.self.inside.seat.me.0 (Peek c.self.inside.number (word.Count c.args.e c.args.b))
+    c.count_place-place.result.word (search rules) (search rules) (search rules) (search rules) (search rules) (search rules) (search rules)

@@ -22,6 +22,15 @@ load-requires-clause-ready c =
     let s = terms_setup c.args.round.now.terms in
     let b = c.first_block-b.ensures in
     let bits = c.net-net.ensures.bits in
-    let at : counts_place s c.args.e c.first_block-b.result ≡ c.net-net.result.start + 1 + c.args.index = (let x = ap (λ (z : ℕ). z / fields_of (net_bits c.args.round.now.terms.part.hyper c.args.e)) (b ∙ ap (λ (z : ℕ). c.args.index * fields_of z) bits) in let y = first_word (net_bits c.args.round.now.terms.part.hyper c.args.e) c.args.index (subst IsWidth bits c.net-net.ensures.width) in let z = c.net-net.ensures.start in omega arith) in
-    let below : c.first_block-b.result < c.args.round.now.terms.part.k = (let x = ap (λ (z : ℕ). c.args.index * fields_of z) bits in let l = c.requires.index in omega arith) in
-    ready c.shared-words.result.now.table_id c.shared-words.result.now.key c.self.inside.seat.me.0 (Peek c.self.inside.number (word.Count c.args.e c.first_block-b.result)) (c.net-net.result.start + 1 + c.args.index) (search rules) (search rules) (search rules) (search rules) (search rules) (subst (λ z. Exists (terms_setup z) (word.Count c.args.e c.first_block-b.result)) (sym c.shared-words.ensures.key) (c.requires.net, below)) (subst (λ z. c.net-net.result.start + 1 + c.args.index ≡ counts_place (terms_setup z) c.args.e c.first_block-b.result) (sym c.shared-words.ensures.key) (sym at))
+    let at : counts_place s c.args.e c.first_block-b.result ≡ c.net-net.result.start + 1 + c.args.index =
+    (let x = ap (λ (z : ℕ). z / fields_of (net_bits c.args.round.now.terms.part.hyper c.args.e)) (b ∙ ap (λ (z : ℕ). c.args.index * fields_of z) bits) in
+    let y = first_word (net_bits c.args.round.now.terms.part.hyper c.args.e) c.args.index (subst IsWidth bits c.net-net.ensures.width) in
+    let z = c.net-net.ensures.start in omega arith) in
+    let below : c.first_block-b.result < c.args.round.now.terms.part.k = (let x = ap (λ (z : ℕ). c.args.index * fields_of z) bits in
+    let l = c.requires.index in omega arith) in
+    ready c.shared-words.result.now.table_id c.shared-words.result.now.key c.self.inside.seat.me.0
+    (Peek c.self.inside.number (word.Count c.args.e c.first_block-b.result)) (c.net-net.result.start + 1 + c.args.index) (search rules) (search rules)
+    (search rules) (search rules) (search rules) (subst (λ z. Exists (terms_setup z) (word.Count c.args.e c.first_block-b.result))
+    (sym c.shared-words.ensures.key) (c.requires.net, below))
+    (subst (λ z. c.net-net.result.start + 1 + c.args.index ≡ counts_place (terms_setup z) c.args.e c.first_block-b.result) (sym c.shared-words.ensures.key)
+    (sym at))

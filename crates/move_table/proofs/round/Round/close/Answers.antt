@@ -13,7 +13,8 @@ lay_moves-requires-clause-below c =
     let ps = c.args.passes in
     let done = c.in-Ok.gathered.done.items in
     let wide = c.requires.passes.all ∙ sym (ap (λ (r : RacedRound). r.terms.workers) c.self.view_is) in
-    let g = gathered_of t c.self.inside.table.shared.key ps c.slice.result.now done c.as_slice.result.now c.end_words.ensures c.self.invariant.same_key c.slice.ensures c.as_slice.ensures.value wide c.requires.passes.numbers c.in-Ok.ensures.kept c.in-Ok.ensures.numbers c.in-Ok.ensures.moves in
+    let g = gathered_of t c.self.inside.table.shared.key ps c.slice.result.now done c.as_slice.result.now c.end_words.ensures c.self.invariant.same_key
+    c.slice.ensures c.as_slice.ensures.value wide c.requires.passes.numbers c.in-Ok.ensures.kept c.in-Ok.ensures.numbers c.in-Ok.ensures.moves in
     (have_places t ps c.as_slice.result.now g).below
 
 pub lay_moves-requires-clause-apart : goal.lay_moves-requires-clause-apart
@@ -22,7 +23,8 @@ lay_moves-requires-clause-apart c =
     let ps = c.args.passes in
     let done = c.in-Ok.gathered.done.items in
     let wide = c.requires.passes.all ∙ sym (ap (λ (r : RacedRound). r.terms.workers) c.self.view_is) in
-    let g = gathered_of t c.self.inside.table.shared.key ps c.slice.result.now done c.as_slice.result.now c.end_words.ensures c.self.invariant.same_key c.slice.ensures c.as_slice.ensures.value wide c.requires.passes.numbers c.in-Ok.ensures.kept c.in-Ok.ensures.numbers c.in-Ok.ensures.moves in
+    let g = gathered_of t c.self.inside.table.shared.key ps c.slice.result.now done c.as_slice.result.now c.end_words.ensures c.self.invariant.same_key
+    c.slice.ensures c.as_slice.ensures.value wide c.requires.passes.numbers c.in-Ok.ensures.kept c.in-Ok.ensures.numbers c.in-Ok.ensures.moves in
     (have_places t ps c.as_slice.result.now g).apart
 
 pub make_moves-requires-clause-vertices : goal.make_moves-requires-clause-vertices
@@ -31,7 +33,8 @@ make_moves-requires-clause-vertices c =
     let ps = c.args.passes in
     let done = c.in-Ok.gathered.done.items in
     let wide = c.requires.passes.all ∙ sym (ap (λ (r : RacedRound). r.terms.workers) c.self.view_is) in
-    let g = gathered_of t c.self.inside.table.shared.key ps c.slice.result.now done c.as_slice.result.now c.end_words.ensures c.self.invariant.same_key c.slice.ensures c.as_slice.ensures.value wide c.requires.passes.numbers c.in-Ok.ensures.kept c.in-Ok.ensures.numbers c.in-Ok.ensures.moves in
+    let g = gathered_of t c.self.inside.table.shared.key ps c.slice.result.now done c.as_slice.result.now c.end_words.ensures c.self.invariant.same_key
+    c.slice.ensures c.as_slice.ensures.value wide c.requires.passes.numbers c.in-Ok.ensures.kept c.in-Ok.ensures.numbers c.in-Ok.ensures.moves in
     let laid = is_laid_out t ps c.as_slice.result.now c.lay_moves.new.moves g c.lay_moves.ensures in
     let wide_out : c.in-Ok.gathered.moves.len ≡ length c.lay_moves.new.moves = search rules in
     let back = written_back c.in-Ok.gathered.moves.len c.lay_moves.new.moves (drop (length c.lay_moves.new.moves) c.in-Ok.gathered.moves.items) wide_out in
@@ -44,7 +47,8 @@ make_moves-requires-clause-blocks c =
     let ps = c.args.passes in
     let done = c.in-Ok.gathered.done.items in
     let wide = c.requires.passes.all ∙ sym (ap (λ (r : RacedRound). r.terms.workers) c.self.view_is) in
-    let g = gathered_of t c.self.inside.table.shared.key ps c.slice.result.now done c.as_slice.result.now c.end_words.ensures c.self.invariant.same_key c.slice.ensures c.as_slice.ensures.value wide c.requires.passes.numbers c.in-Ok.ensures.kept c.in-Ok.ensures.numbers c.in-Ok.ensures.moves in
+    let g = gathered_of t c.self.inside.table.shared.key ps c.slice.result.now done c.as_slice.result.now c.end_words.ensures c.self.invariant.same_key
+    c.slice.ensures c.as_slice.ensures.value wide c.requires.passes.numbers c.in-Ok.ensures.kept c.in-Ok.ensures.numbers c.in-Ok.ensures.moves in
     let laid = is_laid_out t ps c.as_slice.result.now c.lay_moves.new.moves g c.lay_moves.ensures in
     let wide_out : c.in-Ok.gathered.moves.len ≡ length c.lay_moves.new.moves = search rules in
     let back = written_back c.in-Ok.gathered.moves.len c.lay_moves.new.moves (drop (length c.lay_moves.new.moves) c.in-Ok.gathered.moves.items) wide_out in
@@ -56,7 +60,8 @@ returns-clause-moves c =
     let ps = c.args.passes in
     let done = c.in-Ok.gathered.done.items in
     let wide = c.requires.passes.all ∙ sym (ap (λ (r : RacedRound). r.terms.workers) c.self.view_is) in
-    let g = gathered_of t c.self.inside.table.shared.key ps c.slice.result.now done c.as_slice.result.now c.end_words.ensures c.self.invariant.same_key c.slice.ensures c.as_slice.ensures.value wide c.requires.passes.numbers c.in-Ok.ensures.kept c.in-Ok.ensures.numbers c.in-Ok.ensures.moves in
+    let g = gathered_of t c.self.inside.table.shared.key ps c.slice.result.now done c.as_slice.result.now c.end_words.ensures c.self.invariant.same_key
+    c.slice.ensures c.as_slice.ensures.value wide c.requires.passes.numbers c.in-Ok.ensures.kept c.in-Ok.ensures.numbers c.in-Ok.ensures.moves in
     let laid = is_laid_out t ps c.as_slice.result.now c.lay_moves.new.moves g c.lay_moves.ensures in
     let wide_out : c.in-Ok.gathered.moves.len ≡ length c.lay_moves.new.moves = search rules in
     let back = written_back c.in-Ok.gathered.moves.len c.lay_moves.new.moves (drop (length c.lay_moves.new.moves) c.in-Ok.gathered.moves.items) wide_out in
@@ -68,8 +73,12 @@ invariant_of-result c =
     let ps = c.args.passes in
     let done = c.in-Ok.gathered.done.items in
     let wide = c.requires.passes.all ∙ sym (ap (λ (r : RacedRound). r.terms.workers) c.self.view_is) in
-    let g = gathered_of t c.self.inside.table.shared.key ps c.slice.result.now done c.as_slice.result.now c.end_words.ensures c.self.invariant.same_key c.slice.ensures c.as_slice.ensures.value wide c.requires.passes.numbers c.in-Ok.ensures.kept c.in-Ok.ensures.numbers c.in-Ok.ensures.moves in
+    let g = gathered_of t c.self.inside.table.shared.key ps c.slice.result.now done c.as_slice.result.now c.end_words.ensures c.self.invariant.same_key
+    c.slice.ensures c.as_slice.ensures.value wide c.requires.passes.numbers c.in-Ok.ensures.kept c.in-Ok.ensures.numbers c.in-Ok.ensures.moves in
     let laid = is_laid_out t ps c.as_slice.result.now c.lay_moves.new.moves g c.lay_moves.ensures in
     let wide_out : c.in-Ok.gathered.moves.len ≡ length c.lay_moves.new.moves = search rules in
     let back = written_back c.in-Ok.gathered.moves.len c.lay_moves.new.moves (drop (length c.lay_moves.new.moves) c.in-Ok.gathered.moves.items) wide_out in
-    ended_as t ps c.lay_moves.new.moves c.of-opening.result.value.blocks c.make_moves.new.part c.from_vec.result c.from_vec-2.result laid.ends (search rules) (c.make_moves.ensures ∙ ap (λ (ms : List Move). record t.part { blocks = replay t.part.blocks ms }) (c.as_slice-2.ensures.value ∙ back)) (c.from_vec.ensures ∙ back) (search rules)
+    ended_as t ps c.lay_moves.new.moves c.of-opening.result.value.blocks c.make_moves.new.part c.from_vec.result c.from_vec-2.result laid.ends
+    (search rules)
+    (c.make_moves.ensures ∙ ap (λ (ms : List Move). record t.part { blocks = replay t.part.blocks ms }) (c.as_slice-2.ensures.value ∙ back))
+    (c.from_vec.ensures ∙ back) (search rules)

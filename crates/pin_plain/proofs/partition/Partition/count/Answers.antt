@@ -13,9 +13,11 @@ count-requires-clause-inside c =
     let low = c.requires.block in
     let words = ap length c.as_slice.ensures.value in
     let start = ap (λ (xs : List ℕ). slice_index xs c.args.e) c.as_slice-starts.ensures.value ∙ c.self.invariant.laid.starts_at c.args.e net in
-    let bits = c.from.ensures ∙ ap (λ (xs : List ℕ). slice_index xs c.args.e) c.as_slice-widths.ensures.value ∙ c.self.invariant.wide.width_of c.args.e net in
+    let bits = c.from.ensures ∙ ap (λ (xs : List ℕ). slice_index xs c.args.e) c.as_slice-widths.ensures.value ∙ c.self.invariant.wide.width_of c.args.e
+    net in
     let inside =
-    part_inside h c.self.inside.k c.self.inside.starts.items c.self.inside.words.items c.args.e c.args.b (slice_index c.as_slice-starts.result.now c.args.e) c.from.result c.self.invariant.laid net
+    part_inside h c.self.inside.k c.self.inside.starts.items c.self.inside.words.items c.args.e c.args.b (slice_index c.as_slice-starts.result.now c.args.e)
+    c.from.result c.self.invariant.laid net
     (omega arith) start bits in
     omega arith
 

@@ -18,7 +18,8 @@ saved_by-requires-clause-bound c =
     let moves = c.slice.ensures ∙ c.in_ok-sweep.ensures.log ∙ ap (λ (xs : List Move). xs ++ sweep c.args.h.now p.k p.limit p.blocks) c.new-moves.ensures in
     let before = c.loop-moves.invariant.before in
     let small = c.loop-moves.invariant.small in
-    subst (λ (xs : List Move). total_z (λ (m : Move). m.booked) xs <ℤ pos (2 ^ 57)) (sym moves) (sweep_bound c.args.h.now p.k p.limit p.blocks (omega arith))
+    subst (λ (xs : List Move). total_z (λ (m : Move). m.booked) xs <ℤ pos (2 ^ 57)) (sym moves)
+    (sweep_bound c.args.h.now p.k p.limit p.blocks (omega arith))
 
 pub overflow_sub-after : goal.overflow_sub-after
 overflow_sub-after c =
@@ -30,13 +31,15 @@ overflow_sub-after c =
 
 pub returns-then-not-branch-clause-ok : goal.returns-then-not-branch-clause-ok
 returns-then-not-branch-clause-ok c =
-    settle_end c.args.h.now c.args.self.now c.loop-moves.self c.sweep.new.self c.loop-moves.invariant.same c.in_ok-sweep.ensures.after c.args.log.now c.loop-moves.log c.loop-moves.rounds
+    settle_end c.args.h.now c.args.self.now c.loop-moves.self c.sweep.new.self c.loop-moves.invariant.same c.in_ok-sweep.ensures.after c.args.log.now
+    c.loop-moves.log c.loop-moves.rounds
     (c.in_ok-sweep.ensures.settled.0 c.if-not-branch.true) c.loop-moves.invariant.added
 
 pub swept-requires-clause-few : goal.swept-requires-clause-few
 swept-requires-clause-few c =
     let p = c.loop-moves.self in
-    let moves = c.in_ok-made.ensures ∙ c.in_ok-sweep.ensures.log ∙ ap (λ (xs : List Move). xs ++ sweep c.args.h.now p.k p.limit p.blocks) c.new-moves.ensures in
+    let moves = c.in_ok-made.ensures ∙ c.in_ok-sweep.ensures.log ∙ ap (λ (xs : List Move). xs ++ sweep c.args.h.now p.k p.limit p.blocks)
+    c.new-moves.ensures in
     let few = sweep_few c.args.h.now p.k p.limit p.blocks c.vertices-vertices.ensures.bounds in
     let len = ap length moves in
     omega arith
@@ -47,8 +50,10 @@ loop-moves-smaller c =
     settle_less c.args.h.now c.args.self.now c.loop-moves.self c.sweep.new.self c.loop-moves.invariant.same c.in_ok-sweep.ensures.after
     (λ settled. true≢false (sym c.if-not-branch.false ∙ c.in_ok-sweep.ensures.settled.1 settled)) in
     let before = c.loop-moves.invariant.before in
-    let moves = c.slice.ensures ∙ c.in_ok-sweep.ensures.log ∙ ap (λ (xs : List Move). xs ++ sweep c.args.h.now c.loop-moves.self.k c.loop-moves.self.limit c.loop-moves.self.blocks) c.new-moves.ensures in
-    let sum = settle_after c.args.h.now c.args.self.now c.loop-moves.self c.sweep.new.self c.loop-moves.invariant.same c.in_ok-sweep.ensures.after c.slice.result.now c.saved_by.result moves c.saved_by.ensures in
+    let moves = c.slice.ensures ∙ c.in_ok-sweep.ensures.log ∙ ap (λ (xs : List Move). xs ++ sweep c.args.h.now c.loop-moves.self.k c.loop-moves.self.limit
+    c.loop-moves.self.blocks) c.new-moves.ensures in
+    let sum = settle_after c.args.h.now c.args.self.now c.loop-moves.self c.sweep.new.self c.loop-moves.invariant.same c.in_ok-sweep.ensures.after
+    c.slice.result.now c.saved_by.result moves c.saved_by.ensures in
     omega arith
 
 pub loop-moves-preserved : goal.loop-moves-preserved
@@ -57,16 +62,21 @@ loop-moves-preserved c =
     settle_less c.args.h.now c.args.self.now c.loop-moves.self c.sweep.new.self c.loop-moves.invariant.same c.in_ok-sweep.ensures.after
     (λ settled. true≢false (sym c.if-not-branch.false ∙ c.in_ok-sweep.ensures.settled.1 settled)) in
     let before = c.loop-moves.invariant.before in
-    let moves = c.slice.ensures ∙ c.in_ok-sweep.ensures.log ∙ ap (λ (xs : List Move). xs ++ sweep c.args.h.now c.loop-moves.self.k c.loop-moves.self.limit c.loop-moves.self.blocks) c.new-moves.ensures in
-    let sum = settle_after c.args.h.now c.args.self.now c.loop-moves.self c.sweep.new.self c.loop-moves.invariant.same c.in_ok-sweep.ensures.after c.slice.result.now c.saved_by.result moves c.saved_by.ensures in
+    let moves = c.slice.ensures ∙ c.in_ok-sweep.ensures.log ∙ ap (λ (xs : List Move). xs ++ sweep c.args.h.now c.loop-moves.self.k c.loop-moves.self.limit
+    c.loop-moves.self.blocks) c.new-moves.ensures in
+    let sum = settle_after c.args.h.now c.args.self.now c.loop-moves.self c.sweep.new.self c.loop-moves.invariant.same c.in_ok-sweep.ensures.after
+    c.slice.result.now c.saved_by.result moves c.saved_by.ensures in
     record {
       same = same_step c.args.self.now c.loop-moves.self c.sweep.new.self _ c.loop-moves.invariant.same c.in_ok-sweep.ensures.after;
       before = let before = c.loop-moves.invariant.before in omega arith;
       small = let small = c.loop-moves.invariant.small in omega arith;
       number = let was = c.loop-moves.invariant.number in omega arith;
       added =
-          settle_more c.args.h.now c.args.self.now c.loop-moves.self c.sweep.new.self c.loop-moves.invariant.same c.in_ok-sweep.ensures.after c.args.log.now c.loop-moves.log c.push.new.self c.loop-moves.rounds
-          c.in_ok-made.made c.loop-moves.before (c.loop-moves.before - c.saved_by.result) c.in_ok-swept.field-0 (λ settled. true≢false (sym c.if-not-branch.false ∙ c.in_ok-sweep.ensures.settled.1 settled))
-          (c.in_ok-made.ensures ∙ c.in_ok-sweep.ensures.log ∙ ap (λ (xs : List Move). xs ++ sweep c.args.h.now c.loop-moves.self.k c.loop-moves.self.limit c.loop-moves.self.blocks) c.new-moves.ensures) before (let was = c.loop-moves.invariant.before in omega arith) c.in_ok-swept.ensures
+          settle_more c.args.h.now c.args.self.now c.loop-moves.self c.sweep.new.self c.loop-moves.invariant.same c.in_ok-sweep.ensures.after c.args.log.now
+          c.loop-moves.log c.push.new.self c.loop-moves.rounds
+          c.in_ok-made.made c.loop-moves.before (c.loop-moves.before - c.saved_by.result) c.in_ok-swept.field-0
+          (λ settled. true≢false (sym c.if-not-branch.false ∙ c.in_ok-sweep.ensures.settled.1 settled))
+          (c.in_ok-made.ensures ∙ c.in_ok-sweep.ensures.log ∙ ap (λ (xs : List Move). xs ++ sweep c.args.h.now c.loop-moves.self.k c.loop-moves.self.limit
+          c.loop-moves.self.blocks) c.new-moves.ensures) before (let was = c.loop-moves.invariant.before in omega arith) c.in_ok-swept.ensures
           c.in_ok-push.ensures.ok c.loop-moves.invariant.added;
     }

@@ -18,9 +18,11 @@ move_weight-requires-clause-held c =
     let long = whole.vertices in
     let from : slice_index c.slice.result.now c.args.v ≡ block_of p c.args.v = ap (λ (xs : List ℕ). slice_index xs c.args.v) c.slice.ensures in
     let other : c.args.to ≢ block_of p c.args.v = λ e. c.if-from-to.false (from ∙ sym e) in
-    let within = weight_within h c.self.inside.k p c.self.inside.loads.items c.args.v c.args.to c.self.invariant.loaded long vertex (whole.blocks c.args.v 0 (omega arith)) other in
+    let within = weight_within h c.self.inside.k p c.self.inside.loads.items c.args.v c.args.to c.self.invariant.loaded long vertex
+    (whole.blocks c.args.v 0 (omega arith)) other in
     let weight : c.vertex_weight.result ≡ weight_of h c.args.v = c.vertex_weight.ensures.value ∙ ap (λ (x : Hyper). weight_of x c.args.v) (sym hyper) in
-    let loads = ap (λ (xs : List ℕ). slice_index xs (slice_index c.slice.result.now c.args.v)) c.as_mut_slice-2.ensures.value ∙ ap (slice_index c.self.inside.loads.items) from in
+    let loads = ap (λ (xs : List ℕ). slice_index xs (slice_index c.slice.result.now c.args.v)) c.as_mut_slice-2.ensures.value ∙
+    ap (slice_index c.self.inside.loads.items) from in
     omega arith
 
 pub move_weight-requires-clause-room : goal.move_weight-requires-clause-room
@@ -56,9 +58,12 @@ invariant_of-self c =
     ∙ ap (λ (xs : List ℕ). loads_after xs (slice_index c.slice.result.now v) to c.vertex_weight.result) c.as_mut_slice-2.ensures.value
     ∙ ap (λ (b : ℕ). loads_after c.self.inside.loads.items b to c.vertex_weight.result) from
     ∙ ap (loads_after c.self.inside.loads.items (block_of p v) to) weight in
-    let loaded = subst (IsLoaded h k (moved p v to)) (sym after) (weight_moved h k p c.self.inside.loads.items v to c.self.invariant.loaded long vertex (whole.blocks v 0 (omega arith)) low other) in
+    let loaded = subst (IsLoaded h k (moved p v to)) (sym after) (weight_moved h k p c.self.inside.loads.items v to c.self.invariant.loaded long vertex
+    (whole.blocks v 0 (omega arith)) low other) in
     let counted =
     subst (λ (x : Hyper). HoldsCounts x k c.move_pin.new.words (counts_of x (moved p v to))) (sym hyper)
-    (subst (λ (xs : List ℕ). HoldsCounts c.args.h.now k c.move_pin.new.words (counts_of c.args.h.now (moved xs v to))) c.slice-2.ensures c.move_pin.ensures) in
-    kept_shifted h k p c.set.new.self c.self.inside.loads.items c.self.inside.starts.items c.self.inside.widths.items c.self.inside.words.items v to c.self.inside.loads.len c.self.inside.words.len
+    (subst (λ (xs : List ℕ). HoldsCounts c.args.h.now k c.move_pin.new.words (counts_of c.args.h.now (moved xs v to))) c.slice-2.ensures
+    c.move_pin.ensures) in
+    kept_shifted h k p c.set.new.self c.self.inside.loads.items c.self.inside.starts.items c.self.inside.widths.items c.self.inside.words.items v to
+    c.self.inside.loads.len c.self.inside.words.len
     c.move_weight.new.loads _ c.move_pin.new.words _ c.self.invariant low c.set.ensures loaded counted (omega arith) (omega arith) (omega arith)

@@ -1,4 +1,5 @@
-use Rattle.std.proofs.Common.{◌≡◌, ◌≢◌, ◌+◌, ◌*◌, ◌∙◌, ℕ, true, false, length, take, slice_index, nat_eq, nat_lt, ◌||◌, if◌then◌else◌, refl, sym, ap, subst, arith}
+use Rattle.std.proofs.Common.{◌≡◌, ◌≢◌, ◌+◌, ◌*◌, ◌∙◌, ℕ, true, false, length, take, slice_index, nat_eq}
+use Rattle.std.proofs.Common.{nat_lt, ◌||◌, if◌then◌else◌, refl, sym, ap, subst, arith}
 use Rattle.std.proofs.lemmas.List.{take_all, get_or-set_other}
 use Rattle.std.proofs.lemmas.Bool.{not-true, not-false}
 use Rattle.hg_defs.specs.Pins.{pins_in}
@@ -17,7 +18,8 @@ loop-v-preserved-then-block-from c =
     record {
       sums = λ b q.
           c.loop-v.invariant.sums b q
-          ∙ ap (λ t. slice_index c.args.self.now.sums b + (if t then amount_for c.args.net.now.objective c.args.net.now.weight p pins b else 0)) (sym (kept b q));
+          ∙ ap (λ t. slice_index c.args.self.now.sums b + (if t then amount_for c.args.net.now.objective c.args.net.now.weight p pins b else 0))
+          (sym (kept b q));
       own = c.loop-v.invariant.own;
       marked = λ b l q. c.loop-v.invariant.marked b l q ∙ sym (kept b q);
     }
@@ -30,15 +32,18 @@ loop-v-preserved-then-not-mark c =
     let block = slice_index p (slice_index pins i) in
     let low = c.args.net.now.below (slice_index pins i) 0 (c.args.net.now.pinned i 0 c.loop-v-test.true) in
     let old : nat_lt 0 (pins_in p (take i pins) block) ≡ true =
-    sym (c.loop-v.invariant.marked block low c.if-block-from.false) ∙ not-false (is_seen c.loop-v.self.seen block) (sym c.mark.ensures.first ∙ c.if-not-mark.true) in
+    sym (c.loop-v.invariant.marked block low c.if-block-from.false) ∙ not-false (is_seen c.loop-v.self.seen block) (sym c.mark.ensures.first ∙
+    c.if-not-mark.true) in
     let kept : (b : ℕ) → nat_lt 0 (pins_in p (take (i + 1) pins) b) ≡ nat_lt 0 (pins_in p (take i pins) b) =
     λ b. touched_kept p pins i b c.loop-v-test.true (λ e. subst (λ d. nat_lt 0 (pins_in p (take i pins) d) ≡ true) e old) in
     record {
       sums = λ b q.
           c.loop-v.invariant.sums b q
-          ∙ ap (λ t. slice_index c.args.self.now.sums b + (if t then amount_for c.args.net.now.objective c.args.net.now.weight p pins b else 0)) (sym (kept b));
+          ∙ ap (λ t. slice_index c.args.self.now.sums b + (if t then amount_for c.args.net.now.objective c.args.net.now.weight p pins b else 0))
+          (sym (kept b));
       own = c.loop-v.invariant.own;
-      marked = λ b l q. c.mark.ensures.seen b l ∙ ap (λ t. t || nat_eq block b) (c.loop-v.invariant.marked b l q) ∙ sym (touched_more p pins i b c.loop-v-test.true);
+      marked = λ b l q. c.mark.ensures.seen b l ∙ ap (λ t. t || nat_eq block b) (c.loop-v.invariant.marked b l q) ∙
+          sym (touched_more p pins i b c.loop-v-test.true);
     }
 
 pub saved-requires : goal.saved-requires
@@ -59,10 +64,12 @@ add-requires-clause-room c =
     let block = slice_index p v in
     let inside = c.args.net.now.pinned c.loop-v.v-index 0 c.loop-v-test.true in
     let new : nat_lt 0 (pins_in p (take c.loop-v.v-index net.pins.now) block) ≡ false =
-    sym (c.loop-v.invariant.marked block (c.args.net.now.below v 0 inside) c.if-block-from.false) ∙ not-true (is_seen c.loop-v.self.seen block) (sym c.mark.ensures.first ∙ c.if-not-mark.false) in
+    sym (c.loop-v.invariant.marked block (c.args.net.now.below v 0 inside) c.if-block-from.false) ∙ not-true (is_seen c.loop-v.self.seen block)
+    (sym c.mark.ensures.first ∙ c.if-not-mark.false) in
     let none = amount_first p net.pins.now c.loop-v.v-index block net.objective net.weight new in
     let was = c.loop-v.invariant.sums block c.if-block-from.false in
-    let amount = amount_is net.objective net.weight c.saved.result c.count-pins.result (length net.pins.now) p net.pins.now block c.saved.ensures.value (c.count-pins.ensures.value ∙ c.requires.counts v 0 inside) refl in
+    let amount = amount_is net.objective net.weight c.saved.result c.count-pins.result (length net.pins.now) p net.pins.now block c.saved.ensures.value
+    (c.count-pins.ensures.value ∙ c.requires.counts v 0 inside) refl in
     let room = c.requires.room block in
     omega arith
 
@@ -76,15 +83,20 @@ loop-v-preserved c =
     let inside = c.args.net.now.pinned i 0 c.loop-v-test.true in
     let low = c.args.net.now.below v 0 inside in
     let new : nat_lt 0 (pins_in p (take i net.pins.now) block) ≡ false =
-    sym (c.loop-v.invariant.marked block low c.if-block-from.false) ∙ not-true (is_seen c.loop-v.self.seen block) (sym c.mark.ensures.first ∙ c.if-not-mark.false) in
-    let amount = amount_is net.objective net.weight c.saved.result c.count-pins.result (length net.pins.now) p net.pins.now block c.saved.ensures.value (c.count-pins.ensures.value ∙ c.requires.counts v 0 inside) refl in
+    sym (c.loop-v.invariant.marked block low c.if-block-from.false) ∙ not-true (is_seen c.loop-v.self.seen block) (sym c.mark.ensures.first ∙
+    c.if-not-mark.false) in
+    let amount = amount_is net.objective net.weight c.saved.result c.count-pins.result (length net.pins.now) p net.pins.now block c.saved.ensures.value
+    (c.count-pins.ensures.value ∙ c.requires.counts v 0 inside) refl in
     record {
       sums = λ b q.
           ap (λ xs. slice_index xs b) c.add.ensures.sums
-          ∙ sums_step p net.pins.now i block c.args.from net.objective net.weight (net.weight * c.saved.result) c.loop-v.self.sums c.args.self.now.sums c.loop-v-test.true refl
+          ∙ sums_step p net.pins.now i block c.args.from net.objective net.weight (net.weight * c.saved.result) c.loop-v.self.sums c.args.self.now.sums
+          c.loop-v-test.true refl
           (let size = c.add.ensures.size in omega arith) amount new c.loop-v.invariant.sums b q;
-      own = ap (λ xs. slice_index xs c.args.from) c.add.ensures.sums ∙ get_or-set_other c.loop-v.self.sums block c.args.from _ 0 (λ e. c.if-block-from.false (sym e)) ∙ c.loop-v.invariant.own;
-      marked = λ b l q. c.mark.ensures.seen b l ∙ ap (λ t. t || nat_eq block b) (c.loop-v.invariant.marked b l q) ∙ sym (touched_more p net.pins.now i b c.loop-v-test.true);
+      own = ap (λ xs. slice_index xs c.args.from) c.add.ensures.sums ∙ get_or-set_other c.loop-v.self.sums block c.args.from _ 0
+          (λ e. c.if-block-from.false (sym e)) ∙ c.loop-v.invariant.own;
+      marked = λ b l q. c.mark.ensures.seen b l ∙ ap (λ t. t || nat_eq block b) (c.loop-v.invariant.marked b l q) ∙
+          sym (touched_more p net.pins.now i b c.loop-v-test.true);
     }
 
 pub returns-clause-sums : goal.returns-clause-sums
@@ -92,5 +104,6 @@ returns-clause-sums c b q =
     let p = c.args.net.now.blocks.now in
     let pins = c.args.net.now.pins.now in
     c.loop-v.invariant.sums b q
-    ∙ ap (λ ps. slice_index c.args.self.now.sums b + (if nat_lt 0 (pins_in p ps b) then amount_for c.args.net.now.objective c.args.net.now.weight p pins b else 0)) (take_all c.loop-v.v-index pins (omega arith))
+    ∙ ap (λ ps. slice_index c.args.self.now.sums b + (if nat_lt 0 (pins_in p ps b) then amount_for c.args.net.now.objective c.args.net.now.weight p pins
+    b else 0)) (take_all c.loop-v.v-index pins (omega arith))
     ∙ ap (λ x. slice_index c.args.self.now.sums b + x) (amount_all c.args.net.now.objective c.args.net.now.weight p pins b)

@@ -17,7 +17,8 @@ loop-i-preserved-then-word-eq0 c =
           let more = words_more net.objective net.weight c.args.net.now.blocks.now net.pins.now i f b in
           let none =
           words_none net.objective net.weight c.args.net.now.blocks.now net.pins.now i f b
-          (λ place l. sym (c.requires.counts i place c.loop-i-test.true l) ∙ ap (λ w. field w net.bits place) c.if-word-eq0.true ∙ field_zero net.bits place) in
+          (λ place l. sym (c.requires.counts i place c.loop-i-test.true l) ∙ ap (λ w. field w net.bits place) c.if-word-eq0.true ∙
+          field_zero net.bits place) in
           omega arith;
       own = c.loop-i.invariant.own;
     }

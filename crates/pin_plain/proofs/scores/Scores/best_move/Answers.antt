@@ -19,22 +19,26 @@ top-best-requires-clause-past c b past =
     let vertex = c.requires.vertex in
     let low = whole.blocks c.args.v 0 (omega arith) in
     let size = c.args.lent.now.loaded.all in
-    c.score-loss.ensures.sums b (λ e. absurd (omega arith)) ∙ saved_past l.h.now l.k l.blocks.now l.starts.now l.words.now b c.args.v c.args.lent.now.told (omega arith)
+    c.score-loss.ensures.sums b (λ e. absurd (omega arith)) ∙ saved_past l.h.now l.k l.blocks.now l.starts.now l.words.now b c.args.v c.args.lent.now.told
+    (omega arith)
 
 pub top-best-requires-clause-loads : goal.top-best-requires-clause-loads
 top-best-requires-clause-loads c =
     let l = c.args.lent.now in
-    load_fits l.h.now l.k l.blocks.now c.args.lent.now.loads.now c.vertex_weight-weight.result c.args.lent.now.told.parted.bounds c.args.lent.now.loaded c.vertex_weight-weight.ensures.bound
+    load_fits l.h.now l.k l.blocks.now c.args.lent.now.loads.now c.vertex_weight-weight.result c.args.lent.now.told.parted.bounds c.args.lent.now.loaded
+    c.vertex_weight-weight.ensures.bound
 
 pub returns-clause-best : goal.returns-clause-best
 returns-clause-best c =
     let l = c.args.lent.now in
     let sums = c.score-loss.new.self.sums in
     let free : IsFree l.h.now c.args.v = sym c.fix.ensures.value ∙ c.if-fix-ne-FREE.false in
-    let top = subst (λ (w : ℕ). IsTop sums c.args.lent.now.loads.now c.args.lent.now.limit w (block_of l.blocks.now c.args.v) c.score-loss.result c.top-best.result) c.vertex_weight-weight.ensures.value c.top-best.ensures in
+    let top = subst (λ (w : ℕ). IsTop sums c.args.lent.now.loads.now c.args.lent.now.limit w (block_of l.blocks.now c.args.v) c.score-loss.result
+    c.top-best.result) c.vertex_weight-weight.ensures.value c.top-best.ensures in
     ap (option_map (λ (m : ℕ × ℕ). m.0)) c.with_gain-found.ensures
     ∙ map_first sums c.score-loss.result c.top-best.result
-    ∙ top_best l.h.now l.k c.args.lent.now.limit l.blocks.now l.starts.now l.words.now c.args.lent.now.loads.now sums c.args.v c.score-loss.result c.args.lent.now.told c.args.lent.now.loaded c.requires.vertex free c.score-loss.ensures.lost
+    ∙ top_best l.h.now l.k c.args.lent.now.limit l.blocks.now l.starts.now l.words.now c.args.lent.now.loads.now sums c.args.v c.score-loss.result
+    c.args.lent.now.told c.args.lent.now.loaded c.requires.vertex free c.score-loss.ensures.lost
     c.score-loss.ensures.sums c.top-best.result top
 
 pub returns-clause-gain : goal.returns-clause-gain
@@ -42,9 +46,11 @@ returns-clause-gain c =
     let l = c.args.lent.now in
     let sums = c.score-loss.new.self.sums in
     let free : IsFree l.h.now c.args.v = sym c.fix.ensures.value ∙ c.if-fix-ne-FREE.false in
-    let top = subst (λ (w : ℕ). IsTop sums c.args.lent.now.loads.now c.args.lent.now.limit w (block_of l.blocks.now c.args.v) c.score-loss.result c.top-best.result) c.vertex_weight-weight.ensures.value c.top-best.ensures in
+    let top = subst (λ (w : ℕ). IsTop sums c.args.lent.now.loads.now c.args.lent.now.limit w (block_of l.blocks.now c.args.v) c.score-loss.result
+    c.top-best.result) c.vertex_weight-weight.ensures.value c.top-best.ensures in
     subst (λ (o : Option (ℕ × ℕ)). IfSome o (λ m. pos m.1 ≡ gain l.h.now l.blocks.now c.args.v m.0)) (sym c.with_gain-found.ensures)
-    (found_gain l.h.now l.k c.args.lent.now.limit l.blocks.now l.starts.now l.words.now c.args.lent.now.loads.now sums c.args.v c.score-loss.result c.args.lent.now.told c.args.lent.now.loaded c.requires.vertex free c.score-loss.ensures.lost
+    (found_gain l.h.now l.k c.args.lent.now.limit l.blocks.now l.starts.now l.words.now c.args.lent.now.loads.now sums c.args.v c.score-loss.result
+    c.args.lent.now.told c.args.lent.now.loaded c.requires.vertex free c.score-loss.ensures.lost
     c.score-loss.ensures.sums c.top-best.result top)
 
 pub returns-clause-bound : goal.returns-clause-bound
@@ -52,7 +58,9 @@ returns-clause-bound c =
     let l = c.args.lent.now in
     let sums = c.score-loss.new.self.sums in
     let free : IsFree l.h.now c.args.v = sym c.fix.ensures.value ∙ c.if-fix-ne-FREE.false in
-    let top = subst (λ (w : ℕ). IsTop sums c.args.lent.now.loads.now c.args.lent.now.limit w (block_of l.blocks.now c.args.v) c.score-loss.result c.top-best.result) c.vertex_weight-weight.ensures.value c.top-best.ensures in
+    let top = subst (λ (w : ℕ). IsTop sums c.args.lent.now.loads.now c.args.lent.now.limit w (block_of l.blocks.now c.args.v) c.score-loss.result
+    c.top-best.result) c.vertex_weight-weight.ensures.value c.top-best.ensures in
     subst (λ (o : Option (ℕ × ℕ)). IfSome o (λ m. m.1 < 2 ^ 55)) (sym c.with_gain-found.ensures)
-    (found_bound l.h.now l.k c.args.lent.now.limit l.blocks.now l.starts.now l.words.now c.args.lent.now.loads.now sums c.args.v c.score-loss.result c.args.lent.now.told c.args.lent.now.loaded c.requires.vertex free c.score-loss.ensures.lost
+    (found_bound l.h.now l.k c.args.lent.now.limit l.blocks.now l.starts.now l.words.now c.args.lent.now.loads.now sums c.args.v c.score-loss.result
+    c.args.lent.now.told c.args.lent.now.loaded c.requires.vertex free c.score-loss.ensures.lost
     c.score-loss.ensures.sums c.top-best.result top)

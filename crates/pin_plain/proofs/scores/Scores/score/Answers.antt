@@ -10,13 +10,15 @@ use Rattle.pin_plain.proofs.scores.Scores.score.Goals as goal
 pub add_net-loss-requires-clause-room : goal.add_net-loss-requires-clause-room
 add_net-loss-requires-clause-room c b =
     let l = c.args.lent.now in
-    room_for l.h.now l.blocks.now b (block_of l.blocks.now c.args.v) c.args.v c.loop-e.e-index c.nets_of-e-items.result.now c.loop-e.self.sums c.args.lent.now.told.parted.bounds c.nets_of-e-items.ensures.value c.loop-e-test.true
+    room_for l.h.now l.blocks.now b (block_of l.blocks.now c.args.v) c.args.v c.loop-e.e-index c.nets_of-e-items.result.now c.loop-e.self.sums
+    c.args.lent.now.told.parted.bounds c.nets_of-e-items.ensures.value c.loop-e-test.true
     c.loop-e.invariant.own c.loop-e.invariant.sums
 
 pub overflow_add-loss : goal.overflow_add-loss
 overflow_add-loss c =
     let l = c.args.lent.now in
-    let bound = lost_so_far l.h.now l.blocks.now (block_of l.blocks.now c.args.v) c.args.v c.loop-e.e-index c.nets_of-e-items.result.now c.args.lent.now.told.parted.bounds c.nets_of-e-items.ensures.value c.loop-e-test.true in
+    let bound = lost_so_far l.h.now l.blocks.now (block_of l.blocks.now c.args.v) c.args.v c.loop-e.e-index c.nets_of-e-items.result.now
+    c.args.lent.now.told.parted.bounds c.nets_of-e-items.ensures.value c.loop-e-test.true in
     let now = c.loop-e.invariant.lost in
     let one = c.add_net-loss.ensures.lost in
     omega arith
@@ -43,7 +45,8 @@ pub returns-clause-bound : goal.returns-clause-bound
 returns-clause-bound c =
     let l = c.args.lent.now in
     let from = block_of l.blocks.now c.args.v in
-    let all = ap (total (net_lost l.h.now l.blocks.now from)) (take_all c.loop-e.e-index c.nets_of-e-items.result.now (omega arith) ∙ c.nets_of-e-items.ensures.value) in
+    let all = ap (total (net_lost l.h.now l.blocks.now from)) (take_all c.loop-e.e-index c.nets_of-e-items.result.now (omega arith) ∙
+    c.nets_of-e-items.ensures.value) in
     let bound = lost_bound l.h.now l.blocks.now from c.args.v c.args.lent.now.told.parted.bounds in
     let now = c.loop-e.invariant.lost in
     omega arith

@@ -7,6 +7,7 @@ use Rattle.pin_plain.proofs.scores.Scores.score.Given as goal
 abbrev pub invariant-loop-e : goal.invariant-loop-e
 invariant-loop-e l = record {
   lost : l.loss ≡ total (net_lost l.lent.h.now l.lent.blocks.now (block_of l.lent.blocks.now l.v)) (take l.e-index l.e-items);
-  sums : (b : ℕ) → b ≢ block_of l.lent.blocks.now l.v → slice_index l.self.sums b ≡ total (net_saved l.lent.h.now l.lent.blocks.now b) (take l.e-index l.e-items);
+  sums : (b : ℕ) → b ≢ block_of l.lent.blocks.now l.v → slice_index l.self.sums b ≡ total (net_saved l.lent.h.now l.lent.blocks.now b)
+      (take l.e-index l.e-items);
   own : slice_index l.self.sums (block_of l.lent.blocks.now l.v) ≡ 0;
 }

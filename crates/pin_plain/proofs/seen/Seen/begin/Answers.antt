@@ -8,7 +8,8 @@ pub invariant_of-self : goal.invariant_of-self
 invariant_of-self c =
     elim c.if-self.branch [
       | then-self w ↦ subst (λ t. IsBefore t.last (t.net + 1 + 1)) (sym w.self-inside-is) (before_zeros 256 1 refl)
-      | else-self w ↦ subst (λ t. IsBefore t.last (t.net + 1 + 1)) (sym w.self-inside-is) (before_more c.self.inside.last (c.self.inside.net + 1) c.self.invariant)
+      | else-self w ↦ subst (λ t. IsBefore t.last (t.net + 1 + 1)) (sym w.self-inside-is) (before_more c.self.inside.last (c.self.inside.net + 1)
+          c.self.invariant)
     ]
 
 pub returns : goal.returns

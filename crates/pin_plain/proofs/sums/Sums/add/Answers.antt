@@ -34,5 +34,6 @@ invariant_of-self c =
           (tracked_new s.sums s.touched s.count c.args.block c.args.amount c.self.invariant c.requires.block some w.if-sum-eq0.true)
       | else-sum-eq0 w ↦
           subst (λ t. IsTracked (slice_set t.sums c.args.block (slice_index s.sums c.args.block + c.args.amount)) t.touched t.count) (sym w.self-inside-is)
-          (tracked_old s.sums s.touched s.count c.args.block c.args.amount c.self.invariant c.requires.block some (let q = w.if-sum-eq0.false in omega arith))
+          (tracked_old s.sums s.touched s.count c.args.block c.args.amount c.self.invariant c.requires.block some (let q = w.if-sum-eq0.false in
+          omega arith))
     ]

@@ -25,12 +25,19 @@ loop-i-preserved c =
     let few = tracked_count s.sums s.touched s.count c.self.invariant in
     let inside : i < length s.touched = let places = c.self.invariant.places in omega arith in
     let target : IsTarget c.args.loads.now c.args.limit c.args.weight c.args.from (slice_index s.touched i) =
-    record { block = target_block s.sums s.touched c.args.loads.now s.count i c.self.invariant c.loop-i-test.true (λ b m. ap (λ xs. slice_index xs b) c.self.view_is ∙ c.requires.past b m); other = c.if-block-from.false; room = c.if-loads-block.false } in
+    record {
+      block = target_block s.sums s.touched c.args.loads.now s.count i c.self.invariant c.loop-i-test.true
+          (λ b m. ap (λ xs. slice_index xs b) c.self.view_is ∙ c.requires.past b m);
+      other = c.if-block-from.false;
+      room = c.if-loads-block.false;
+    } in
     elim c.if-is_higher.branch [
       | then-is_higher w ↦
           subst (IsTopAmong s.sums c.args.loads.now c.args.limit c.args.weight c.args.from c.args.loss (take (i + 1) s.touched)) (sym w.best-is)
-          (top_taken s.sums c.args.loads.now c.args.limit c.args.weight c.args.from c.args.loss s.touched i inside c.loop-i.best target (c.is_higher.ensures.0 w.if-is_higher.true) c.loop-i.invariant)
+          (top_taken s.sums c.args.loads.now c.args.limit c.args.weight c.args.from c.args.loss s.touched i inside c.loop-i.best target
+          (c.is_higher.ensures.0 w.if-is_higher.true) c.loop-i.invariant)
       | else-is_higher w ↦
           subst (IsTopAmong s.sums c.args.loads.now c.args.limit c.args.weight c.args.from c.args.loss (take (i + 1) s.touched)) (sym w.best-is)
-          (top_kept s.sums c.args.loads.now c.args.limit c.args.weight c.args.from c.args.loss s.touched i inside c.loop-i.best (λ t h. true≢false (sym (c.is_higher.ensures.1 h) ∙ w.if-is_higher.false)) c.loop-i.invariant)
+          (top_kept s.sums c.args.loads.now c.args.limit c.args.weight c.args.from c.args.loss s.touched i inside c.loop-i.best
+          (λ t h. true≢false (sym (c.is_higher.ensures.1 h) ∙ w.if-is_higher.false)) c.loop-i.invariant)
     ]

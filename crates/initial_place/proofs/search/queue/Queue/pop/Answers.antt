@@ -12,4 +12,5 @@ left P old new (Some x) Q all some none = All-tail P x new (All-permutation P ol
 
 pub invariant_of-self : goal.invariant_of-self
 invariant_of-self c =
-    left (λ offer. offer.2 < c.self.inside.vertices) (heap_items c.self.inside.heap) (heap_items c.pop.new.self) c.pop.result _ c.self.invariant c.pop.ensures.permutation c.pop.ensures.unchanged
+    left (λ offer. offer.2 < c.self.inside.vertices) (heap_items c.self.inside.heap) (heap_items c.pop.new.self) c.pop.result _ c.self.invariant
+    c.pop.ensures.permutation c.pop.ensures.unchanged

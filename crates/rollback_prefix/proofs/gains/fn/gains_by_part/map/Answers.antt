@@ -8,7 +8,8 @@ pub part_gains-requires : goal.part_gains-requires
 part_gains-requires c = record {
   replay = c.requires.1;
   order = c.requires.2;
-  nets = subst (λ (xs : List ℕ). All (λ e. e < net_count c.captures.h.now) xs) (sym c.part_at.ensures) (part_below (net_count c.captures.h.now) c.captures.nets.now c.captures.size c.args.j c.requires.3);
+  nets = subst (λ (xs : List ℕ). All (λ e. e < net_count c.captures.h.now) xs) (sym c.part_at.ensures)
+      (part_below (net_count c.captures.h.now) c.captures.nets.now c.captures.size c.args.j c.requires.3);
   bound =
       let a = part_weight-le c.captures.h.now c.captures.nets.now c.captures.size c.args.j in
       let b = ap (pin_weight c.captures.h.now) c.part_at.ensures in
