@@ -17,7 +17,7 @@ use std::alloc::Global;
 use std::thread::Threads;
 
 /// The heaviest that a cluster may be: an eighth of an even share of the weight, rounded up.
-pub(crate) fn cluster_cap(weight: u64, k: u32) -> u64
+pub fn cluster_cap(weight: u64, k: u32) -> u64
     requires weight { weight < 2 ^ 54 }
     requires some { 0 < k }
     ensures { result ≡ clusterings.cluster_cap weight k }
@@ -103,7 +103,7 @@ fn split_roots(h: &Hypergraph, blocks: &[u32], mut roots: Vec<u32>) -> Vec<u32>
 }
 
 /// How many clusters a full clustering has: one more than its greatest number.
-pub(crate) fn count_clusters(clusters: &[u32]) -> u32
+pub fn count_clusters(clusters: &[u32]) -> u32
     requires { All (λ i. i < 2 ^ 22) clusters.now }
     ensures { result ≡ cluster_count clusters.now }
 {
@@ -115,7 +115,7 @@ pub(crate) fn count_clusters(clusters: &[u32]) -> u32
 }
 
 /// Whether this many clusters are a twentieth fewer than the vertices.
-pub(crate) fn is_twentieth_fewer(h: &Hypergraph, clusters: u32) -> bool
+pub fn is_twentieth_fewer(h: &Hypergraph, clusters: u32) -> bool
     requires { clusters ≤ vertex_count h.now }
     ensures { IsTrue result ↔ (vertex_count h.now ≤ 20 * (vertex_count h.now - clusters)) }
 {

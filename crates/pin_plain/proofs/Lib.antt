@@ -7,3 +7,4 @@ pub mod TallyLaws
 pub mod BestLaws
 pub mod SweepLaws
 pub mod SettleLaws
+pub mod RankLaws

@@ -4,3 +4,4 @@ pub mod Parted
 pub mod Scores
 pub mod ScoredNets
 pub mod Settling
+pub mod BestMoves

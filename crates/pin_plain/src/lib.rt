@@ -10,7 +10,7 @@ mod seen;
 mod sums;
 
 pub use hg_base::NoMemory;
-pub use partition::Partition;
+pub use partition::{BestMove, Partition};
 
 #[cfg(test)]
 mod tests;

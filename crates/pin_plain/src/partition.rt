@@ -10,7 +10,10 @@ ghost use Rattle.hg_defs.specs.Moves.{moved, gain};
 ghost use Rattle.hg_defs.specs.Contraction.{after};
 ghost use Rattle.pin_plain.specs.Parted.{IsParted, IsLoaded, loads_after, KeepsCost};
 
+mod best;
 mod sweep;
+
+pub use best::BestMove;
 
 use crate::counts::{count, count_nets, lay_out, move_pin};
 use crate::gains::saved_and_lost;
