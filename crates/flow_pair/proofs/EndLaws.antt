@@ -1,11 +1,11 @@
 -- The end of a pair: the side of a minimum cut is a cheapest assignment of the region.
-use Rattle.std.proofs.Common.{◌≡◌, ◌≢◌, ◌⊎◌, inl, inr, ℕ, zero, suc, ◌+◌, ◌^◌, ◌<◌, ◌≤◌, Bool, true, false}
-use Rattle.std.proofs.Common.{nat_eq, if◌then◌else◌, List, [], ◌∷◌, length, All}
-use Rattle.std.proofs.Common.{Contains, refl, sym, ap, ◌∙◌, subst, arith, slice_index, get_or-set_same, get_or-set_other, length-set}
+use Rattle.std.proofs.Common.{◌≡◌, ◌≢◌, ◌⊎◌, inl, inr, ℕ, ◌+◌, ◌^◌, ◌<◌, ◌≤◌, Bool, true, false}
+use Rattle.std.proofs.Common.{nat_eq, if◌then◌else◌, List, length, All}
+use Rattle.std.proofs.Common.{Contains, refl, sym, ap, ◌∙◌, subst, arith, slice_index}
 use Rattle.std.specs.List.Sorted.{IsStrictlyIncreasing}
 use Rattle.std.proofs.lemmas.Bool.{eq-eqb, ne_eqb}
 use Rattle.std.proofs.lemmas.List.{get_or_default}
-use Rattle.std.proofs.lemmas.List.Elements.{All-head, All-tail, All-weaker, All-contains, All-contains_itself}
+use Rattle.std.proofs.lemmas.List.Elements.{All-weaker, All-contains, All-contains_itself}
 use Rattle.hg_defs.specs.Hypergraph.{Net, Hyper, IsFree, IsNet, IsHypergraph, IsWithinLimits, vertex_count}
 use Rattle.hg_defs.specs.Partition.{IsPartition, Fits, block_of}
 use Rattle.hg_defs.specs.Cost.{cost}
@@ -18,7 +18,7 @@ use Rattle.round_log.proofs.AssignmentLaws.{assignment-fits}
 use Rattle.flow_pair.specs.declared.solve.PairEnd.{PairEnd}
 use Rattle.flow_pair.specs.PairNetwork.{source_node, sink_node, pair_network, AreOfPair}
 use Rattle.flow_pair.specs.PairEnds.{reassigned, IsPairEnd}
-use Rattle.flow_pair.proofs.RegionLaws.{rising-tail, rising-first}
+use Rattle.flow_pair.proofs.ReassignLaws.{length-reassigned, reassigned-other, reassigned-at}
 use Rattle.flow_pair.proofs.AssignmentLaws.{value-is, value-bound, cheapest}
 
 -- ---- the vertices of a region
@@ -41,32 +41,6 @@ region_vertices h l p a b sound = All-weaker (Contains (region h l p a b)) (λ v
     by : (v : ℕ) → Contains (side h l p a b) v ⊎ Contains (side h l p b a) v → v < vertex_count h
     by v (inl c) = ranked a b v (All-contains (λ u. IsNear h p a b u ⊎ IsNext h p a b u) (side h l p a b) v (side_is_ranked h l p a b) c)
     by v (inr c) = ranked b a v (All-contains (λ u. IsNear h p b a u ⊎ IsNext h p b a u) (side h l p b a) v (side_is_ranked h l p b a) c)
-
--- ---- the partition after it was assigned anew
-
-length-reassigned : (p vs blocks : List ℕ) → length (reassigned p vs blocks) ≡ length p
-length-reassigned p [] blocks = refl
-length-reassigned p (v ∷ vs) [] = refl
-length-reassigned p (v ∷ vs) (b ∷ blocks) = length-set (reassigned p vs blocks) v b ∙ length-reassigned p vs blocks
-
-reassigned-other : (p vs blocks : List ℕ) (u : ℕ) → All (λ v. v ≢ u) vs → block_of (reassigned p vs blocks) u ≡ block_of p u
-reassigned-other p [] blocks u n = refl
-reassigned-other p (v ∷ vs) [] u n = refl
-reassigned-other p (v ∷ vs) (b ∷ blocks) u n =
-    get_or-set_other (reassigned p vs blocks) v u b 0 (λ e. All-head (λ x. x ≢ u) v vs n (sym e)) ∙ reassigned-other p vs blocks u
-    (All-tail (λ x. x ≢ u) v vs n)
-
-reassigned-at : (p vs blocks : List ℕ) (i : ℕ) → IsStrictlyIncreasing vs → All (λ v. v < length p) vs → length blocks ≡ length vs → i < length vs
-    → block_of (reassigned p vs blocks) (slice_index vs i) ≡ slice_index blocks i
-reassigned-at p [] blocks i r inside long l = absurd (omega arith)
-reassigned-at p (v ∷ vs) [] i r inside long l = absurd (omega arith)
-reassigned-at p (v ∷ vs) (b ∷ blocks) zero r inside long l =
-    get_or-set_same (reassigned p vs blocks) v b 0 (let x = length-reassigned p vs blocks in let y = All-head (λ u. u < length p) v vs inside in
-    omega arith)
-reassigned-at p (v ∷ vs) (b ∷ blocks) (suc i) r inside long l =
-    let x = rising-first v vs i r (omega arith) in
-    get_or-set_other (reassigned p vs blocks) v (slice_index vs i) b 0 (λ e. absurd (omega arith))
-    ∙ reassigned-at p vs blocks i (rising-tail v vs r) (All-tail (λ u. u < length p) v vs inside) (omega arith) (omega arith)
 
 -- ---- the end
 
@@ -137,3 +111,35 @@ module _ (h : Hyper) (k l : ℕ) (p : List ℕ) (a b : ℕ) (blocks : List ℕ) 
           value = g ∙ value-is h k p a b (region h l p a b) q network value flags sound parted (omega arith) second apart (region_pair h l p a b) nodes arcs
               joined flow cut assigned_anew places ∙ ap (λ x. pair_cost h x a b) (sym same);
         }
+
+-- ---- what an end says
+
+module _ (h : Hyper) (k l : ℕ) (p : List ℕ) (a b : ℕ) (end : PairEnd) (s : IsPairEnd h k l p a b end) where
+  pub end_rises : IsStrictlyIncreasing end.region
+  end_rises = subst IsStrictlyIncreasing (sym s.vertices_of) (region_rises h l p a b)
+
+  pub end_vertices : IsHypergraph h → All (λ v. v < vertex_count h) end.region
+  end_vertices sound = subst (All (λ v. v < vertex_count h)) (sym s.vertices_of) (region_vertices h l p a b sound)
+
+  pub end_pair : AreOfPair p a b end.region
+  end_pair = subst (AreOfPair p a b) (sym s.vertices_of) (region_pair h l p a b)
+
+  -- each block is one of the two
+  pub end_blocks : IsHypergraph h → IsPartition h k p → a < k → b < k → All (λ x. x < k) end.blocks
+  end_blocks sound parted first second i d m =
+      subst (λ x. x < k) (get_or_default end.blocks i 0 d m) (by (s.assigned.inside i 0 (let e = s.blocks_of in omega arith)))
+    where
+      inside : All (λ v. v < length p) end.region
+      inside = subst (λ n. All (λ v. v < n) end.region) (sym parted.vertices) (end_vertices sound)
+
+      at : block_of (reassigned p end.region end.blocks) (slice_index end.region i) ≡ slice_index end.blocks i
+      at = reassigned-at p end.region end.blocks i end_rises inside s.blocks_of (let e = s.blocks_of in omega arith)
+
+      by : (block_of (reassigned p end.region end.blocks) (slice_index end.region i) ≡ a)
+          ⊎ (block_of (reassigned p end.region end.blocks) (slice_index end.region i) ≡ b) → slice_index end.blocks i < k
+      by (inl e) = subst (λ x. x < k) (sym e ∙ at) first
+      by (inr e) = subst (λ x. x < k) (sym e ∙ at) second
+
+  -- it is no dearer than the partition
+  pub end_no_dearer : cost h (reassigned p end.region end.blocks) ≤ cost h p
+  end_no_dearer = s.cheapest p (record { vertices = refl; inside = end_pair; outside = λ v n. refl })

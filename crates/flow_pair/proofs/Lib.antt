@@ -2,5 +2,8 @@ pub mod PairLaws
 pub mod RegionLaws
 pub mod AssignmentLaws
 pub mod FormLaws
+pub mod ReassignLaws
 pub mod EndLaws
 pub mod ApartLaws
+pub mod ChangeLaws
+pub mod TurnLaws

@@ -1,14 +1,20 @@
-//! Two blocks at once: the region of a pair, its flow network, and the cheapest assignment of the region.
+//! Two blocks at once: the region of a pair, its flow network, the cheapest assignment of the region, and the
+//! refiner that makes it for one pair after the other.
 #![tactic(auto)]
 
 pub mod laws;
 mod network;
 mod pair;
+mod pass;
+mod refine;
 mod region;
+mod round;
 mod solve;
 
 pub use flow_net::NoMemory;
 pub use network::region_network;
+pub use pass::flow_pass;
+pub use refine::FlowPair;
 pub use solve::{PairEnd, solve_pair};
 
 #[cfg(test)]
