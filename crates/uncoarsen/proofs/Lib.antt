@@ -1,2 +1,7 @@
 mod SettlingLemmas
 mod StartLemmas
+mod TallyLemmas
+pub mod PassesLaws
+mod TurnLemmas
+mod DownLemmas
+pub mod LegalLaws

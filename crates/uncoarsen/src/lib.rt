@@ -1,9 +1,14 @@
-//! Where a descent from the coarsest level begins, and how it ends on the file.
+//! Where a descent from the coarsest level begins, how it goes down over refiners, and how it ends on
+//! the file.
 #![tactic(auto)]
 
+mod descent;
+pub mod laws;
+mod passes;
 mod settling;
 mod start;
 
+pub use descent::{refine_down, uncoarsen};
 pub use settling::settle_best;
 pub use start::{Start, descend};
 
