@@ -6,7 +6,7 @@ ghost use Rattle.trace_text.specs.Lines.{loads_of};
 use hg_base::FlatHyper;
 
 /// The most blocks that there are.
-const MOST_BLOCKS: usize = 256;
+pub(crate) const MOST_BLOCKS: usize = 256;
 
 // The loads of the 256 blocks that a vertex may be in.
 pub(crate) fn sum_loads(h: &FlatHyper, blocks: &[u32]) -> [u64; MOST_BLOCKS]
