@@ -4,4 +4,5 @@ pub mod RoomLaws
 pub mod MergeLaws
 pub mod SortedLaws
 pub mod CoarseLaws
+pub mod FullLaws
 pub mod LedgerLaws

@@ -13,3 +13,6 @@ pub use contraction::contract;
 pub use hg_base::NoMemory;
 pub use incidence::Hypergraph;
 pub use ledger::{MergeLedger, Merged};
+
+#[cfg(test)]
+mod tests;

@@ -7,3 +7,6 @@ pub use contract_nets::{MergeLedger, Merged};
 pub use hg_base::{MapList, NoMemory};
 pub use incidence::Hypergraph;
 pub use stack::LevelStack;
+
+#[cfg(test)]
+mod tests;
