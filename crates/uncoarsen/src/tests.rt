@@ -7,9 +7,13 @@ use incidence::Hypergraph;
 use initial_place::PlaceEnd;
 use level_stack::LevelStack;
 use pin_plain::Partition;
-use round_log::{Chosen, RoundList, Stop, Trace};
+use refiner::{Log, Refiner, Tally, Task};
+use round_log::{Chosen, Kind, RoundList, Stop, Trace};
 use std::alloc::Global;
 use std::process::Abort;
+use std::sync::Arc;
+use std::sync::atomic::AtomicU64;
+use std::sync::atomic::Ordering::SeqCst;
 use std::test::Fail;
 
 /// Four vertices of these weights and one net that holds the first two.
@@ -141,5 +145,68 @@ fn ends_with_the_cheaper(rt: HostRuntime) -> Result<(), Fail> {
         1,
         &[1, 0, 0, 0],
     )?;
+    Ok(())
+}
+
+/// Label propagation of settled partitions alone, which makes no round. It counts its calls.
+#[derive(Drop)]
+struct Rests {
+    calls: Arc<AtomicU64, Global>,
+}
+
+impl Refiner for Rests {
+    ghost use Rattle.round_log.specs.declared.record.Kind.TheVariants.{Label};
+    ghost use Rattle.refiner.specs.declared.pass.Tally.{Tally};
+
+    ghost may_run = { λ _. Unit {0} };
+
+    ghost kind = { λ _. Label };
+
+    ghost tally = { λ _. let none : Tally = record { rounds = 0; gain = 0 } in none };
+
+    fn kind(&self) -> Kind {
+        Kind::Label
+    }
+
+    fn tally(&self) -> Tally {
+        Tally { rounds: 0, gain: 0 }
+    }
+
+    fn refine(
+        &mut self,
+        _alloc: Global,
+        h: &Hypergraph,
+        _task: &Task,
+        p: Partition,
+        _log: &mut Log,
+    ) -> Result<Partition, NoMemory> {
+        self.calls.fetch_add(1, SeqCst);
+        if p.settled(h) { Ok(p) } else { Err(NoMemory) }
+    }
+}
+
+#[test]
+fn calls_the_box_on_the_level(rt: HostRuntime) -> Result<(), Fail> {
+    let alloc = rt.alloc();
+    let calls = Arc::new(alloc, AtomicU64::new(0))?;
+    let across = four(alloc, true)?;
+    assert!(rt; across.suits(2));
+    assert!(rt; across.fixed_within(2));
+    let stack = LevelStack::start(alloc, across)?;
+    let Ok(start) = descend(&rt, alloc, &stack, 2, 2, 1) else {
+        return Err(NoMemory.into());
+    };
+    let mut refiners: [Box<dyn Refiner>; 1] = [Box::new(
+        alloc,
+        Rests {
+            calls: Arc::try_clone(&calls)?,
+        },
+    )?];
+    let (part, trace) = uncoarsen(alloc, &stack, Stop::Small, start, 2, 2, 3, 1, &mut refiners)?;
+    assert_eq!(rt; calls.load(SeqCst), 1);
+    assert_eq!(rt; part.cost(stack.level(0)), 0);
+    assert_eq!(rt; (trace.maps.len(), trace.start, trace.rounds.len()), (0, 0, 0));
+    assert_eq!(rt; (trace.first.slice(), trace.last.slice()), (part.blocks(), part.blocks()));
+    assert_eq!(rt; trace.chosen, Chosen::Levels);
     Ok(())
 }
