@@ -147,28 +147,20 @@ module _ (kinds : List Kind) (s : Stack) (stop : Stop) (number : ℕ) (placed : 
     (down : IsRefinedDown kinds s stop number placed k l workers old) (sound : IsSound s.base k l old.last)
     (best : SettlesBest s.base k l old new q)
   where
+    -- the trace before the end, with the choice and the sweeps
+    abbrev ended : Trace
+    ended = record old { chosen = new.chosen; rounds = old.rounds ++ best.sweeps }
+
     abbrev whole : Trace
-    whole = record {
-      maps = s.maps;
-      stop = stop;
-      start = number;
-      first = placed;
-      rounds = old.rounds ++ best.sweeps;
-      last = old.last;
-      chosen = new.chosen;
-    }
+    whole = record ended { maps = s.maps; stop = stop; start = number; first = placed }
 
     new_is : new ≡ whole
     new_is =
         best.trace
-        ∙ ap (λ (x : List (List ℕ)). let t : Trace = record { maps = x; stop = old.stop; start = old.start; first = old.first;
-        rounds = old.rounds ++ best.sweeps; last = old.last; chosen = new.chosen } in t) down.maps
-        ∙ ap (λ (x : Stop). let t : Trace = record { maps = s.maps; stop = x; start = old.start; first = old.first;
-        rounds = old.rounds ++ best.sweeps; last = old.last; chosen = new.chosen } in t) down.same_stop
-        ∙ ap (λ (x : ℕ). let t : Trace = record { maps = s.maps; stop = stop; start = x; first = old.first;
-        rounds = old.rounds ++ best.sweeps; last = old.last; chosen = new.chosen } in t) down.start
-        ∙ ap (λ (x : List ℕ). let t : Trace = record { maps = s.maps; stop = stop; start = number; first = x;
-        rounds = old.rounds ++ best.sweeps; last = old.last; chosen = new.chosen } in t) down.first
+        ∙ ap (λ (x : List (List ℕ)). let t : Trace = record ended { maps = x } in t) down.maps
+        ∙ ap (λ (x : Stop). let t : Trace = record ended { maps = s.maps; stop = x } in t) down.same_stop
+        ∙ ap (λ (x : ℕ). let t : Trace = record ended { maps = s.maps; stop = stop; start = x } in t) down.start
+        ∙ ap (λ (x : List ℕ). let t : Trace = record ended { maps = s.maps; stop = stop; start = number; first = x } in t) down.first
 
     whole_traced : IsTraced (IsRefinedBy kinds k l workers) s.base k l seed whole q
     whole_traced = record {

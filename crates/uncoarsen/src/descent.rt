@@ -109,8 +109,12 @@ pub fn uncoarsen(
     requires tallied { All (λ b. ((tally b).rounds < 2 ^ 61) × ((tally b).gain < 2 ^ 61)) refiners.old }
     ensures may_run { All (λ b. may_run b) refiners.new }
     ensures kinds { map (λ b. kind b) refiners.new ≡ map (λ b. kind b) refiners.old }
-    ensures partition { IfOk result (λ r. r.0 ≡ record { hyper = stack.now.base; k = k; limit = limit; blocks = r.1.last
-        }) }
+    ensures partition { IfOk result (λ r. r.0 ≡ record {
+      hyper = stack.now.base;
+      k = k;
+      limit = limit;
+      blocks = r.1.last;
+    }) }
     ensures sound { IfOk result (λ r. IsSound stack.now.base k limit r.1.last) }
     ensures trace { IfOk result (λ r. IsRefinedDown (map (λ b. kind b) refiners.old) stack.now stop start.level
         start.blocks k limit workers r.1) }
@@ -121,7 +125,9 @@ pub fn uncoarsen(
     let first = start.blocks.copy()?;
     let level = start.level;
     let mut log = Log::new(alloc);
-    let part = refine_down(alloc, stack, start, k, limit, workers, seed, refiners, &mut log)?;
+    let part = refine_down(
+        alloc, stack, start, k, limit, workers, seed, refiners, &mut log,
+    )?;
     let last = Blocks::from_vec(part.blocks().to_vec(alloc)?);
     let trace = Trace {
         maps,

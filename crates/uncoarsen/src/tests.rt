@@ -205,8 +205,14 @@ fn calls_the_box_on_the_level(rt: HostRuntime) -> Result<(), Fail> {
     let (part, trace) = uncoarsen(alloc, &stack, Stop::Small, start, 2, 2, 3, 1, &mut refiners)?;
     assert_eq!(rt; calls.load(SeqCst), 1);
     assert_eq!(rt; part.cost(stack.level(0)), 0);
-    assert_eq!(rt; (trace.maps.len(), trace.start, trace.rounds.len()), (0, 0, 0));
-    assert_eq!(rt; (trace.first.slice(), trace.last.slice()), (part.blocks(), part.blocks()));
+    assert_eq!(rt;
+        (trace.maps.len(), trace.start, trace.rounds.len()),
+        (0, 0, 0)
+    );
+    assert_eq!(rt;
+        (trace.first.slice(), trace.last.slice()),
+        (part.blocks(), part.blocks())
+    );
     assert_eq!(rt; trace.chosen, Chosen::Levels);
     Ok(())
 }
