@@ -14,7 +14,7 @@ use Rattle.flow_pair.specs.PairNetwork.{AreOfPair}
 use Rattle.flow_pair.specs.Laws.{PairsKeepApart, PairsSaveApart}
 use Rattle.flow_pair.proofs.PairLaws.{rearranged, any_same, among, assigned_below, assignments_cost}
 
-filter_same : {A : Type 0} (f g : A → Bool) (xs : List A) → ((x : A) → f x ≡ g x) → filter f xs ≡ filter g xs
+pub filter_same : {A : Type 0} (f g : A → Bool) (xs : List A) → ((x : A) → f x ≡ g x) → filter f xs ≡ filter g xs
 filter_same f g [] h = refl
 filter_same f g (x ∷ xs) h = ap (λ t. if t then (x ∷ filter f xs) else filter f xs) (h x) ∙ ap (λ ys. if g x then (x ∷ ys) else ys) (filter_same f g xs h)
 

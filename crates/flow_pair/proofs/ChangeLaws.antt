@@ -7,14 +7,9 @@ use Rattle.std.specs.List.Sorted.{IsStrictlyIncreasing}
 use Rattle.std.specs.Set.{is_member}
 use mir.Syntax.{w64, w128}
 use Rattle.std.proofs.lemmas.Bool.{cases_eq, eq-eqb, eqb-true}
-use Rattle.std.proofs.lemmas.Bool.Decides.{Decides-eqb}
-use Rattle.std.proofs.lemmas.Cmp.{nat_cmp_total}
 use Rattle.std.proofs.lemmas.Int.{ints}
 use Rattle.std.proofs.lemmas.List.{append_assoc, append-nil, length-append, set-get_or, drop_all}
-use Rattle.std.proofs.lemmas.List.Elements.{All-contains}
-use Rattle.std.proofs.lemmas.List.FromFn.{length-range_with_len, get_or-range_with_len}
-use Rattle.std.proofs.lemmas.List.Kept.{IsStrictlyIncreasing-filter}
-use Rattle.std.proofs.lemmas.Map.Made.{is_member-Decides}
+use Rattle.std.proofs.lemmas.List.Elements.{All-nil, All-cons, All-head, All-tail, All-contains}
 use Rattle.hg_defs.specs.declared.moves.Move.{Move}
 use Rattle.hg_defs.specs.Sums.{total_z}
 use Rattle.hg_defs.specs.Hypergraph.{Hyper, vertex_count, vertices}
@@ -23,16 +18,15 @@ use Rattle.hg_defs.specs.Cost.{cost}
 use Rattle.hg_defs.specs.Moves.{gain}
 use Rattle.hg_defs.specs.Replay.{replay, replay_first}
 use Rattle.hg_defs.proofs.SumLaws.{total_z-append}
-use Rattle.hg_defs.proofs.SortLaws.{nat_cmp_exact, set_of-increasing, set_of-same}
-use Rattle.hg_defs.proofs.PlacementLaws.{Contains_filter}
-use Rattle.hg_defs.proofs.NumberingLaws.{increasing-range, Contains-from_filter}
 use Rattle.hg_defs.proofs.ReplayLaws.{replay-append, replay_first-all}
 use Rattle.round_log.specs.declared.record.LoggedRound.{LoggedRound}
 use Rattle.round_log.specs.Rounds.{changes, IsAssignment, IsFlowRound, after_round, pair_cost}
 use Rattle.flow_pair.specs.PairEnds.{reassigned, IsPairEnd}
 use Rattle.flow_pair.specs.Turns.{change}
 use Rattle.flow_pair.proofs.PairLaws.{among}
-use Rattle.flow_pair.proofs.ReassignLaws.{reassigned-at, reassigned-first, drop-here, rising-later}
+use Rattle.flow_pair.proofs.MemberLaws.{member_true, member_of, Contains-from_range, rising_is_filter}
+use Rattle.flow_pair.proofs.NetLaws.{all_of}
+use Rattle.flow_pair.proofs.ReassignLaws.{reassigned-at, reassigned-first, drop_here, rising-later}
 
 -- ---- a vertex that keeps its block makes no move
 
@@ -77,24 +71,10 @@ changes-kept h p q test (v ∷ vs) same =
 
 -- ---- the vertices of a list, found among all
 
-member_true : (vs : List ℕ) (v : ℕ) → Contains vs v → is_member nat_eq vs v ≡ true
-member_true vs v c = (is_member-Decides Decides-eqb vs v).1 c
-
-member_of : (vs : List ℕ) (v : ℕ) → is_member nat_eq vs v ≡ true → Contains vs v
-member_of vs v e = (is_member-Decides Decides-eqb vs v).0 e
-
-Contains_range : (n v : ℕ) → v < n → Contains (range_with_len 0 n) v
-Contains_range n v low =
-    (v, (let m = length-range_with_len 0 n in omega arith), get_or-range_with_len 0 n v v low ∙ (let e : 0 + v ≡ v = omega arith in e))
-
 members_kept : (n : ℕ) (vs : List ℕ) → IsStrictlyIncreasing vs → All (λ v. v < n) vs → filter (is_member nat_eq vs) (range_with_len 0 n) ≡ vs
 members_kept n vs rising below =
-    sym (set_of-increasing (filter (is_member nat_eq vs) (range_with_len 0 n))
-    (IsStrictlyIncreasing-filter (is_member nat_eq vs) (range_with_len 0 n) (increasing-range 0 n)))
-    ∙ set_of-same nat_cmp_total nat_cmp_exact (filter (is_member nat_eq vs) (range_with_len 0 n)) vs
-    (λ v c. member_of vs v (Contains-from_filter (is_member nat_eq vs) (range_with_len 0 n) v c).1)
-    (λ v c. Contains_filter (is_member nat_eq vs) (range_with_len 0 n) v (Contains_range n v (All-contains (λ u. u < n) vs v below c)) (member_true vs v c))
-    ∙ set_of-increasing vs rising
+    sym (rising_is_filter vs (is_member nat_eq vs) n rising (λ v c. (All-contains (λ u. u < n) vs v below c, member_true vs v c))
+    (λ v low e. member_of vs v e))
 
 -- the changes are those of the vertices that were assigned anew
 changes-region : (h : Hyper) (p q : List ℕ) (a b : ℕ) (vs : List ℕ) → IsStrictlyIncreasing vs → All (λ v. v < vertex_count h) vs → IsAssignment p a b vs q
@@ -157,11 +137,11 @@ pub assigning_more : (h : Hyper) (p vs blocks : List ℕ) (i : ℕ) (q : List �
     → IsAssigning h p vs blocks (i + 1) (slice_set q (slice_index vs i) (slice_index blocks i)) more
 assigning_more h p vs blocks i q moves more inside count rising below is s = record {
   rest = reassigned-first q v b (drop (i + 1) vs) (drop (i + 1) blocks) (rising-later vs i rising inside)
-      ∙ sym (ap₂ (reassigned q) (drop-here vs i inside) (drop-here blocks i (omega arith))) ∙ s.rest;
+      ∙ sym (ap₂ (reassigned q) (drop_here vs i inside) (drop_here blocks i (omega arith))) ∙ s.rest;
   made = ap (λ (xs : List Move). xs ++ later) is ∙ append_assoc moves (change h q v b) later
       ∙ ap (λ (xs : List Move). moves ++ xs) (sym (put_change-append h q v b later)
       ∙ ap (λ x. put_change h q v x (changes h (slice_set q v x) (reassigned p vs blocks) (drop (i + 1) vs))) (sym at)
-      ∙ ap (changes h q (reassigned p vs blocks)) (sym (drop-here vs i inside))) ∙ s.made;
+      ∙ ap (changes h q (reassigned p vs blocks)) (sym (drop_here vs i inside))) ∙ s.made;
   replayed = ap (replay p) is ∙ replay-append p moves (change h q v b) ∙ ap (λ x. replay x (change h q v b)) s.replayed ∙ change-replayed h q v b;
   saved =
       let sum = ap (total_z (λ (m : Move). m.booked)) is ∙ total_z-append (λ (m : Move). m.booked) moves (change h q v b) in
@@ -235,3 +215,29 @@ module _ (h : Hyper) (k l : ℕ) (p : List ℕ) (r : LoggedRound) (blocks : List
       made = made ∙ ap (cost h) (sym landed);
       after = after;
     }
+
+-- ---- what the record says of its moves
+
+changes-within : (P : ℕ → Type 0) (h : Hyper) (p q vs : List ℕ) → All P vs → All (λ m. P m.vertex) (changes h p q vs)
+changes-within P h p q [] all = All-nil (λ (m : Move). P m.vertex)
+changes-within P h p q (v ∷ vs) all =
+    by (nat_eq (block_of p v) (block_of q v)) (changes-within P h (slice_set p v (block_of q v)) q vs (All-tail P v vs all))
+  where
+    by : (t : Bool) → All (λ m. P m.vertex) (changes h (slice_set p v (block_of q v)) q vs)
+        → All (λ m. P m.vertex) (if t then changes h (slice_set p v (block_of q v)) q vs else
+        (record { vertex = v; from = block_of p v; to = block_of q v; worker = 0; booked = gain h p v (block_of q v) } ∷
+        changes h (slice_set p v (block_of q v)) q vs))
+    by true later = later
+    by false later = All-cons (λ (m : Move). P m.vertex)
+        (record { vertex = v; from = block_of p v; to = block_of q v; worker = 0; booked = gain h p v (block_of q v) })
+        (changes h (slice_set p v (block_of q v)) q vs) (All-head P v vs all) later
+
+module _ (h : Hyper) (k l : ℕ) (p : List ℕ) (r : LoggedRound) (s : IsFlowRound h k l p r) where
+  pub flow_replayed : after_round p r ≡ replay p r.moves
+  flow_replayed = ap (replay_first p r.moves) s.kept ∙ replay_first-all p r.moves
+
+  pub flow_vertices : All (λ m. m.vertex < vertex_count h) r.moves
+  flow_vertices =
+      subst (All (λ (m : Move). m.vertex < vertex_count h)) (sym s.moves)
+      (changes-within (λ v. v < vertex_count h) h p (after_round p r) (vertices h)
+      (all_of (λ v. v < vertex_count h) (vertices h) (λ v c. Contains-from_range (vertex_count h) v c)))

@@ -1,6 +1,9 @@
+pub mod MemberLaws
 pub mod PairLaws
 pub mod RegionLaws
 pub mod AssignmentLaws
+pub mod NetLaws
+pub mod CutNetLaws
 pub mod FormLaws
 pub mod ReassignLaws
 pub mod EndLaws

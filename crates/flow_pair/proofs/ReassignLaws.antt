@@ -1,8 +1,8 @@
 -- A partition after the vertices of a list got the blocks at their places.
-use Rattle.std.proofs.Common.{◌≡◌, ◌≢◌, ℕ, zero, suc, ◌+◌, ◌<◌, List, [], ◌∷◌, length, All, drop, refl, sym, ap, subst, ◌∙◌, arith, add-one, drop-cons}
+use Rattle.std.proofs.Common.{◌≡◌, ◌≢◌, ℕ, zero, suc, ◌+◌, ◌<◌, List, [], ◌∷◌, length, All, drop, refl, sym, ap, subst, ◌∙◌, arith}
 use Rattle.std.proofs.Common.{slice_index, slice_set, get_or-set_same, get_or-set_other, length-set}
 use Rattle.std.specs.List.Sorted.{IsStrictlyIncreasing}
-use Rattle.std.proofs.lemmas.List.{get_or_default}
+use Rattle.std.proofs.lemmas.List.{get_or_default, drop_more}
 use Rattle.std.proofs.lemmas.List.Elements.{All-head, All-tail}
 use Rattle.hg_defs.specs.Partition.{block_of}
 use Rattle.flow_pair.specs.PairEnds.{reassigned}
@@ -51,8 +51,8 @@ reassigned-first p v b (u ∷ vs) (c ∷ blocks) n =
 
 -- ---- the rest of a list
 
-pub drop-here : (xs : List ℕ) (i : ℕ) → i < length xs → drop i xs ≡ slice_index xs i ∷ drop (i + 1) xs
-drop-here xs i l = rw (add-one, drop-cons xs i 0)
+pub drop_here : (xs : List ℕ) (i : ℕ) → i < length xs → drop i xs ≡ slice_index xs i ∷ drop (i + 1) xs
+drop_here xs i l = drop_more xs i 0 l
 
 rising_rest : (vs : List ℕ) (i : ℕ) → IsStrictlyIncreasing vs → i < length vs → All (λ u. u ≢ slice_index vs i) (drop (suc i) vs)
 rising_rest [] i r l = absurd (omega arith)

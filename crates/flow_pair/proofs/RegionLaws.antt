@@ -1,16 +1,16 @@
 -- Places in a region, and the arcs of pins and nets one after the other.
 use Rattle.std.proofs.Common.{◌≡◌, ◌≢◌, ◌⊎◌, inl, inr, ℕ, zero, suc, ◌+◌, ◌*◌, ◌<◌, ◌≤◌, Bool, true, false, ◌&&◌, ◌||◌, not, nat_eq, nat_lt, if◌then◌else◌}
-use Rattle.std.proofs.Common.{List, [], ◌∷◌, ◌++◌, length, filter, drop, get_or, All, refl, sym, ap, ◌∙◌, subst, arith, slice_index, append_assoc}
+use Rattle.std.proofs.Common.{List, [], ◌∷◌, ◌++◌, length, map, replicate, drop, get_or, All, refl, sym, ap, ap₂, ◌∙◌, subst, arith, slice_index, append_assoc}
 use Rattle.std.specs.List.{list_any, position_or_len}
 use Rattle.std.specs.List.Sorted.{IsStrictlyIncreasing}
 use Rattle.std.specs.Set.{is_member}
 use Rattle.std.proofs.lemmas.Bool.{cases_lt, eq-eqb, ne_eqb, lt-ltb, le-ltb}
-use Rattle.std.proofs.lemmas.List.{drop_more, append-nil, length-append}
+use Rattle.std.proofs.lemmas.List.{drop_more, drop_all, append-nil, length-append, length-map}
 use Rattle.flow_net.specs.declared.network.Arc.{Arc}
 use Rattle.flow_net.specs.Flow.{FlowNetwork}
-use Rattle.hg_defs.specs.Hypergraph.{Net, Hyper}
+use Rattle.hg_defs.specs.Hypergraph.{Net, Hyper, net_of}
 use Rattle.hg_defs.specs.Partition.{block_of}
-use Rattle.flow_pair.specs.PairNetwork.{node_of, unbounded, joins, has_pin_outside, pin_arcs, net_arcs, nets_arcs}
+use Rattle.flow_pair.specs.PairNetwork.{node_of, unbounded, joins, has_pin_outside, pin_arcs, net_arcs, nets_arcs, joined_nets, pair_network, IsIdle}
 
 -- ---- places in rising lists
 
@@ -111,18 +111,6 @@ module _ (h : Hyper) (p : List ℕ) (a b : ℕ) (region : List ℕ) where
       by true x y = omega arith
       by false x y = omega arith
 
-  -- one net more, where it joins
-  pub nets_arcs-step : (t : Bool) (at : ℕ) (e : Net) (nets : List Net)
-      → nets_arcs h p a b region at (if t then (e ∷ nets) else nets) ≡ nets_arcs h p a b region at (if t then (e ∷ []) else []) ++ nets_arcs h p a b region
-      (at + 2 * length (if t then (e ∷ []) else [])) nets
-  nets_arcs-step true at e nets = ap (λ xs. xs ++ nets_arcs h p a b region (at + 2) nets) (sym (append-nil (net_arcs h p a b region at e)))
-  nets_arcs-step false at e nets = ap (λ n. nets_arcs h p a b region n nets) (let z : at ≡ at + 2 * 0 = omega arith in z)
-
-  pub nets_length-step : (t : Bool) (e : Net) (nets : List Net) → length (if t then (e ∷ nets) else nets) ≡ length (if t then (e ∷ []) else []) + length
-      nets
-  nets_length-step true e nets = omega arith
-  nets_length-step false e nets = omega arith
-
   pub pins-rest : (before after target : List Arc) (pins : List ℕ) (at i : ℕ) → i < length pins → after ≡ before ++ pin_arcs h p a b region at
       (slice_index pins i ∷ [])
       → before ++ pin_arcs h p a b region at (drop i pins) ≡ target → after ++ pin_arcs h p a b region at (drop (i + 1) pins) ≡ target
@@ -136,39 +124,37 @@ module _ (h : Hyper) (p : List ℕ) (a b : ℕ) (region : List ℕ) where
   pins-few before after at v e = let x = ap length e in let y = length-append before (pin_arcs h p a b region at (v ∷ [])) in let z = pin_arcs-few at v in
       omega arith
 
-  abbrev joined : List Net → List Net
-  joined = filter (joins p a b region)
+  -- one net more
+  pub nets-rest : (before after : FlowNetwork) (target : List Arc) (nets : List ℕ) (i : ℕ) → i < length nets
+      → after.nodes ≡ before.nodes + 2 → after.arcs ≡ before.arcs ++ net_arcs h p a b region before.nodes (net_of h (slice_index nets i))
+      → before.arcs ++ nets_arcs h p a b region before.nodes (map (net_of h) (drop i nets)) ≡ target
+      → after.arcs ++ nets_arcs h p a b region after.nodes (map (net_of h) (drop (i + 1) nets)) ≡ target
+  nets-rest before after target nets i l nodes arcs t =
+      let rest = map (net_of h) (drop (i + 1) nets) in
+      ap (λ n. after.arcs ++ nets_arcs h p a b region n rest) nodes
+      ∙ ap (λ xs. xs ++ nets_arcs h p a b region (before.nodes + 2) rest) arcs
+      ∙ append_assoc before.arcs (net_arcs h p a b region before.nodes (net_of h (slice_index nets i))) (nets_arcs h p a b region (before.nodes + 2) rest)
+      ∙ ap (λ xs. before.arcs ++ nets_arcs h p a b region before.nodes (map (net_of h) xs)) (sym (drop_more nets i 0 l)) ∙ t
 
-  pub nets-rest : (before after : FlowNetwork) (target : List Arc) (nets : List Net) (e : ℕ) (net : Net) → e < length nets →
-      net ≡ get_or nets e (record { weight = 0; pins = [] })
-      → after.nodes ≡ before.nodes + 2 * length (joined (net ∷ [])) → after.arcs ≡ before.arcs ++ nets_arcs h p a b region before.nodes (joined (net ∷ []))
-      → before.arcs ++ nets_arcs h p a b region before.nodes (joined (drop e nets)) ≡ target
-      → after.arcs ++ nets_arcs h p a b region after.nodes (joined (drop (e + 1) nets)) ≡ target
-  nets-rest before after target nets e net l is nodes arcs t =
-      let rest = joined (drop (e + 1) nets) in
-      let one = joined (net ∷ []) in
-      let all : drop e nets ≡ net ∷ drop (e + 1) nets = drop_more nets e (record { weight = 0; pins = [] }) l ∙ ap (λ x. x ∷ drop (e + 1) nets) (sym is) in
-      let step : nets_arcs h p a b region before.nodes (joined (net ∷ drop (e + 1) nets)) ≡ nets_arcs h p a b region before.nodes one ++ nets_arcs h p a b
-      region (before.nodes + 2 * length one) rest =
-      nets_arcs-step (joins p a b region net) before.nodes net rest in
-      ap (λ xs. xs ++ nets_arcs h p a b region after.nodes rest) arcs
-      ∙ append_assoc before.arcs (nets_arcs h p a b region before.nodes one) (nets_arcs h p a b region after.nodes rest)
-      ∙ ap (λ n. before.arcs ++ (nets_arcs h p a b region before.nodes one ++ nets_arcs h p a b region n rest)) nodes
-      ∙ ap (λ xs. before.arcs ++ xs) (sym step)
-      ∙ ap (λ xs. before.arcs ++ nets_arcs h p a b region before.nodes (joined xs)) (sym all) ∙ t
-
-  pub nets-count : (nets : List Net) (e : ℕ) (net : Net) → e < length nets → net ≡ get_or nets e (record { weight = 0; pins = [] })
-      → length (joined (drop e nets)) ≡ length (joined (net ∷ [])) + length (joined (drop (e + 1) nets))
-  nets-count nets e net l is =
-      ap (λ xs. length (joined xs)) (drop_more nets e (record { weight = 0; pins = [] }) l ∙ ap (λ x. x ∷ drop (e + 1) nets) (sym is))
-      ∙ nets_length-step (joins p a b region net) net (joined (drop (e + 1) nets))
-
-  pub nets-one : (net : Net) → length (joined (net ∷ [])) ≤ 1
-  nets-one net = by (joins p a b region net)
+  -- all of them
+  pub nets-made : (network : FlowNetwork) (nets : List ℕ) (i : ℕ) → i ≤ length nets → length nets ≤ i
+      → map (net_of h) nets ≡ joined_nets h p a b region → network.nodes ≡ 2 + length region + 2 * i
+      → network.arcs ++ nets_arcs h p a b region network.nodes (map (net_of h) (drop i nets)) ≡ nets_arcs h p a b region (2 + length region)
+      (map (net_of h) nets)
+      → IsIdle network → network ≡ pair_network h p a b region
+  nets-made network nets i most least is nodes arcs idle =
+      let build : ℕ → List Arc → FlowNetwork = λ n xs. record { nodes = n; arcs = xs; flows = replicate (length xs) 0 } in
+      let same : network ≡ build network.nodes network.arcs = ap (λ (xs : List ℕ). record network { flows = xs }) idle in
+      same ∙ ap₂ build all_nodes all_arcs
     where
-      by : (t : Bool) → length (if t then (net ∷ []) else []) ≤ 1
-      by true = omega arith
-      by false = omega arith
+      all_nodes : network.nodes ≡ 2 + length region + 2 * length (joined_nets h p a b region)
+      all_nodes = let e = ap length is in let f = length-map nets (net_of h) in omega arith
+
+      all_arcs : network.arcs ≡ nets_arcs h p a b region (2 + length region) (joined_nets h p a b region)
+      all_arcs =
+          sym (append-nil network.arcs)
+          ∙ ap (λ xs. network.arcs ++ nets_arcs h p a b region network.nodes (map (net_of h) xs)) (sym (drop_all i nets least))
+          ∙ arcs ∙ ap (nets_arcs h p a b region (2 + length region)) is
 
 -- ---- what a net without a pin in the region is tested for
 

@@ -1,5 +1,7 @@
 pub mod PairNetwork
 pub mod Laws
 pub mod Sides
+pub mod CutNets
 pub mod PairEnds
 pub mod Turns
+pub mod Courses

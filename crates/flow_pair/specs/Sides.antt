@@ -1,30 +1,31 @@
--- Flags of the vertices of a pair that a region is formed of.
-use Rattle.std.specs.Prelude.{◌≡◌, ◌<◌, ℕ, List, ◌∷◌, ◌++◌, length, filter, Bool, ◌&&◌, nat_le, if◌then◌else◌}
-use Rattle.std.specs.List.{list_any}
-use Rattle.flow_net.specs.Flow.{is_in}
-use Rattle.hg_defs.specs.Hypergraph.{Net, Hyper, vertices}
-use Rattle.round_log.specs.Rounds.{has_pin, holds, is_near, taken}
+-- The lists that a region is formed of.
+use Rattle.std.specs.Prelude.{◌≡◌, ℕ, List, ◌++◌, length, filter, Bool, ◌&&◌, nat_eq, nat_le}
+use Rattle.std.specs.List.{range_with_len}
+use Rattle.hg_defs.specs.Hypergraph.{Hyper, net_count, net_of, is_free}
+use Rattle.hg_defs.specs.Incidence.{nets_of}
+use Rattle.hg_defs.specs.Partition.{block_of}
+use Rattle.round_log.specs.Rounds.{has_pin, taken}
 
--- whether a net has pins in both blocks, and the vertex
-abbrev pub joins_at : List ℕ → ℕ → ℕ → ℕ → Net → Bool
-joins_at p a b v e = (has_pin p e a && has_pin p e b) && holds e v
+-- the numbers of the nets with pins in both blocks, in rising order
+abbrev pub touching_nets : Hyper → List ℕ → ℕ → ℕ → List ℕ
+touching_nets h p a b = filter (λ e. has_pin p (net_of h e) a && has_pin p (net_of h e) b) (range_with_len 0 (net_count h))
 
--- each vertex has a flag whether it is on a net with pins in both blocks
-abbrev pub AreTouched : Hyper → List ℕ → ℕ → ℕ → List Bool → Type 0
-AreTouched h p a b flags = (v : ℕ) → v < length flags → is_in flags v ≡ list_any (joins_at p a b v) h.nets
+-- a free vertex of a block
+abbrev pub is_free_in : Hyper → List ℕ → ℕ → ℕ → Bool
+is_free_in h p b v = is_free h v && nat_eq (block_of p v) b
 
--- whether a net of at most 1,000 pins has the vertex and a near vertex
-abbrev pub reaches : Hyper → List ℕ → ℕ → ℕ → ℕ → Net → Bool
-reaches h p a b v e = nat_le (length e.pins) 1000 && holds e v && list_any (is_near h p a b) e.pins
+-- the free vertices of a block on a net
+abbrev pub free_pins : Hyper → List ℕ → ℕ → ℕ → List ℕ
+free_pins h p b e = filter (is_free_in h p b) (net_of h e).pins
 
--- each vertex has a flag whether it is on a net of at most 1,000 pins that has a near vertex
-abbrev pub AreReached : Hyper → List ℕ → ℕ → ℕ → List Bool → Type 0
-AreReached h p a b flags = (v : ℕ) → v < length flags → is_in flags v ≡ list_any (reaches h p a b v) h.nets
+-- whether a net has at most 1,000 pins
+abbrev pub is_small : Hyper → ℕ → Bool
+is_small h e = nat_le (length (net_of h e).pins) 1000
 
--- a vertex that passes was taken where there was room for it: the room that is left, and what may be taken later
-abbrev pub TakesOne : Hyper → ℕ → Bool → ℕ → List ℕ → List ℕ → ℕ → Type 0
-TakesOne h room passes v before after left = (vs : List ℕ) → after ++ taken h left vs ≡ before ++ taken h room (if passes then v ∷ vs else vs)
+-- the nets of at most 1,000 pins that hold a vertex
+abbrev pub small_nets : Hyper → ℕ → List ℕ
+small_nets h v = filter (is_small h) (nets_of h v)
 
--- the same of all vertices that pass a test
-abbrev pub TakesAll : Hyper → ℕ → (ℕ → Bool) → List ℕ → List ℕ → ℕ → Type 0
-TakesAll h room test before after left = (vs : List ℕ) → after ++ taken h left vs ≡ before ++ taken h room (filter test (vertices h) ++ vs)
+-- vertices were taken where there was room for them: the room that is left, and what may be taken later
+abbrev pub TakesAll : Hyper → ℕ → List ℕ → List ℕ → List ℕ → ℕ → Type 0
+TakesAll h room vertices before after left = (vs : List ℕ) → after ++ taken h left vs ≡ before ++ taken h room (vertices ++ vs)

@@ -2,6 +2,7 @@
 //! refiner that makes it for one pair after the other.
 #![tactic(auto)]
 
+mod cut;
 pub mod laws;
 mod network;
 mod pair;
@@ -15,7 +16,7 @@ pub use flow_net::NoMemory;
 pub use network::region_network;
 pub use pass::flow_pass;
 pub use refine::FlowPair;
-pub use solve::{PairEnd, solve_pair};
+pub use solve::{PairEnd, PairSolver, solve_pair};
 
 #[cfg(test)]
 mod tests;

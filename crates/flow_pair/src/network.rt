@@ -1,13 +1,20 @@
 //! The flow network of a region.
 
-ghost use Rattle.std.specs.Prelude.{◌≡◌, ◌≢◌, ◌+◌, ◌*◌, ◌^◌, ◌<◌, ◌≤◌, List, [], ◌∷◌};
-ghost use Rattle.std.specs.Prelude.{length, filter, All, IfOk, OnOk};
+ghost use Rattle.std.specs.Prelude.{◌≡◌, ◌≢◌, ◌+◌, ◌*◌, ◌^◌, ◌<◌, ◌≤◌, List, [], ◌∷◌, ◌++◌};
+ghost use Rattle.std.specs.Prelude.{length, map, All, IfOk, OnOk};
+ghost use Rattle.std.specs.List.{flat_map};
 ghost use Rattle.std.specs.List.Sorted.{IsStrictlyIncreasing};
+ghost use Rattle.std.specs.Ordering.{nat_cmp};
 ghost use Rattle.hg_defs.specs.Hypergraph.{vertex_count, net_count, net_of};
-ghost use Rattle.flow_pair.specs.PairNetwork.{pin_arcs, nets_arcs, joins, pair_network, AreOfPair};
-ghost use Rattle.flow_pair.specs.PairNetwork.{Extends, ExtendsByNets, IsIdle};
+ghost use Rattle.hg_defs.specs.Incidence.{nets_of};
+ghost use Rattle.hg_defs.specs.Sorting.{set_of};
+ghost use Rattle.flow_pair.specs.PairNetwork.{pin_arcs, net_arcs, joined_nets, pair_network, unbounded, AreOfPair};
+ghost use Rattle.flow_pair.specs.PairNetwork.{Extends, IsIdle};
+ghost use Rattle.flow_pair.specs.Sides.{touching_nets};
 
+use crate::cut::touching_nets_of;
 use crate::pair::{Pair, more_than_all};
+use crate::region::distinct;
 use flow_net::{Network, NoMemory};
 use incidence::Hypergraph;
 use pin_plain::Partition;
@@ -50,39 +57,88 @@ fn add_pins(pair: Pair<'_>, network: &mut Network, at: u32, pins: &[u32]) -> Res
     Ok(())
 }
 
-/// Adds a net where it joins the network.
+/// Adds a net.
 fn add_net(pair: Pair<'_>, network: &mut Network, e: u32) -> Result<(), NoMemory>
     requires net { e < net_count pair.h.now }
     requires nodes { network.old.nodes + 2 ≤ 2 ^ 26 }
     requires region { 2 + length pair.region.now ≤ network.old.nodes }
     requires room { length network.old.arcs + 1 + 2 * length (net_of pair.h.now e).pins ≤ 2 ^ 28 }
     requires idle { IsIdle network.old }
-    ensures extended { OnOk result (ExtendsByNets pair.entry.h.now pair.entry.blocks.now pair.entry.first
-        pair.entry.second pair.entry.region.now network.old network.new (net_of pair.entry.h.now e ∷ [])) }
+    ensures extended { OnOk result (Extends network.old network.new 2 (net_arcs pair.entry.h.now
+        pair.entry.blocks.now pair.entry.first pair.entry.second pair.entry.region.now network.old.nodes
+        (net_of pair.entry.h.now e))) }
     ensures few { OnOk result (length network.new.arcs ≤ length network.old.arcs + 1 + 2 * length (net_of
         pair.entry.h.now e).pins) }
 {
-    if !pair.joins(e) {
-        return Ok(());
-    }
     let at = network.nodes();
     network.add_nodes(2);
     network.arc(at, at + 1, pair.net_price(e))?;
     add_pins(pair, network, at, pair.h.pins(e))
 }
 
-/// Adds all nets that join the network.
-fn add_nets(pair: Pair<'_>, network: &mut Network) -> Result<(), NoMemory>
+/// Adds some nets.
+fn add_nets(pair: Pair<'_>, network: &mut Network, nets: &[u32]) -> Result<(), NoMemory>
+    requires nets { All (λ e. e < net_count pair.h.now) nets.now }
+    requires joined { map (net_of pair.h.now) nets.now ≡ joined_nets pair.h.now pair.blocks.now pair.first pair.second
+        pair.region.now }
     requires nodes { network.old.nodes ≡ 2 + length pair.region.now }
     requires arcs { network.old.arcs ≡ [] }
     requires flows { network.old.flows ≡ [] }
     ensures { OnOk result (network.new ≡ pair_network pair.entry.h.now pair.entry.blocks.now pair.entry.first
         pair.entry.second pair.entry.region.now) }
 {
-    for e in 0..pair.h.nets() {
-        add_net(pair, network, e)?;
+    let _nets = pair.h.nets();
+    for e in nets {
+        add_net(pair, network, *e)?;
     }
     Ok(())
+}
+
+/// The nets that join the network of a region: those that touch both blocks, and those of its vertices.
+fn nets_of_region(alloc: Global, h: &Hypergraph, region: &[u32], touching: &[u32]) -> Result<Vec<u32>, NoMemory>
+    requires { All (λ v. v < vertex_count h.now) region.now }
+    ensures { IfOk result (λ nets. nets.items ≡ set_of nat_cmp (touching.now ++ flat_map (nets_of h.now) region.now)) }
+{
+    let mut nets = Vec::from_slice(alloc, touching)?;
+    for v in region {
+        nets.extend_from_slice(h.nets_of(*v))?;
+    }
+    Ok(distinct(nets))
+}
+
+/// The flow network of a region of two blocks, made of the nets that touch both and those of the region.
+pub(crate) fn build_network(
+    alloc: Global,
+    h: &Hypergraph,
+    p: &Partition,
+    a: u32,
+    b: u32,
+    region: &[u32],
+    touching: &[u32],
+    most: u64,
+) -> Result<Network, NoMemory>
+    requires belongs { p.now.hyper ≡ h.now }
+    requires order { a < b }
+    requires blocks { b < p.now.k }
+    requires rising { IsStrictlyIncreasing region.now }
+    requires vertices { All (λ v. v < vertex_count h.now) region.now }
+    requires touching { touching.now ≡ touching_nets h.now p.now.blocks a b }
+    requires most { most ≡ unbounded h.now }
+    requires bounded { most ≤ 2 ^ 56 }
+    ensures { IfOk result (λ network. network ≡ pair_network h.now p.now.blocks a b region.now) }
+{
+    let pair = Pair {
+        h,
+        blocks: p.blocks(),
+        first: a,
+        second: b,
+        region,
+        most,
+    };
+    let nets = nets_of_region(alloc, h, region, touching)?;
+    let mut network = Network::new(alloc, 2 + region.len() as u32)?;
+    add_nets(pair, &mut network, nets.as_slice())?;
+    Ok(network)
 }
 
 /// The flow network of a region of two blocks. Node 0, its source, stands for the first block outside
@@ -105,15 +161,6 @@ pub fn region_network(
     requires pair { AreOfPair p.now.blocks a b region.now }
     ensures { IfOk result (λ network. network ≡ pair_network h.now p.now.blocks a b region.now) }
 {
-    let pair = Pair {
-        h,
-        blocks: p.blocks(),
-        first: a,
-        second: b,
-        region,
-        most: more_than_all(h),
-    };
-    let mut network = Network::new(alloc, 2 + region.len() as u32)?;
-    add_nets(pair, &mut network)?;
-    Ok(network)
+    let touching = touching_nets_of(alloc, h, p, a, b)?;
+    build_network(alloc, h, p, a, b, region, touching.as_slice(), more_than_all(h))
 }

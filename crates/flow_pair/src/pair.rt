@@ -1,11 +1,11 @@
 //! A pair of blocks with a region, lent to those who build its network.
 
 ghost use Rattle.std.specs.Prelude.{◌≡◌, ◌+◌, ◌*◌, ◌<◌, ◌≤◌, ◌^◌, length, All, nat_eq, ◌||◌};
-ghost use Rattle.std.specs.List.{list_any, position_or_len};
+ghost use Rattle.std.specs.List.{position_or_len};
 ghost use Rattle.std.specs.Set.{is_member};
 ghost use Rattle.std.specs.List.Sorted.{IsStrictlyIncreasing};
 ghost use Rattle.hg_defs.specs.Hypergraph.{vertex_count, net_count, net_of, total_net_weight};
-ghost use Rattle.flow_pair.specs.PairNetwork.{node_of, joins, net_price, unbounded, leaves_pair};
+ghost use Rattle.flow_pair.specs.PairNetwork.{node_of, net_price, unbounded, leaves_pair};
 ghost use Rattle.hg_defs.specs.Partition.{block_of};
 
 use hg_base::Objective;
@@ -41,15 +41,23 @@ pub(crate) fn more_than_all(h: &Hypergraph) -> u64
     2 * weight + 1
 }
 
-/// The place of a vertex in the region, or the region's length where it is not there.
-fn place_of(region: &[u32], v: u32) -> usize
-    requires { IsStrictlyIncreasing region.now }
-    ensures { result ≡ position_or_len (nat_eq v) region.now }
+/// The place of a number in a rising list, or the list's length where it is not there.
+fn place_of(list: &[u32], v: u32) -> usize
+    requires { IsStrictlyIncreasing list.now }
+    ensures { result ≡ position_or_len (nat_eq v) list.now }
 {
-    match region.binary_search(&v) {
+    match list.binary_search(&v) {
         Ok(place) => place,
-        Err(_) => region.len(),
+        Err(_) => list.len(),
     }
+}
+
+/// Whether a number is in a rising list.
+pub(crate) fn contains(list: &[u32], v: u32) -> bool
+    requires { IsStrictlyIncreasing list.now }
+    ensures { result ≡ is_member nat_eq list.now v }
+{
+    place_of(list, v) < list.len()
 }
 
 impl Pair<'_> {
@@ -78,54 +86,6 @@ impl Pair<'_> {
     {
         let block = self.blocks[v as usize];
         block == self.first || block == self.second
-    }
-
-    /// Whether a vertex is in the region.
-    fn has(&self, v: u32) -> bool
-        ensures { result ≡ is_member nat_eq self.now.region.now v }
-    {
-        place_of(self.region, v) < self.region.len()
-    }
-
-    /// Whether one of the pins is in the region.
-    fn meets_region(&self, pins: &[u32]) -> bool
-        ensures { result ≡ list_any (is_member nat_eq self.now.region.now) pins.now }
-    {
-        for v in pins {
-            if self.has(*v) {
-                return true;
-            }
-        }
-        false
-    }
-
-    /// Whether one of the pins is in a block.
-    fn meets_block(&self, pins: &[u32], block: u32) -> bool
-        requires { All (λ v. v < vertex_count self.now.h.now) pins.now }
-        ensures { result ≡ list_any (λ v. nat_eq (block_of self.now.blocks.now v) block) pins.now }
-    {
-        for v in pins {
-            if self.blocks[*v as usize] == block {
-                return true;
-            }
-        }
-        false
-    }
-
-    /// Whether a net has a pin in the region, or pins outside of it in both blocks.
-    pub(crate) fn joins(&self, e: u32) -> bool
-        requires { e < net_count self.now.h.now }
-        ensures { result ≡ joins self.now.blocks.now self.now.first self.now.second self.now.region.now (net_of
-            self.now.h.now e) }
-    {
-        let pins = self.h.pins(e);
-        if self.meets_region(pins) {
-            return true;
-        }
-        if !self.meets_block(pins, self.first) {
-            return false;
-        }
-        self.meets_block(pins, self.second)
     }
 
     /// Whether a net has a pin in neither block.

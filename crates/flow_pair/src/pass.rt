@@ -6,10 +6,13 @@ ghost use Rattle.hg_defs.specs.Cost.{cost};
 ghost use Rattle.round_log.specs.Passes.{block_pairs};
 ghost use Rattle.round_log.specs.declared.record.Kind.TheVariants.{Flow};
 ghost use Rattle.refiner.specs.Logging.{LogsPass, LogsRounds};
+ghost use Rattle.flow_pair.specs.Courses.{IsOnCourse};
+ghost use Rattle.flow_pair.specs.CutNets.{HoldsCutOf};
 ghost use Rattle.flow_pair.specs.Turns.{TakesTurn, TakesTurns};
 
+use crate::cut::{add_nets_of, cut_nets_of, nets_at, nets_between};
 use crate::round::record_round;
-use crate::solve::solve_pair;
+use crate::solve::PairSolver;
 use flow_net::NoMemory;
 use incidence::Hypergraph;
 use pin_plain::Partition;
@@ -17,62 +20,72 @@ use refiner::{Log, Tally, Task};
 use round_log::{LoggedRound, RoundList};
 use std::alloc::Global;
 
-/// Makes the round of a pair where a net touches it, and appends it. Answers the cost afterwards.
-fn take_turn(
-    alloc: Global,
-    h: &Hypergraph,
+/// A flow pass on its way over a hypergraph.
+#[derive(Drop)]
+struct Course {
     level: u32,
-    p: &mut Partition,
-    a: u32,
-    b: u32,
-    before: u64,
-    rounds: &mut Vec<LoggedRound>,
-) -> Result<u64, NoMemory>
-    requires belongs { p.old.hyper ≡ h.now }
-    requires fits { Fits h.now p.old.k p.old.limit p.old.blocks }
-    requires order { a < b }
-    requires second { b < p.old.k }
-    requires before { before ≡ cost h.now p.old.blocks }
-    requires small { before < 2 ^ 57 }
-    ensures turn { OnOk result (TakesTurn h.now level a b p.old p.new rounds.old.items rounds.new.items) }
-    ensures after { IfOk result (λ after. after ≡ cost h.now p.new.blocks) }
-    ensures no_dearer { IfOk result (λ after. after ≤ before) }
-{
-    let Some(end) = solve_pair(alloc, h, p, a, b)? else {
-        return Ok(before);
-    };
-    let round = record_round(alloc, h, level, p, a, b, before, end)?;
-    let after = round.after;
-    rounds.push(round)?;
-    Ok(after)
+    part: Partition,
+    /// The cost of the partition.
+    cost: u64,
+    /// The rounds so far.
+    rounds: Vec<LoggedRound>,
+    /// The cut nets, and maybe others.
+    cut: Vec<u32>,
+    solver: PairSolver,
 }
 
-/// Makes the rounds of all pairs. Answers the cost afterwards.
-fn take_turns(
-    alloc: Global,
-    h: &Hypergraph,
-    level: u32,
-    p: &mut Partition,
-    before: u64,
-    rounds: &mut Vec<LoggedRound>,
-) -> Result<u64, NoMemory>
-    requires belongs { p.old.hyper ≡ h.now }
-    requires fits { Fits h.now p.old.k p.old.limit p.old.blocks }
-    requires before { before ≡ cost h.now p.old.blocks }
-    requires small { before < 2 ^ 57 }
-    ensures turns { OnOk result (TakesTurns h.now level (block_pairs p.old.k) [] p.old p.new rounds.old.items
-        rounds.new.items) }
-    ensures after { IfOk result (λ after. after ≡ cost h.now p.new.blocks) }
-    ensures no_dearer { IfOk result (λ after. after ≤ before) }
-{
-    let k = p.k();
-    let mut cost = before;
-    for a in 0..k {
-        for b in a + 1..k {
-            cost = take_turn(alloc, h, level, p, a, b, cost, rounds)?;
-        }
+impl Course {
+    /// Makes the round of a pair where a net touches it. The row has the cut nets of the first block.
+    fn take_turn(
+        &mut self,
+        alloc: Global,
+        h: &Hypergraph,
+        a: u32,
+        b: u32,
+        row: &mut Vec<u32>,
+    ) -> Result<(), NoMemory>
+        requires course { IsOnCourse h.now self.old }
+        requires order { a < b }
+        requires second { b < self.old.part.k }
+        requires row { HoldsCutOf h.now self.old.part.blocks a row.old.items }
+        ensures course { OnOk result (IsOnCourse h.now self.new) }
+        ensures turn { OnOk result (TakesTurn h.now self.old.level a b self.old.part self.new.part
+            self.old.rounds.items self.new.rounds.items) }
+        ensures level { self.new.level ≡ self.old.level }
+        ensures row { OnOk result (HoldsCutOf h.now self.new.part.blocks a row.new.items) }
+        ensures no_dearer { OnOk result (self.new.cost ≤ self.old.cost) }
+    {
+        let _blocks = self.part.blocks();
+        let nets = nets_between(alloc, h, &self.part, a, b, row.as_slice())?;
+        let found = self.solver.solve(h, &self.part, a, b, nets.as_slice())?;
+        let Some(end) = found else {
+            return Ok(());
+        };
+        let round = record_round(alloc, h, self.level, &mut self.part, a, b, self.cost, end)?;
+        self.cost = round.after;
+        add_nets_of(h, round.moves.slice(), &mut self.cut)?;
+        add_nets_of(h, round.moves.slice(), row)?;
+        self.rounds.push(round)?;
+        Ok(())
     }
-    Ok(cost)
+
+    /// Makes the rounds of all pairs.
+    fn take_turns(&mut self, alloc: Global, h: &Hypergraph) -> Result<(), NoMemory>
+        requires course { IsOnCourse h.now self.old }
+        ensures turns { OnOk result (TakesTurns h.now self.old.level (block_pairs self.old.part.k) [] self.old.part
+            self.new.part self.old.rounds.items self.new.rounds.items) }
+        ensures cost { OnOk result (self.new.cost ≡ cost h.now self.new.part.blocks) }
+        ensures no_dearer { OnOk result (self.new.cost ≤ self.old.cost) }
+    {
+        let k = self.part.k();
+        for a in 0..k {
+            let mut row = nets_at(alloc, h, &self.part, a, self.cut.as_slice())?;
+            for b in a + 1..k {
+                self.take_turn(alloc, h, a, b, &mut row)?;
+            }
+        }
+        Ok(())
+    }
 }
 
 /// Makes a flow pass over one level: for each pair of blocks in rising order that a net touches at its
@@ -95,14 +108,21 @@ pub fn flow_pass(
     ensures part { OnErr result (LogsRounds false Flow h.now task.now p tally.old tally.new log.old log.new) }
 {
     let level = task.level;
-    let mut part = p;
-    let _parted = part.blocks();
-    let before = part.cost(h);
-    let mut rounds = Vec::new(alloc);
-    let after = take_turns(alloc, h, level, &mut part, before, &mut rounds)?;
-    let count = rounds.len() as u64;
-    log.add(RoundList::from_vec(rounds))?;
+    let _parted = p.blocks();
+    let before = p.cost(h);
+    let cut = cut_nets_of(alloc, h, &p)?;
+    let mut course = Course {
+        level,
+        part: p,
+        cost: before,
+        rounds: Vec::new(alloc),
+        cut,
+        solver: PairSolver::new(alloc, h),
+    };
+    course.take_turns(alloc, h)?;
+    let count = course.rounds.len() as u64;
+    log.add(RoundList::from_vec(course.rounds))?;
     tally.rounds += count;
-    tally.gain += before - after;
-    Ok(part)
+    tally.gain += before - course.cost;
+    Ok(course.part)
 }

@@ -1,19 +1,25 @@
 //! The cheapest assignment of the region of a pair of blocks.
 
-ghost use Rattle.std.specs.Prelude.{◌≡◌, ◌≢◌, ℕ, ◌+◌, ◌<◌, ◌≤◌, [], ◌↔◌, length, slice_index};
+ghost use Rattle.std.specs.Prelude.{◌≡◌, ◌≢◌, ℕ, ◌+◌, ◌^◌, ◌<◌, ◌≤◌, [], ◌↔◌, length, slice_index};
 ghost use Rattle.std.specs.Prelude.{if◌then◌else◌, IfOk, IfSome, IsNone};
 ghost use Rattle.hg_defs.specs.Partition.{Fits};
 ghost use Rattle.flow_net.specs.Flow.{is_in};
-ghost use Rattle.round_log.specs.Rounds.{touching, region as region_of};
+ghost use Rattle.round_log.specs.Rounds.{touching};
 ghost use Rattle.flow_pair.specs.PairEnds.{IsPairEnd};
+ghost use Rattle.flow_pair.specs.PairNetwork.{unbounded};
+ghost use Rattle.flow_pair.specs.Sides.{touching_nets};
 
-use crate::network::region_network;
+use crate::cut::touching_nets_of;
+use crate::network::build_network;
+use crate::pair::more_than_all;
 use crate::region::form_region;
-use flow_net::NoMemory;
+use flow_net::{NoMemory, Workspace};
 use hg_base::{Blocks, Verts};
 use incidence::Hypergraph;
 use pin_plain::Partition;
 use std::alloc::Global;
+use std::marker::Model;
+use std::snapshot::Snapshot;
 
 /// The end of a pair of blocks.
 #[derive(Debug, Drop)]
@@ -40,31 +46,100 @@ fn blocks_of(alloc: Global, side: &[bool], count: usize, a: u32, b: u32) -> Resu
     Ok(Blocks::from_vec(blocks))
 }
 
-/// The cheapest assignment of the region of a pair.
+/// The cheapest assignment of the region of a pair, given the nets that touch both blocks.
 fn solve_region(
+    space: &mut Workspace,
     alloc: Global,
     h: &Hypergraph,
     p: &Partition,
     a: u32,
     b: u32,
-    region: Verts,
+    nets: &[u32],
+    most: u64,
 ) -> Result<PairEnd, NoMemory>
     requires belongs { p.now.hyper ≡ h.now }
     requires fits { Fits p.now.hyper p.now.k p.now.limit p.now.blocks }
     requires order { a < b }
     requires blocks { b < p.now.k }
-    requires region { region ≡ region_of h.now p.now.limit p.now.blocks a b }
+    requires nets { nets.now ≡ touching_nets h.now p.now.blocks a b }
+    requires most { most ≡ unbounded h.now }
+    requires bounded { most ≤ 2 ^ 56 }
     ensures { IfOk result (IsPairEnd h.now p.now.k p.now.limit p.now.blocks a b) }
 {
     let _blocks = p.blocks();
-    let mut network = region_network(alloc, h, p, a, b, region.slice())?;
-    let cut = network.max_flow(0, 1)?;
+    let region = form_region(alloc, h, p, a, b, nets)?;
+    let mut network = build_network(alloc, h, p, a, b, region.slice(), nets, most)?;
+    let cut = network.max_flow_in(space, 0, 1)?;
     let blocks = blocks_of(alloc, cut.side.slice(), region.len(), a, b)?;
     Ok(PairEnd {
         region,
         blocks,
         value: cut.value as u64,
     })
+}
+
+/// What solves one pair after the other of a hypergraph, in the same memory. It is seen as the
+/// hypergraph.
+#[derive(Drop)]
+pub struct PairSolver {
+    hyper: Snapshot<Hypergraph>,
+    alloc: Global,
+    space: Workspace,
+    /// More than all nets can pay.
+    most: u64,
+}
+
+impl Model for PairSolver {
+    ghost use Rattle.std.specs.Prelude.{◌≡◌, ◌≤◌, ◌^◌};
+    ghost use Rattle.hg_defs.specs.Hypergraph.{Hyper};
+    ghost use Rattle.flow_pair.specs.PairNetwork.{unbounded};
+
+    ghost Value = { Hyper };
+
+    ghost view = { λ s. s.hyper.value };
+
+    ghost invariant = { λ s. (s.most ≡ unbounded s.hyper.value) × (s.most ≤ 2 ^ 56) };
+}
+
+impl PairSolver {
+    /// Makes a solver, which takes no memory yet.
+    pub fn new(alloc: Global, h: &Hypergraph) -> Self
+        ensures { result ≡ h.now }
+    {
+        PairSolver {
+            hyper: Snapshot::of(h),
+            alloc,
+            space: Workspace::new(alloc),
+            most: more_than_all(h),
+        }
+    }
+
+    /// The cheapest assignment of the region of a pair of blocks to the two, found by a maximum flow,
+    /// or none where no net has pins in both. The nets that do are given, in rising order.
+    pub fn solve(
+        &mut self,
+        h: &Hypergraph,
+        p: &Partition,
+        a: u32,
+        b: u32,
+        nets: &[u32],
+    ) -> Result<Option<PairEnd>, NoMemory>
+        requires hyper { self.old ≡ h.now }
+        requires belongs { p.now.hyper ≡ h.now }
+        requires fits { Fits p.now.hyper p.now.k p.now.limit p.now.blocks }
+        requires order { a < b }
+        requires blocks { b < p.now.k }
+        requires nets { nets.now ≡ touching_nets h.now p.now.blocks a b }
+        ensures hyper { self.new ≡ self.old }
+        ensures none { IfOk result (λ found. IsNone found ↔ (touching h.now p.now.blocks a b ≡ [])) }
+        ensures end { IfOk result (λ found. IfSome found (IsPairEnd h.now p.now.k p.now.limit p.now.blocks a b)) }
+    {
+        if nets.is_empty() {
+            return Ok(None);
+        }
+        let end = solve_region(&mut self.space, self.alloc, h, p, a, b, nets, self.most)?;
+        Ok(Some(end))
+    }
 }
 
 /// The cheapest assignment of the region of a pair of blocks to the two, found by a maximum flow, or
@@ -83,8 +158,6 @@ pub fn solve_pair(
     ensures none { IfOk result (λ found. IsNone found ↔ (touching h.now p.now.blocks a b ≡ [])) }
     ensures end { IfOk result (λ found. IfSome found (IsPairEnd h.now p.now.k p.now.limit p.now.blocks a b)) }
 {
-    match form_region(alloc, h, p, a, b)? {
-        None => Ok(None),
-        Some(region) => Ok(Some(solve_region(alloc, h, p, a, b, region)?)),
-    }
+    let nets = touching_nets_of(alloc, h, p, a, b)?;
+    PairSolver::new(alloc, h).solve(h, p, a, b, nets.as_slice())
 }

@@ -1,18 +1,16 @@
-use Rattle.std.proofs.Common.{◌≡◌, ◌≤◌, ◌+◌, ◌*◌, ◌++◌, length, drop, take, filter}
+use Rattle.std.proofs.Common.{◌≡◌, ◌≤◌, ◌+◌, ◌*◌, ◌++◌, length, map, drop, take}
 use Rattle.hg_defs.specs.Sums.{total}
-use Rattle.flow_pair.specs.PairNetwork.{joins, nets_arcs, joined_nets, IsIdle}
+use Rattle.hg_defs.specs.Hypergraph.{net_of}
+use Rattle.flow_pair.specs.PairNetwork.{nets_arcs, IsIdle}
 use Rattle.flow_pair.proofs.network.add_nets.Given as goal
 
 abbrev pub invariant-loop-e : goal.invariant-loop-e
 invariant-loop-e l = record {
-  least : 2 + length l.pair.region.now ≤ l.network.nodes;
-  most : l.network.nodes ≤ 2 + length l.pair.region.now + 2 * l.e;
-  nodes : l.network.nodes + 2 * length (filter (joins l.pair.blocks.now l.pair.first l.pair.second l.pair.region.now) (drop l.e l.pair.h.now.nets))
-      ≡ 2 + length l.pair.region.now + 2 * length (joined_nets l.pair.h.now l.pair.blocks.now l.pair.first l.pair.second l.pair.region.now);
+  nodes : l.network.nodes ≡ 2 + length l.pair.region.now + 2 * l.e-index;
   arcs : l.network.arcs ++ nets_arcs l.pair.h.now l.pair.blocks.now l.pair.first l.pair.second l.pair.region.now l.network.nodes
-      (filter (joins l.pair.blocks.now l.pair.first l.pair.second l.pair.region.now) (drop l.e l.pair.h.now.nets))
+      (map (net_of l.pair.h.now) (drop l.e-index l.nets))
       ≡ nets_arcs l.pair.h.now l.pair.blocks.now l.pair.first l.pair.second l.pair.region.now (2 + length l.pair.region.now)
-      (joined_nets l.pair.h.now l.pair.blocks.now l.pair.first l.pair.second l.pair.region.now);
+      (map (net_of l.pair.h.now) l.nets);
   idle : IsIdle l.network;
-  few : length l.network.arcs ≤ l.e + 2 * total (λ net. length net.pins) (take l.e l.pair.h.now.nets);
+  few : length l.network.arcs ≤ l.e-index + 2 * total (λ e. length (net_of l.pair.h.now e).pins) (take l.e-index l.nets);
 }

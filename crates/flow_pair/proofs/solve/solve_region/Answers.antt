@@ -4,26 +4,21 @@ use Rattle.hg_defs.specs.Hypergraph.{vertex_count, IsHypergraph, IsWithinLimits}
 use Rattle.hg_defs.specs.Partition.{IsPartition, Fits}
 use Rattle.flow_net.specs.Flow.{is_in}
 use Rattle.round_log.proofs.RegionLaws.{region_rises}
-use Rattle.flow_pair.specs.PairNetwork.{AreOfPair, pair_network}
-use Rattle.flow_pair.proofs.EndLaws.{region_pair, region_vertices, end_value-small, pair_end}
+use Rattle.flow_pair.specs.PairNetwork.{pair_network}
+use Rattle.flow_pair.proofs.EndLaws.{region_vertices, end_value-small, pair_end}
 use Rattle.flow_pair.proofs.solve.solve_region.Goals as goal
 
-pub region_network-requires-clause-rising : goal.region_network-requires-clause-rising
-region_network-requires-clause-rising c =
+pub build_network-requires-clause-rising : goal.build_network-requires-clause-rising
+build_network-requires-clause-rising c =
     let p = c.args.p.now in
-    subst IsStrictlyIncreasing (sym (c.slice.ensures ∙ c.requires.region)) (region_rises c.args.h.now p.limit p.blocks c.args.a c.args.b)
+    subst IsStrictlyIncreasing (sym (c.slice.ensures ∙ c.in_ok-region.ensures)) (region_rises c.args.h.now p.limit p.blocks c.args.a c.args.b)
 
-pub region_network-requires-clause-vertices : goal.region_network-requires-clause-vertices
-region_network-requires-clause-vertices c =
+pub build_network-requires-clause-vertices : goal.build_network-requires-clause-vertices
+build_network-requires-clause-vertices c =
     let p = c.args.p.now in
     let sound : IsHypergraph c.args.h.now = subst IsHypergraph c.requires.belongs c.blocks-blocks.ensures.parted.sound in
-    subst (All (λ v. v < vertex_count c.args.h.now)) (sym (c.slice.ensures ∙ c.requires.region)) (region_vertices c.args.h.now p.limit p.blocks c.args.a
+    subst (All (λ v. v < vertex_count c.args.h.now)) (sym (c.slice.ensures ∙ c.in_ok-region.ensures)) (region_vertices c.args.h.now p.limit p.blocks c.args.a
     c.args.b sound)
-
-pub region_network-requires-clause-pair : goal.region_network-requires-clause-pair
-region_network-requires-clause-pair c =
-    let p = c.args.p.now in
-    subst (AreOfPair p.blocks c.args.a c.args.b) (sym (c.slice.ensures ∙ c.requires.region)) (region_pair c.args.h.now p.limit p.blocks c.args.a c.args.b)
 
 pub overflow_cast-result : goal.overflow_cast-result
 overflow_cast-result c =
@@ -32,16 +27,16 @@ overflow_cast-result c =
     let a = c.args.a in
     let b = c.args.b in
     let parted = c.blocks-blocks.ensures.parted in
-    let is = c.slice.ensures ∙ c.requires.region in
+    let is = c.slice.ensures ∙ c.in_ok-region.ensures in
     let small =
-    end_value-small h p.k p.limit p.blocks a b c.in_ok-blocks.blocks c.max_flow.new.self c.in_ok-cut.cut.value c.in_ok-cut.cut.side
+    end_value-small h p.k p.limit p.blocks a b c.in_ok-blocks.blocks c.max_flow_in.new.self c.in_ok-cut.cut.value c.in_ok-cut.cut.side
     (subst IsHypergraph c.requires.belongs parted.sound) (subst IsWithinLimits c.requires.belongs parted.bounds)
     (subst (λ x. IsPartition x p.k p.blocks) c.requires.belongs parted.partition) (subst (λ x. Fits x p.k p.limit p.blocks) c.requires.belongs
     c.requires.fits) c.requires.order c.requires.blocks
     (c.in_ok-cut.ensures.kept.0 ∙ ap (λ n. n.nodes) c.in_ok-network.ensures ∙ ap (λ r. (pair_network h p.blocks a b r).nodes) is)
     (c.in_ok-cut.ensures.kept.1 ∙ ap (λ n. n.arcs) c.in_ok-network.ensures ∙ ap (λ r. (pair_network h p.blocks a b r).arcs) is)
     c.in_ok-cut.ensures.sound c.in_ok-cut.ensures.flow c.in_ok-cut.ensures.cut
-    (c.in_ok-blocks.ensures.count ∙ c.len.ensures ∙ ap length c.requires.region)
+    (c.in_ok-blocks.ensures.count ∙ c.len.ensures ∙ ap length c.in_ok-region.ensures)
     (λ i l. c.in_ok-blocks.ensures.each i l ∙ ap (λ s. if is_in s (2 + i) then a else b) c.slice-2.ensures) in
     omega arith
 
@@ -52,14 +47,14 @@ returns c =
     let a = c.args.a in
     let b = c.args.b in
     let parted = c.blocks-blocks.ensures.parted in
-    let is = c.slice.ensures ∙ c.requires.region in
-    pair_end h p.k p.limit p.blocks a b c.in_ok-blocks.blocks c.max_flow.new.self c.in_ok-cut.cut.value c.in_ok-cut.cut.side
+    let is = c.slice.ensures ∙ c.in_ok-region.ensures in
+    pair_end h p.k p.limit p.blocks a b c.in_ok-blocks.blocks c.max_flow_in.new.self c.in_ok-cut.cut.value c.in_ok-cut.cut.side
     (subst IsHypergraph c.requires.belongs parted.sound) (subst IsWithinLimits c.requires.belongs parted.bounds)
     (subst (λ x. IsPartition x p.k p.blocks) c.requires.belongs parted.partition) (subst (λ x. Fits x p.k p.limit p.blocks) c.requires.belongs
     c.requires.fits) c.requires.order c.requires.blocks
     (c.in_ok-cut.ensures.kept.0 ∙ ap (λ n. n.nodes) c.in_ok-network.ensures ∙ ap (λ r. (pair_network h p.blocks a b r).nodes) is)
     (c.in_ok-cut.ensures.kept.1 ∙ ap (λ n. n.arcs) c.in_ok-network.ensures ∙ ap (λ r. (pair_network h p.blocks a b r).arcs) is)
     c.in_ok-cut.ensures.sound c.in_ok-cut.ensures.flow c.in_ok-cut.ensures.cut
-    (c.in_ok-blocks.ensures.count ∙ c.len.ensures ∙ ap length c.requires.region)
+    (c.in_ok-blocks.ensures.count ∙ c.len.ensures ∙ ap length c.in_ok-region.ensures)
     (λ i l. c.in_ok-blocks.ensures.each i l ∙ ap (λ s. if is_in s (2 + i) then a else b) c.slice-2.ensures)
-    (record { region = c.args.region; blocks = c.in_ok-blocks.blocks; value = c.in_ok-cut.cut.value }) c.requires.region refl refl
+    (record { region = c.in_ok-region.region; blocks = c.in_ok-blocks.blocks; value = c.in_ok-cut.cut.value }) c.in_ok-region.ensures refl refl

@@ -1,0 +1,140 @@
+//! The nets that touch two blocks.
+
+ghost use Rattle.std.specs.Prelude.{◌≡◌, ◌<◌, ◌++◌, ◌&&◌, All, IfOk, OnOk, filter, not, nat_eq, slice_index, length};
+ghost use Rattle.std.specs.List.{list_any, flat_map};
+ghost use Rattle.hg_defs.specs.Hypergraph.{vertex_count, net_count, net_of};
+ghost use Rattle.hg_defs.specs.Incidence.{nets_of};
+ghost use Rattle.hg_defs.specs.Partition.{block_of};
+ghost use Rattle.round_log.specs.Rounds.{has_pin};
+ghost use Rattle.flow_pair.specs.CutNets.{HoldsTouching, HoldsCutOf, HoldsCut};
+ghost use Rattle.flow_pair.specs.Sides.{touching_nets};
+
+use crate::region::{distinct, push_if};
+use flow_net::NoMemory;
+use hg_base::Move;
+use incidence::Hypergraph;
+use pin_plain::Partition;
+use std::alloc::Global;
+
+/// Whether a net has pins in both blocks.
+fn touches(h: &Hypergraph, p: &Partition, a: u32, b: u32, e: u32) -> bool
+    requires belongs { p.now.hyper ≡ h.now }
+    requires net { e < net_count h.now }
+    requires first { a < p.now.k }
+    requires second { b < p.now.k }
+    ensures { result ≡ (has_pin p.now.blocks (net_of h.now e) a && has_pin p.now.blocks (net_of h.now e) b) }
+{
+    if p.count(e, a) == 0 {
+        return false;
+    }
+    p.count(e, b) != 0
+}
+
+/// The nets that touch both blocks of a pair, looked for among all nets.
+pub(crate) fn touching_nets_of(
+    alloc: Global,
+    h: &Hypergraph,
+    p: &Partition,
+    a: u32,
+    b: u32,
+) -> Result<Vec<u32>, NoMemory>
+    requires belongs { p.now.hyper ≡ h.now }
+    requires first { a < p.now.k }
+    requires second { b < p.now.k }
+    ensures { IfOk result (λ nets. nets.items ≡ touching_nets h.now p.now.blocks a b) }
+{
+    let mut nets = Vec::new(alloc);
+    for e in 0..h.nets() {
+        push_if(&mut nets, touches(h, p, a, b, e), e)?;
+    }
+    Ok(nets)
+}
+
+/// The nets that touch both blocks of a pair, all of which are among some nets.
+pub(crate) fn nets_between(
+    alloc: Global,
+    h: &Hypergraph,
+    p: &Partition,
+    a: u32,
+    b: u32,
+    nets: &[u32],
+) -> Result<Vec<u32>, NoMemory>
+    requires belongs { p.now.hyper ≡ h.now }
+    requires first { a < p.now.k }
+    requires second { b < p.now.k }
+    requires nets { All (λ e. e < net_count h.now) nets.now }
+    requires all { HoldsTouching h.now p.now.blocks a b nets.now }
+    ensures { IfOk result (λ found. found.items ≡ touching_nets h.now p.now.blocks a b) }
+{
+    let mut found = Vec::new(alloc);
+    for e in nets {
+        push_if(&mut found, touches(h, p, a, b, *e), *e)?;
+    }
+    Ok(distinct(found))
+}
+
+/// Those of the cut nets that touch a block.
+pub(crate) fn nets_at(
+    alloc: Global,
+    h: &Hypergraph,
+    p: &Partition,
+    a: u32,
+    cut: &[u32],
+) -> Result<Vec<u32>, NoMemory>
+    requires belongs { p.now.hyper ≡ h.now }
+    requires block { a < p.now.k }
+    requires cut { HoldsCut h.now p.now.blocks cut.now }
+    ensures { IfOk result (λ found. HoldsCutOf h.now p.now.blocks a found.items) }
+{
+    let mut found = Vec::new(alloc);
+    for e in cut {
+        push_if(&mut found, p.count(*e, a) != 0, *e)?;
+    }
+    Ok(found)
+}
+
+/// Whether not all pins are in the block of the first one.
+fn is_cut(blocks: &[u32], pins: &[u32]) -> bool
+    requires { All (λ v. v < length blocks.now) pins.now }
+    ensures { result ≡ list_any (λ v. not (nat_eq (block_of blocks.now v) (block_of blocks.now (slice_index pins.now
+        0)))) pins.now }
+{
+    for v in pins {
+        if blocks[*v as usize] != blocks[pins[0] as usize] {
+            return true;
+        }
+    }
+    false
+}
+
+/// The nets that touch two blocks.
+pub(crate) fn cut_nets_of(
+    alloc: Global,
+    h: &Hypergraph,
+    p: &Partition,
+) -> Result<Vec<u32>, NoMemory>
+    requires { p.now.hyper ≡ h.now }
+    ensures { IfOk result (λ cut. HoldsCut h.now p.now.blocks cut.items) }
+{
+    let blocks = p.blocks();
+    let mut cut = Vec::new(alloc);
+    for e in 0..h.nets() {
+        push_if(&mut cut, is_cut(blocks, h.pins(e)), e)?;
+    }
+    Ok(cut)
+}
+
+/// Appends the nets of the vertices that moved.
+pub(crate) fn add_nets_of(
+    h: &Hypergraph,
+    moves: &[Move],
+    list: &mut Vec<u32>,
+) -> Result<(), NoMemory>
+    requires { All (λ m. m.vertex < vertex_count h.now) moves.now }
+    ensures { OnOk result (list.new.items ≡ list.old.items ++ flat_map (λ m. nets_of h.now m.vertex) moves.now) }
+{
+    for step in moves {
+        list.extend_from_slice(h.nets_of(step.vertex))?;
+    }
+    Ok(())
+}
