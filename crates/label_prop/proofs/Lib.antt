@@ -1,0 +1,4 @@
+pub mod IdleLaws
+pub mod PassLaws
+pub mod SweepLaws
+pub mod SharingLaws

@@ -1,0 +1,9 @@
+use Rattle.std.proofs.Common.{◌≡◌}
+use Rattle.label_prop.specs.Workers.{IsIdlePass}
+use Rattle.label_prop.proofs.scores.Scores.save_by_pins.Given as goal
+
+abbrev pub invariant-loop-pin : goal.invariant-loop-pin
+invariant-loop-pin l = record {
+  blocks : l.self.k ≡ l.fn.self.k;
+  idle : IsIdlePass l.round l.fn.pass.view.number l.pass;
+}

@@ -1,0 +1,16 @@
+//! Label propagation: workers visit the vertices and move each to the block where it saves most.
+//!
+//! All workers of a round move vertices of one shared partition. The round is rolled back to its best
+//! prefix, and where it didn't make the partition cheaper, a plain sweep follows. A pass ends where the
+//! partition is settled, or after eight rounds that made it cheaper.
+#![tactic(auto)]
+
+mod label;
+mod pass;
+mod race;
+mod scores;
+mod sweep;
+mod worker;
+
+pub use label::LabelProp;
+pub use pass::label_pass;
