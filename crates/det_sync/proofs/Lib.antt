@@ -1,0 +1,6 @@
+pub mod WishLaws
+pub mod GrantLaws
+pub mod RoundLaws
+pub mod LevelLaws
+pub mod DescentLaws
+pub mod TraceLaws

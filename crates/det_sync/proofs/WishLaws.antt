@@ -1,0 +1,146 @@
+-- Laws of wishes: part by part, and in their order.
+use Rattle.std.proofs.Common.{◌≡◌, ℕ, zero, suc, ◌+◌, ◌-◌, ◌*◌, ◌<◌, ◌≤◌, ◌⊎◌, inl, inr, List, [], ◌∷◌, ◌++◌}
+use Rattle.std.proofs.Common.{map, filter, cond, take, drop, All, IsPermutation, min}
+use Rattle.std.proofs.Common.{Option, Some, None, option_map, option_to_list, is_some, get_or, length}
+use Rattle.std.proofs.Common.{IsSorted, Ordering, Less, Equal, Greater, is_lt, nat_cmp, false, refl, sym, ap, ap₂, ◌∙◌, subst, arith}
+use Rattle.std.specs.List.{range_with_len}
+use Rattle.std.specs.Ordering.{ordering_then}
+use Rattle.std.proofs.lemmas.Bool.{cases_lt}
+use Rattle.std.proofs.lemmas.List.{append_assoc, append-nil, length-map, get_or-map, take_all, take-append-le}
+use Rattle.std.proofs.lemmas.List.Elements.{All-nil, All-cons}
+use Rattle.std.proofs.lemmas.List.Sorted.{All-permutation, IsPermutation-map}
+use Rattle.hg_defs.specs.Sorting.{sorted}
+use Rattle.hg_defs.specs.Hypergraph.{Hyper, vertices}
+use Rattle.hg_defs.specs.LeastLoaded.{heavier_first}
+use Rattle.hg_defs.specs.Moves.{best_block}
+use Rattle.hg_defs.specs.Synchronous.{wish, saving, wishing}
+use Rattle.hg_defs.proofs.SortLaws.{sort_is, heavier_first_total, heavier_first_exact}
+use Rattle.pin_plain.specs.BestMoves.{ranked, best_moves}
+use Rattle.det_sync.specs.Wishes.{Wish, AreWishes}
+
+-- ---- parts
+
+range_append : (a m n : ℕ) → range_with_len a (m + n) ≡ range_with_len a m ++ range_with_len (a + m) n
+range_append a zero n = let e : a + 0 ≡ a = omega arith in let f : zero + n ≡ n = omega arith in
+    ap (range_with_len a) f ∙ ap (λ b. range_with_len b n) (sym e)
+range_append a (suc m) n =
+    let e : a + 1 + m ≡ a + suc m = omega arith in
+    let f : suc m + n ≡ suc (m + n) = omega arith in
+    ap (range_with_len a) f
+    ∙ ap (λ xs. a ∷ xs) (range_append (a + 1) m n ∙ ap (λ b. range_with_len (a + 1) m ++ range_with_len b n) e)
+
+module _ (h : Hyper) (k l : ℕ) (p : List ℕ) where
+  best_moves-append : (us vs : List ℕ) → best_moves h k l p (us ++ vs) ≡ best_moves h k l p us ++ best_moves h k l p vs
+  best_moves-append [] vs = refl
+  best_moves-append (u ∷ us) vs =
+      ap (λ xs. option_to_list (option_map (ranked h p u) (best_block h l p u k)) ++ xs) (best_moves-append us vs)
+      ∙ sym (append_assoc (option_to_list (option_map (ranked h p u) (best_block h l p u k))) (best_moves h k l p us) (best_moves h k l p vs))
+
+  -- the wishes of the parts so far, and those of one more
+  pub parts_more : (n size i : ℕ) (old part : List Wish) → old ≡ best_moves h k l p (range_with_len 0 (min (i * size) n))
+      → part ≡ best_moves h k l p (range_with_len (i * size) (min size (n - i * size)))
+      → old ++ part ≡ best_moves h k l p (range_with_len 0 (min ((i + 1) * size) n))
+  parts_more n size i old part is next = by (cases_lt n (i * size))
+    where
+      by : (n < i * size) ⊎ (i * size ≤ n) → old ++ part ≡ best_moves h k l p (range_with_len 0 (min ((i + 1) * size) n))
+      by (inl past) =
+          let product : (i + 1) * size ≡ i * size + size = omega arith in
+          let none : min size (n - i * size) ≡ 0 = nothing (i * size) past in
+          let same : min (i * size) n ≡ min ((i + 1) * size) n = whole (i * size) ((i + 1) * size) past (omega arith) in
+          ap (λ xs. old ++ xs) (next ∙ ap (λ m. best_moves h k l p (range_with_len (i * size) m)) none)
+          ∙ append-nil old
+          ∙ is
+          ∙ ap (λ m. best_moves h k l p (range_with_len 0 m)) same
+        where
+          nothing : (a : ℕ) → n < a → min size (n - a) ≡ 0
+          nothing a past = omega arith
+
+          whole : (a b : ℕ) → n < a → a ≤ b → min a n ≡ min b n
+          whole a b past low = omega arith
+      by (inr low) =
+          let product : (i + 1) * size ≡ i * size + size = omega arith in
+          let here : min (i * size) n ≡ i * size = inside (i * size) low in
+          let start : 0 + i * size ≡ i * size = omega arith in
+          let all : i * size + min size (n - i * size) ≡ min ((i + 1) * size) n = reach (i * size) ((i + 1) * size) product low in
+          ap (λ xs. xs ++ part) (is ∙ ap (λ m. best_moves h k l p (range_with_len 0 m)) here)
+          ∙ ap (λ xs. best_moves h k l p (range_with_len 0 (i * size)) ++ xs)
+          (next ∙ ap (λ a. best_moves h k l p (range_with_len a (min size (n - i * size)))) (sym start))
+          ∙ sym (best_moves-append (range_with_len 0 (i * size)) (range_with_len (0 + i * size) (min size (n - i * size))))
+          ∙ ap (best_moves h k l p) (sym (range_append 0 (i * size) (min size (n - i * size))))
+          ∙ ap (λ m. best_moves h k l p (range_with_len 0 m)) all
+        where
+          inside : (a : ℕ) → a ≤ n → min a n ≡ a
+          inside a low = omega arith
+
+          reach : (a b : ℕ) → b ≡ a + size → a ≤ n → a + min size (n - a) ≡ min b n
+          reach a b e low = omega arith
+
+  pub parts_all : (n size i : ℕ) (all : List Wish) → n ≤ i * size → all ≡ best_moves h k l p (range_with_len 0 (min (i * size) n))
+      → all ≡ best_moves h k l p (range_with_len 0 n)
+  parts_all n size i all high is = let e : min (i * size) n ≡ n = omega arith in is ∙ ap (λ m. best_moves h k l p (range_with_len 0 m)) e
+
+-- ---- the order
+
+abbrev pub key_of : Wish → ℕ × ℕ
+key_of w = (w.0.0, w.1)
+
+-- the order of wishes: the highest gain first, then the lowest vertex, then the lowest block
+abbrev pub wish_cmp : Wish → Wish → Ordering
+wish_cmp a b = ordering_then (ordering_then (nat_cmp b.0.0 a.0.0) (nat_cmp a.1 b.1)) (nat_cmp a.2 b.2)
+
+map-map : {A B C : Type 0} (f : B → C) (g : A → B) (xs : List A) → map f (map g xs) ≡ map (λ x. f (g x)) xs
+map-map f g [] = refl
+map-map f g (x ∷ xs) = ap (λ ys. f (g x) ∷ ys) (map-map f g xs)
+
+before_by_key : (r s : Ordering) → is_lt (ordering_then r s) ≡ false → is_lt r ≡ false
+before_by_key Less s e = e
+before_by_key Equal s e = refl
+before_by_key Greater s e = refl
+
+keys_sorted : (ws : List Wish) → IsSorted wish_cmp ws → IsSorted heavier_first (map key_of ws)
+keys_sorted [] s k d low next = absurd (omega arith)
+keys_sorted (w ∷ ws) s k d low next =
+    let n = length-map ws key_of in
+    subst (λ a. is_lt (heavier_first (get_or (map key_of (w ∷ ws)) (k + 1) d) a) ≡ false) (sym (get_or-map key_of (w ∷ ws) k w d (omega arith)))
+    (subst (λ a. is_lt (heavier_first a (key_of (get_or (w ∷ ws) k w))) ≡ false) (sym (get_or-map key_of (w ∷ ws) (k + 1) w d (omega arith)))
+    (before_by_key (heavier_first (key_of (get_or (w ∷ ws) (k + 1) w)) (key_of (get_or (w ∷ ws) k w)))
+    (nat_cmp (get_or (w ∷ ws) (k + 1) w).2 (get_or (w ∷ ws) k w).2) (s k w (omega arith) (omega arith))))
+
+module _ (h : Hyper) (k l : ℕ) (p : List ℕ) where
+  keys_are : (vs : List ℕ) → map key_of (best_moves h k l p vs)
+      ≡ map (λ v. (saving h p v (wish h k l p v), v)) (filter (λ v. is_some (wish h k l p v)) vs)
+  keys_are [] = refl
+  keys_are (v ∷ vs) = by (best_block h l p v k) refl (keys_are vs)
+    where
+      by : (o : Option ℕ) → best_block h l p v k ≡ o
+          → map key_of (best_moves h k l p vs) ≡ map (λ u. (saving h p u (wish h k l p u), u)) (filter (λ u. is_some (wish h k l p u)) vs)
+          → map key_of (option_to_list (option_map (ranked h p v) o) ++ best_moves h k l p vs)
+          ≡ map (λ u. (saving h p u (wish h k l p u), u))
+          (cond (is_some o) (v ∷ filter (λ u. is_some (wish h k l p u)) vs) (filter (λ u. is_some (wish h k l p u)) vs))
+      by None e rest = rest
+      by (Some b) e rest = ap₂ (λ (a : ℕ) (xs : List (ℕ × ℕ)). (a, v) ∷ xs) (ap (saving h p v) (sym e)) rest
+
+  each_is : (vs : List ℕ) → All (λ (w : Wish). wish h k l p w.1 ≡ Some w.2) (best_moves h k l p vs)
+  each_is [] = All-nil (λ (w : Wish). wish h k l p w.1 ≡ Some w.2)
+  each_is (v ∷ vs) = by (best_block h l p v k) refl (each_is vs)
+    where
+      by : (o : Option ℕ) → best_block h l p v k ≡ o → All (λ (w : Wish). wish h k l p w.1 ≡ Some w.2) (best_moves h k l p vs)
+          → All (λ (w : Wish). wish h k l p w.1 ≡ Some w.2) (option_to_list (option_map (ranked h p v) o) ++ best_moves h k l p vs)
+      by None e rest = rest
+      by (Some b) e rest = All-cons (λ (w : Wish). wish h k l p w.1 ≡ Some w.2) (ranked h p v b) (best_moves h k l p vs) e rest
+
+  -- the best moves of all vertices, in order, are the wishes
+  pub sorted_wishes : (ws : List Wish) → IsPermutation (best_moves h k l p (vertices h)) ws → IsSorted wish_cmp ws → AreWishes h k l p ws
+  sorted_wishes ws moved in_order = record {
+    order =
+        sym (map-map (λ (a : ℕ × ℕ). a.1) key_of ws)
+        ∙ ap (map (λ (a : ℕ × ℕ). a.1))
+        (sort_is heavier_first_total heavier_first_exact (map key_of (best_moves h k l p (vertices h))) (map key_of ws)
+        (IsPermutation-map key_of (best_moves h k l p (vertices h)) ws moved) (keys_sorted ws in_order)
+        ∙ ap (sorted heavier_first) (keys_are (vertices h)));
+    each = All-permutation (λ (w : Wish). wish h k l p w.1 ≡ Some w.2) (best_moves h k l p (vertices h)) ws moved (each_is (vertices h));
+  }
+
+-- what was written back into a list as long
+pub written : (n : ℕ) (new old : List Wish) → length new ≡ n → take n (new ++ drop (length new) old) ≡ new
+written n new old e = take-append-le n new (drop (length new) old) (omega arith) ∙ take_all n new (omega arith)

@@ -1,0 +1,3 @@
+pub mod Wishes
+pub mod Rounds
+pub mod Descent

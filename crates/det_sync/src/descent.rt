@@ -1,0 +1,151 @@
+//! The descent from the coarsest level down to the file.
+
+ghost use Rattle.std.specs.Prelude.{◌≡◌, ℕ, ◌≤◌, IfOk, Err, length, Some};
+ghost use Rattle.hg_defs.specs.Hypergraph.{IsFixedWithin, Suits};
+ghost use Rattle.hg_defs.specs.Levels.{level};
+ghost use Rattle.hg_defs.specs.Partition.{Fits};
+ghost use Rattle.initial_place.specs.declared.end.PlaceEnd.TheVariants.{NoneFits as none_fits};
+ghost use Rattle.round_log.specs.Deterministic.{det_last};
+ghost use Rattle.round_log.specs.TraceLaws.{IsSound};
+ghost use Rattle.det_sync.specs.Descent.{AreDetLevels, IsDetDescent, IsFirstPlaced, NoneFitsAt, LogsDescent};
+
+use crate::rounds::sync_level;
+use hg_base::{Blocks, Items, MapStack, NoMemory};
+use initial_place::{PlaceEnd, named_best};
+use level_stack::LevelStack;
+use pin_plain::Partition;
+use round_log::{Chosen, RoundList, Stop, Trace};
+use std::alloc::Global;
+use std::thread::Threads;
+
+/// The coarsest level where a named placement fits, and the best of them there.
+fn first_placed<R: Threads + Sync>(
+    rt: &R,
+    alloc: Global,
+    stack: &LevelStack,
+    k: u32,
+    limit: u64,
+    seed: u64,
+) -> Result<(u32, Blocks), PlaceEnd>
+    requires some { 2 ≤ k }
+    requires few { k ≤ 256 }
+    requires fixed { (i : ℕ) → i ≤ length stack.now.maps → IsFixedWithin (level stack.now.base stack.now.maps i) k }
+    ensures start { IfOk result (λ start. IsFirstPlaced stack.now.base stack.now.maps k limit seed start.0 start.1) }
+    ensures none { result ≡ Err PlaceEnd.NoneFits → (i : ℕ) → i ≤ length stack.now.maps → NoneFitsAt stack.now.base
+        stack.now.maps k limit seed i }
+{
+    let depth = stack.depth();
+    for above in 0..depth {
+        let level = depth - 1 - above;
+        match named_best(rt, alloc, stack.level(level), k, limit, seed) {
+            Ok(placed) => return Ok((level, placed)),
+            Err(PlaceEnd::NoneFits) => {}
+            Err(PlaceEnd::NoMemory) => return Err(PlaceEnd::NoMemory),
+        }
+    }
+    Err(PlaceEnd::NoneFits)
+}
+
+/// Takes a partition of the level of a number down to the file: each level has its synchronous rounds,
+/// and between two levels the partition is projected. The rounds are appended to the log.
+fn sync_down<R: Threads + Sync>(
+    rt: &R,
+    alloc: Global,
+    stack: &LevelStack,
+    start: u32,
+    mut p: Partition,
+    workers: u32,
+    log: &mut RoundList,
+) -> Result<Partition, NoMemory>
+    requires level { start ≤ length stack.now.maps }
+    requires belongs { p.hyper ≡ level stack.now.base stack.now.maps start }
+    requires fits { Fits p.hyper p.k p.limit p.blocks }
+    requires suits { (i : ℕ) → i ≤ length stack.now.maps → Suits (level stack.now.base stack.now.maps i) p.k }
+    requires fixed { (i : ℕ) → i ≤ length stack.now.maps → IsFixedWithin (level stack.now.base stack.now.maps i) p.k }
+    requires some { 1 ≤ workers }
+    requires few { workers ≤ 64 }
+    ensures partition { IfOk result (λ q. q ≡ record p { hyper = stack.now.base; blocks = q.blocks }) }
+    ensures rounds { IfOk result (λ q. LogsDescent stack.now.base stack.now.maps p.k p.limit workers start p.blocks
+        q.blocks log.old log.new) }
+{
+    sync_level(rt, alloc, stack.level(start), &mut p, start, workers, log)?;
+    for above in 0..start {
+        let level = start - 1 - above;
+        let fine = stack.level(level);
+        let _vertices = fine.vertices();
+        p = p.project(alloc, fine, stack.map(level))?;
+        sync_level(rt, alloc, fine, &mut p, level, workers, log)?;
+    }
+    Ok(p)
+}
+
+/// Copies of the clusterings of a stack.
+fn maps_of(alloc: Global, stack: &LevelStack) -> Result<MapStack, NoMemory>
+    ensures { IfOk result (λ maps. maps ≡ stack.now.maps) }
+{
+    let mut maps = MapStack::new(alloc);
+    for level in 0..stack.depth() - 1 {
+        maps.push(Items::from_vec(Vec::from_slice(alloc, stack.map(level))?))?;
+    }
+    Ok(maps)
+}
+
+/// The descent of the deterministic mode, with 1 to 64 workers: the partition of the file before it is
+/// compared with the greedy one, and the trace so far.
+///
+/// The stack and the stop are those of [`det_levels`](crate::det_levels) for this `k`, from 2 to 256,
+/// each level suits it, and the file is fixed to these blocks alone. The descent begins with the best
+/// named placement of the coarsest level where one fits. Neither the partition nor the moves depend on
+/// how many workers there are.
+pub fn det_descend<R: Threads + Sync>(
+    rt: &R,
+    alloc: Global,
+    stack: &LevelStack,
+    stop: Stop,
+    k: u32,
+    limit: u64,
+    seed: u64,
+    workers: u32,
+) -> Result<(Partition, Trace), PlaceEnd>
+    requires blocks { 2 ≤ k }
+    requires few_blocks { k ≤ 256 }
+    requires levels { AreDetLevels stack.now.base k stack.now.maps stop }
+    requires suits { (i : ℕ) → i ≤ length stack.now.maps → Suits (level stack.now.base stack.now.maps i) k }
+    requires fixed { IsFixedWithin stack.now.base k }
+    requires some { 1 ≤ workers }
+    requires few { workers ≤ 64 }
+    ensures partition { IfOk result (λ pair. pair.0 ≡ record {
+      hyper = stack.now.base;
+      k = k;
+      limit = limit;
+      blocks = pair.1.last;
+    }) }
+    ensures trace { IfOk result (λ pair. IsDetDescent stack.now.base k limit seed workers stack.now.maps stop pair.1) }
+    ensures function { IfOk result (λ pair. det_last stack.now.base k limit seed ≡ Some pair.1.last) }
+    ensures sound { IfOk result (λ pair. IsSound stack.now.base k limit pair.1.last) }
+    ensures none { result ≡ Err PlaceEnd.NoneFits → (i : ℕ) → i ≤ length stack.now.maps → NoneFitsAt stack.now.base
+        stack.now.maps k limit seed i }
+{
+    let file = stack.level(0);
+    let _vertices = file.vertices();
+    let (start, first) = first_placed(rt, alloc, stack, k, limit, seed)?;
+    let blocks = first.copy()?;
+    let level = stack.level(start);
+    let placed = Partition::of(alloc, level, k, limit, blocks)?;
+    let mut rounds = RoundList::new(alloc);
+    let p = sync_down(rt, alloc, stack, start, placed, workers, &mut rounds)?;
+    let reached = p.blocks();
+    let copied = Vec::from_slice(alloc, reached)?;
+    let last = Items::from_vec(copied);
+    let maps = maps_of(alloc, stack)?;
+    let trace = Trace {
+        maps,
+        stop,
+        start,
+        first,
+        rounds,
+        last,
+        chosen: Chosen::Levels,
+    };
+    Ok((p, trace))
+}

@@ -1,0 +1,211 @@
+//! Synchronous rounds: all vertices wish at once, and the best wishes are granted while there is room.
+
+ghost use Rattle.std.specs.Prelude.{◌≡◌, ℕ, ◌+◌, ◌-◌, ◌<◌, ◌≤◌, ◌^◌, ◌∷◌, length, take, replicate, IfOk, OnOk};
+ghost use Rattle.std.specs.Prelude.{OnErr, ℤ, pos, ◌-ℤ◌, ◌≤ℤ◌, ◌<ℤ◌};
+ghost use Rattle.hg_defs.specs.Sums.{total_z};
+ghost use Rattle.hg_defs.specs.Hypergraph.{vertex_count};
+ghost use Rattle.hg_defs.specs.Partition.{Fits};
+ghost use Rattle.hg_defs.specs.Cost.{cost};
+ghost use Rattle.hg_defs.specs.Moves.{IsSettled};
+ghost use Rattle.hg_defs.specs.Replay.{replay};
+ghost use Rattle.hg_defs.specs.Synchronous.{sync_moves, sync};
+ghost use Rattle.det_sync.specs.Wishes.{AreWishes};
+ghost use Rattle.det_sync.specs.Rounds.{LogsSync, LogsSynced, StaysCost};
+
+use crate::wishes::wishes_of;
+use hg_base::{Gains, Items, Move, NoMemory};
+use incidence::Hypergraph;
+use pin_plain::{BestMove, Partition};
+use rollback_prefix::roll_back;
+use round_log::{Kind, LoggedRound, RoundList};
+use std::alloc::{AllocError, Global};
+use std::thread::Threads;
+
+/// A level has so many rounds at most.
+const MOST_ROUNDS: u32 = 8;
+
+/// Makes those of the wishes, one after the other, for which there still is room, and answers the
+/// moves. Each is booked with its gain in its turn.
+fn grant(
+    alloc: Global,
+    h: &Hypergraph,
+    p: &mut Partition,
+    wishes: &[BestMove],
+) -> Result<Vec<Move>, AllocError>
+    requires belongs { p.old.hyper ≡ h.now }
+    requires wishes { AreWishes h.now p.old.k p.old.limit p.old.blocks wishes.now }
+    ensures moves { IfOk result (λ moves. moves.items ≡ sync_moves h.now p.old.k p.old.limit p.old.blocks) }
+    ensures partition { IfOk result (λ moves. p.new ≡ record p.old { blocks = replay p.old.blocks moves.items }) }
+{
+    let _vertices = h.vertices();
+    let mut moves = Vec::new(alloc);
+    'wishes: for (_, v, to) in wishes {
+        if p.weight(*to) + h.vertex_weight(*v) > p.limit() {
+            continue;
+        }
+        let booked = p.gain(h, *v, *to);
+        let blocks = p.blocks();
+        let from = blocks[*v as usize];
+        p.shift(h, *v, *to);
+        moves.push(Move {
+            vertex: *v,
+            from,
+            to: *to,
+            worker: 0,
+            booked,
+        })?;
+    }
+    Ok(moves)
+}
+
+/// The cost after moves, each of which saves what it books, from a partition of this cost on.
+fn cost_after(before: u64, moves: &[Move]) -> u64
+    requires { (i : ℕ) → i ≤ length moves.now → StaysCost (pos before -ℤ total_z (λ m. m.booked) (take i moves.now)) }
+    ensures { pos result ≡ pos before -ℤ total_z (λ m. m.booked) moves.now }
+{
+    let mut cost = before as i64;
+    for step in moves {
+        cost -= step.booked;
+    }
+    cost as u64
+}
+
+/// What the workers of a synchronous round book: the first of them all that was saved.
+fn gains_of(alloc: Global, before: u64, made: u64, workers: u32) -> Result<Gains, AllocError>
+    requires before { before < 2 ^ 57 }
+    requires made { made < 2 ^ 57 }
+    requires some { 1 ≤ workers }
+    ensures { IfOk result (λ gains. gains ≡ (pos before -ℤ pos made) ∷ replicate (workers - 1) (pos 0)) }
+{
+    let mut gains = vec![in alloc; 0i64; workers as usize]?;
+    gains[0] = before as i64 - made as i64;
+    Ok(Items::from_vec(gains))
+}
+
+/// Grants the wishes of all vertices in a partition of this cost, keeps the best prefix of the moves,
+/// and logs the round. Answers the cost of the partition that is left.
+fn grant_best<R: Threads + Sync>(
+    rt: &R,
+    alloc: Global,
+    h: &Hypergraph,
+    p: &mut Partition,
+    wishes: &[BestMove],
+    before: u64,
+    level: u32,
+    workers: u32,
+    log: &mut RoundList,
+) -> Result<u64, NoMemory>
+    requires belongs { p.old.hyper ≡ h.now }
+    requires fits { Fits h.now p.old.k p.old.limit p.old.blocks }
+    requires wishes { AreWishes h.now p.old.k p.old.limit p.old.blocks wishes.now }
+    requires cost { before ≡ cost h.now p.old.blocks }
+    requires some { 1 ≤ workers }
+    requires few { workers ≤ 64 }
+    ensures partition { OnOk result (p.new ≡ record p.old
+        { blocks = sync h.now p.old.k p.old.limit p.old.blocks }) }
+    ensures cost { IfOk result (λ after. after ≡ cost h.now p.new.blocks) }
+    ensures round { OnOk result (LogsSync h.now p.old.k p.old.limit workers level p.old.blocks log.old log.new) }
+    ensures refused { OnErr result (log.new ≡ log.old) }
+{
+    let _parted = p.blocks();
+    let moves = grant(alloc, h, p, wishes)?;
+    let steps = moves.as_slice();
+    let kept = roll_back(rt, alloc, h, p, steps)?;
+    let made = cost_after(before, steps);
+    let after = cost_after(before, &steps[..kept as usize]);
+    let gains = gains_of(alloc, before, made, workers)?;
+    log.push(LoggedRound {
+        kind: Kind::Label,
+        level,
+        moves: Items::from_vec(moves),
+        kept,
+        gains,
+        before,
+        made,
+        after,
+        first: 0,
+        second: 0,
+        region: Items::new(alloc),
+        value: 0,
+        tabled: false,
+    })?;
+    Ok(after)
+}
+
+/// A synchronous round of a partition that fits and isn't settled (the synchronous local search of
+/// BiPart and of deterministic Mt-KaHyPar).
+///
+/// Every vertex wishes for its allowed move of the highest gain above 0, the lowest block at a tie, all
+/// in the partition as it is given. The wishes are granted while there is room, by falling gain and
+/// then by rising vertex, and the moves are rolled back to their best prefix. The round is appended to
+/// the log as one of label propagation with a gain for each of the 1 to 64 workers, of which the first
+/// made all moves. Neither the partition nor the moves depend on how many workers there are.
+///
+/// Where there is no memory, the log is as it was.
+pub fn sync_round<R: Threads + Sync>(
+    rt: &R,
+    alloc: Global,
+    h: &Hypergraph,
+    mut p: Partition,
+    level: u32,
+    workers: u32,
+    log: &mut RoundList,
+) -> Result<Partition, NoMemory>
+    requires belongs { p.hyper ≡ h.now }
+    requires fits { Fits h.now p.k p.limit p.blocks }
+    requires unsettled { IsSettled h.now p.k p.limit p.blocks → ⊥ }
+    requires some { 1 ≤ workers }
+    requires few { workers ≤ 64 }
+    ensures partition { IfOk result (λ q. q ≡ record p { blocks = sync h.now p.k p.limit p.blocks }) }
+    ensures cheaper { IfOk result (λ q. cost h.now q.blocks < cost h.now p.blocks) }
+    ensures round { OnOk result (LogsSync h.now p.k p.limit workers level p.blocks log.old log.new) }
+    ensures refused { OnErr result (log.new ≡ log.old) }
+{
+    let _parted = p.blocks();
+    let before = p.cost(h);
+    let wishes = wishes_of(rt, alloc, h, &p)?;
+    grant_best(
+        rt,
+        alloc,
+        h,
+        &mut p,
+        wishes.as_slice(),
+        before,
+        level,
+        workers,
+        log,
+    )?;
+    Ok(p)
+}
+
+/// The synchronous rounds of a level, until the partition is settled, 8 at most. They are appended to
+/// the log.
+pub(crate) fn sync_level<R: Threads + Sync>(
+    rt: &R,
+    alloc: Global,
+    h: &Hypergraph,
+    p: &mut Partition,
+    level: u32,
+    workers: u32,
+    log: &mut RoundList,
+) -> Result<(), NoMemory>
+    requires belongs { p.old.hyper ≡ h.now }
+    requires fits { Fits h.now p.old.k p.old.limit p.old.blocks }
+    requires some { 1 ≤ workers }
+    requires few { workers ≤ 64 }
+    ensures partition { OnOk result (p.new ≡ record p.old { blocks = p.new.blocks }) }
+    ensures fits { OnOk result (Fits h.now p.old.k p.old.limit p.new.blocks) }
+    ensures rounds { OnOk result (LogsSynced h.now p.old.k p.old.limit workers level p.old.blocks p.new.blocks log.old
+        log.new) }
+{
+    let mut cost = p.cost(h);
+    'rounds: for _made in 0..MOST_ROUNDS {
+        let wishes = wishes_of(rt, alloc, h, p)?;
+        let listed = wishes.as_slice();
+        if listed.is_empty() {
+            return Ok(());
+        }
+        cost = grant_best(rt, alloc, h, p, listed, cost, level, workers, log)?;
+    }
+    Ok(())
+}
