@@ -5,9 +5,11 @@
 use hg_defs::NoMemory;
 use hg_io::{AnySink, AnySource, Place, StdSink};
 use part_run::{Status, names, put_status, run};
+use refiner::Refiner;
 use std::env;
 use std::io::ErrorKind;
 use std::process::ExitCode;
+use std::thread::Threads;
 
 /// The words of the command line behind the program's name. They are at fault where one isn't text.
 fn words(rt: &HostRuntime) -> Result<Vec<String>, Status> {
@@ -26,7 +28,7 @@ fn words(rt: &HostRuntime) -> Result<Vec<String>, Status> {
 }
 
 /// Carries out the command that the words spell, over files and the standard streams.
-fn carry_out(rt: HostRuntime, words: &[String]) -> Status {
+fn carry_out<H: Threads + Sync>(rt: HostRuntime, threads: &H, words: &[String]) -> Status {
     let names = match names(rt.alloc(), words) {
         Ok(names) => names,
         Err(NoMemory) => return Status::NoMemory,
@@ -35,20 +37,23 @@ fn carry_out(rt: HostRuntime, words: &[String]) -> Status {
     let mut extra = AnySource::at(rt, rt.stdin(), names.extra);
     let mut out = AnySink::at(rt, rt.stdout(), rt.stderr(), names.out);
     let mut report = AnySink::at(rt, rt.stdout(), rt.stderr(), names.report);
+    let mut refiners: [Box<dyn Refiner>; 0] = [];
     run(
+        threads,
         rt.alloc(),
         words,
         &mut graph,
         &mut extra,
         &mut out,
         &mut report,
+        &mut refiners,
     )
     .status
 }
 
 fn main(rt: HostRuntime) -> ExitCode {
     let status = match words(&rt) {
-        Ok(words) => carry_out(rt, words.as_slice()),
+        Ok(words) => carry_out(rt, &rt, words.as_slice()),
         Err(status) => status,
     };
     let mut errors = StdSink::over(rt.stderr());

@@ -7,6 +7,7 @@ use Rattle.hg_defs.specs.Hypergraph.{Hyper, vertex_count, net_count, Suits}
 use Rattle.hg_defs.specs.LeastLoaded.{overfills}
 use Rattle.hg_io.specs.Faults.{Rose}
 use Rattle.hg_io.specs.Transfers.{ConsumesMoreThan}
+use Rattle.round_log.specs.declared.record.Kind.{Kind}
 use Rattle.hmetis_read.specs.Graph.{graph}
 use Rattle.hmetis_read.specs.declared.fault.What.{What}
 use Rattle.hmetis_read.specs.declared.fault.What.TheVariants as what
@@ -21,7 +22,7 @@ use Rattle.part_run.specs.Reads.{Feed, most_bytes, WasRead, Spells, GivesTooMuch
 use Rattle.part_run.specs.Reads.{IsFixRefusal, IsPartRefusal, IsExtraTooLarge, IsFixed, with_objective}
 use Rattle.part_run.specs.Answers.{Inputs, Outputs, IsEnd, IsPartitionEnd, IsEvaluationEnd, IsGenerationEnd, IsPartitionRefused, IsEvaluationRefused}
 use Rattle.part_run.specs.Answers.{IsGenerationRefused, IsGenerationRefusal, IsGraphRefused, IsInputRefused, IsPlaceRefused, IsWriteRefused}
-use Rattle.part_run.specs.Answers.{IsAccepted, IsFixRefused, IsPlaceRefusal, IsPartRefused, IsWriteRefusal, limit_for}
+use Rattle.part_run.specs.Answers.{IsAccepted, IsFixRefused, IsPlaceRefusal, IsPartRefused, IsWriteRefusal, job_for, limit_for}
 use Rattle.part_run.specs.Completeness.{AreFaultless, Gives, GivesFixes, IsPartitionable, IsEvaluable, IsServed, RunsComeToTheirEnd}
 
 -- what was read to its end is what the source told
@@ -148,7 +149,7 @@ module _ (n k : ℕ) (old new : Feed) (entries : List ℕ) (faultless : Rose old
 
 -- ---- `partition`
 
-module _ (p : Partitioning) (i i' : Inputs) (o o' : Outputs) (g : IsPartitionable p i) (f : AreFaultless i i' o o') where
+module _ (kinds : List Kind) (p : Partitioning) (i i' : Inputs) (o o' : Outputs) (g : IsPartitionable p i) (f : AreFaultless i i' o o') where
   -- the hypergraph that was accepted is the one that is given
   accepted_same : (h : Hyper) → IsAccepted p i i' h → h ≡ g.fixed
   accepted_same h a =
@@ -186,7 +187,7 @@ module _ (p : Partitioning) (i i' : Inputs) (o o' : Outputs) (g : IsPartitionabl
       none v found = let same = accepted_same refused.hypergraph refused.accepted in
           none_some _ v (subst (λ (x : Hyper). overfills x p.k (limit_for p x) ≡ None) (sym same) g.placed) found
 
-      by : (t : Status) → IsPlaceRefusal p refused.hypergraph t → t ≡ NoMemory
+      by : (t : Status) → IsPlaceRefusal (job_for p) refused.hypergraph t → t ≡ NoMemory
       by Done cause = absurd cause
       by Usage cause = absurd cause
       by (Malformed line kind) cause = absurd cause
@@ -211,12 +212,12 @@ module _ (p : Partitioning) (i i' : Inputs) (o o' : Outputs) (g : IsPartitionabl
   is_sent out_text report_text (BadPartition line kind) cause = absurd cause
   is_sent out_text report_text (BadFix line kind) cause = absurd cause
 
-  partition_refused : (s : Status) → IsPartitionRefused p i i' o o' s → s ≡ NoMemory
+  partition_refused : (s : Status) → IsPartitionRefused kinds p i i' o o' s → s ≡ NoMemory
   partition_refused s (inl refused) = input_taken s refused
   partition_refused s (inr (inl refused)) = is_placed s refused
   partition_refused s (inr (inr refused)) = is_sent _ _ s refused.cause
 
-  partition_ends : (s : Status) (made : Option Outcome) → IsPartitionEnd p i i' o o' s made → (s ≡ Done) ⊎ (s ≡ NoMemory)
+  partition_ends : (s : Status) (made : Option Outcome) → IsPartitionEnd kinds p i i' o o' s made → (s ≡ Done) ⊎ (s ≡ NoMemory)
   partition_ends Done made end = inl refl
   partition_ends Usage None end = inr (partition_refused Usage end)
   partition_ends (Malformed line kind) None end = inr (partition_refused (Malformed line kind) end)
@@ -317,6 +318,6 @@ module _ (n : ℕ) (i i' : Inputs) (o o' : Outputs) (f : AreFaultless i i' o o')
       no_outcome (BadFix line kind) end = end
 
 pub runs_end : RunsComeToTheirEnd
-runs_end (Partition p) i i' o o' ended end g f = partition_ends p i i' o o' g f ended.status ended.outcome end
-runs_end (Evaluate e) i i' o o' ended end g f = evaluation_ends e i i' o o' g f ended.status ended.outcome end
-runs_end (Generate n) i i' o o' ended end g f = generation_ends n i i' o o' f ended.status ended.outcome end
+runs_end kinds (Partition p) i i' o o' ended end g f = partition_ends kinds p i i' o o' g f ended.status ended.outcome end
+runs_end kinds (Evaluate e) i i' o o' ended end g f = evaluation_ends e i i' o o' g f ended.status ended.outcome end
+runs_end kinds (Generate n) i i' o o' ended end g f = generation_ends n i i' o o' f ended.status ended.outcome end

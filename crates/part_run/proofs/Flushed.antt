@@ -16,6 +16,10 @@ kept (Some xs) (Some ys) (Some zs) bs put same = same ∙ put
 whole : (a c : Option (List ℕ)) (bs : List ℕ) → Appends a c bs → AppendsPrefix a c bs
 whole a c bs put = (length bs, rw take-length put)
 
+-- the same text, spelt in another way
+pub respelt : {T E : Type 0} {a b : Option (List ℕ)} {r : Result T E} {xs ys : List ℕ} → xs ≡ ys → PutsAll a b r xs → PutsAll a b r ys
+respelt {a = a} {b = b} {r = r} e put = subst (λ (zs : List ℕ). PutsAll a b r zs) e put
+
 -- a text that was put whole and is flushed
 pub flushed : {T U E F : Type 0} {x : T} (a b c : Option (List ℕ)) (fa fb fc : ℕ) (ha hc : Bool) (bs : List ℕ) → bs ≢ [] → PutsAll {E = E} a b (Ok x) bs →
     fb ≡ fa

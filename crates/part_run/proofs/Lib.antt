@@ -4,6 +4,8 @@ pub mod FreeGraph
 pub mod Flushed
 pub mod Unplaced
 pub mod Nonempty
-pub mod Swept
 pub mod WordLaws
 mod CompletenessLaws
+pub mod LevelLemmas
+pub mod WorkerLemmas
+pub mod Reportable

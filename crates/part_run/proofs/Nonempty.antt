@@ -10,6 +10,11 @@ use Rattle.hg_defs.specs.Cost.{cost}
 use Rattle.part_text.specs.Part.{part_text}
 use Rattle.trace_text.specs.Lines.{number_line, sizes_text, objective_text, loads_text, loads_of, fits_text}
 use Rattle.trace_text.specs.Evaluation.{evaluation_text}
+use Rattle.trace_text.specs.Report.{asked_text, descent_text, cycles_text, report_text}
+use Rattle.hg_defs.specs.LeastLoaded.{greedy}
+use Rattle.round_log.specs.declared.record.Job.{Job}
+use Rattle.round_log.specs.declared.record.Trace.{Trace}
+use Rattle.round_log.specs.Trace.{limit_of}
 
 -- a list with an element in it
 has_one : (xs ys : List ℕ) (y : ℕ) → xs ++ y ∷ ys ≢ []
@@ -64,5 +69,28 @@ evaluation_text-some h k eps blocks =
     front_some (sizes ++ objective ++ price ++ loads) (fits_text (is_fitting h k l blocks))
     (front_some (sizes ++ objective ++ price) loads
     (front_some (sizes ++ objective) price (front_some sizes objective (sizes_text-some h k l))))
+
+asked_text-some : (h : Hyper) (job : Job) → asked_text h job ≢ []
+asked_text-some h job =
+    let sizes = sizes_text h job.k (limit_of h job) in
+    let seed = number_line (codes "seed ") job.seed in
+    let workers = number_line (codes "workers ") job.workers in
+    let objective = objective_text h.objective in
+    let placed = number_line (codes "greedy ") (cost h (greedy h job.k)) in
+    front_some (sizes ++ seed ++ workers ++ objective) placed
+    (front_some (sizes ++ seed ++ workers) objective
+    (front_some (sizes ++ seed) workers (front_some sizes seed (sizes_text-some h job.k (limit_of h job)))))
+
+-- a report has a line at least
+pub report_text-some : (h : Hyper) (job : Job) (trace : Trace) (cycles : List Trace) (blocks : List ℕ) → report_text h job trace cycles blocks ≢ []
+report_text-some h job trace cycles blocks =
+    let asked = asked_text h job in
+    let descent = descent_text h trace in
+    let more = cycles_text h cycles in
+    let price = number_line (codes "cost ") (cost h blocks) in
+    let loads = loads_text (loads_of h job.k blocks) in
+    front_some (asked ++ descent ++ more ++ price) loads
+    (front_some (asked ++ descent ++ more) price
+    (front_some (asked ++ descent) more (front_some asked descent (asked_text-some h job))))
 
 -- a text that isn't empty says nothing of an unused sink

@@ -8,13 +8,18 @@ use Rattle.hg_defs.specs.LeastLoaded.{greedy, overfills}
 use Rattle.hg_defs.specs.Moves.{IsSettled}
 use Rattle.hg_io.specs.Faults.{Rose}
 use Rattle.hg_io.specs.Transfers.{AppendsPrefix}
-use Rattle.round_log.specs.declared.record.LoggedRound.{LoggedRound}
-use Rattle.round_log.specs.Trace.{AreSweeps}
+use Rattle.round_log.specs.declared.record.Kind.{Kind}
+use Rattle.round_log.specs.declared.record.Job.{Job}
+use Rattle.round_log.specs.declared.record.Trace.{Trace}
+use Rattle.round_log.specs.Trace.{limit_of}
+use Rattle.refiner.specs.declared.pass.Tally.{Tally}
+use Rattle.uncoarsen.specs.Refined.{IsLegalBy}
 use Rattle.part_text.specs.Part.{part_text}
 use Rattle.part_text.specs.Entries.{spelled_part}
 use Rattle.hg_make.specs.Made.{made}
 use Rattle.hg_make.specs.Text.{hypergraph_text}
 use Rattle.trace_text.specs.Evaluation.{evaluation_text}
+use Rattle.trace_text.specs.Report.{report_text}
 use Rattle.part_run.specs.declared.status.Status.{Status}
 use Rattle.part_run.specs.declared.status.Status.TheVariants.{Done, Usage, Unplaced, WriteFault, NoMemory}
 use Rattle.part_run.specs.declared.ended.Outcome.{Outcome}
@@ -103,45 +108,53 @@ pub record IsGraphRefused (k : ℕ) (old new : Inputs) (status : Status) : Type 
 abbrev pub IsInputRefusal : Partitioning → Inputs → Inputs → Status → Type 0
 IsInputRefusal p old new status = IsGraphRefused p.k old new status ⊎ IsFixRefused p old new status
 
+-- what a run of `partition` is asked
+abbrev pub job_for : Partitioning → Job
+job_for p = record { k = p.k; eps = p.eps; seed = p.seed; workers = p.workers }
+
 abbrev pub limit_for : Partitioning → Hyper → ℕ
 limit_for p h = limit (total_weight h) p.k p.eps
 
 -- greedy placement, which passes the limit nowhere
-pub record IsPlaced (p : Partitioning) (h : Hyper) (blocks : List ℕ) : Type 0 where
-  pub greedy : blocks ≡ greedy h p.k
-  pub placed : overfills h p.k (limit_for p h) ≡ None
-  pub partition : IsPartition h p.k blocks
+pub record IsPlaced (job : Job) (h : Hyper) (blocks : List ℕ) : Type 0 where
+  pub greedy : blocks ≡ greedy h job.k
+  pub placed : overfills h job.k (limit_of h job) ≡ None
+  pub partition : IsPartition h job.k blocks
   pub obeys : Obeys h blocks
-  pub fits : Fits h p.k (limit_for p h) blocks
+  pub fits : Fits h job.k (limit_of h job) blocks
 
 -- the partition that is written: one block for each vertex, where it is fixed and within the limit, which no single allowed move makes cheaper.
--- It is where sweeps lead from greedy placement
-pub record IsResult (p : Partitioning) (h : Hyper) (blocks : List ℕ) : Type 0 where
-  pub placed : overfills h p.k (limit_for p h) ≡ None
-  pub sweeps : List LoggedRound
-  pub swept : AreSweeps h p.k (limit_for p h) (greedy h p.k) sweeps blocks
-  pub partition : IsPartition h p.k blocks
+-- The trace leads to it, legally for refiners of these kinds
+pub record IsResult (kinds : List Kind) (job : Job) (h : Hyper) (trace : Trace) (blocks : List ℕ) : Type 0 where
+  pub placed : overfills h job.k (limit_of h job) ≡ None
+  pub legal : IsLegalBy kinds h job trace blocks
+  pub partition : IsPartition h job.k blocks
   pub obeys : Obeys h blocks
-  pub fits : Fits h p.k (limit_for p h) blocks
-  pub settled : IsSettled h p.k (limit_for p h) blocks
-  pub no_dearer : cost h blocks ≤ cost h (greedy h p.k)
+  pub fits : Fits h job.k (limit_of h job) blocks
+  pub settled : IsSettled h job.k (limit_of h job) blocks
+  pub no_dearer : cost h blocks ≤ cost h (greedy h job.k)
+
+-- what a run made: such a partition, its exact cost, and no cycles
+pub record IsOutcome (kinds : List Kind) (job : Job) (h : Hyper) (outcome : Outcome) : Type 0 where
+  pub result : IsResult kinds job h outcome.trace outcome.blocks
+  pub cost : outcome.cost ≡ cost h outcome.blocks
+  pub cycles : outcome.cycles ≡ []
 
 -- why a hypergraph gets no partition: greedy placement passes the limit at a vertex, numbered from 1, or there was no memory
-abbrev pub IsPlaceRefusal : Partitioning → Hyper → Status → Type 0
-IsPlaceRefusal p h (Unplaced vertex) = (v : ℕ) × (overfills h p.k (limit_for p h) ≡ Some v) × (vertex ≡ v + 1)
-IsPlaceRefusal p h NoMemory = Unit {0}
-IsPlaceRefusal p h _ = ⊥
+abbrev pub IsPlaceRefusal : Job → Hyper → Status → Type 0
+IsPlaceRefusal job h (Unplaced vertex) = (v : ℕ) × (overfills h job.k (limit_of h job) ≡ Some v) × (vertex ≡ v + 1)
+IsPlaceRefusal job h NoMemory = Unit {0}
+IsPlaceRefusal job h _ = ⊥
 
-abbrev pub report_for : Partitioning → Hyper → List ℕ → List ℕ
-report_for p h blocks = evaluation_text h p.k p.eps blocks
+abbrev pub report_for : Job → Hyper → Outcome → List ℕ
+report_for job h outcome = report_text h job outcome.trace outcome.cycles outcome.blocks
 
--- `partition` is done: the partition and the report were written, and the outcome has the partition and its exact cost
-pub record IsPartitioned (p : Partitioning) (inputs inputs' : Inputs) (outputs outputs' : Outputs) (outcome : Outcome) : Type 0 where
+-- `partition` is done: the partition and the report were written
+pub record IsPartitioned (kinds : List Kind) (p : Partitioning) (inputs inputs' : Inputs) (outputs outputs' : Outputs) (outcome : Outcome) : Type 0 where
   pub hypergraph : Hyper
   pub accepted : IsAccepted p inputs inputs' hypergraph
-  pub result : IsResult p hypergraph outcome.blocks
-  pub cost : outcome.cost ≡ cost hypergraph outcome.blocks
-  pub written : IsWritten outputs outputs' (part_text outcome.blocks) (report_for p hypergraph outcome.blocks)
+  pub made : IsOutcome kinds (job_for p) hypergraph outcome
+  pub written : IsWritten outputs outputs' (part_text outcome.blocks) (report_for (job_for p) hypergraph outcome)
 
 -- `partition` refuses what it reads, and writes nothing
 pub record IsInputRefused (p : Partitioning) (inputs inputs' : Inputs) (outputs outputs' : Outputs) (status : Status) : Type 0 where
@@ -152,22 +165,22 @@ pub record IsInputRefused (p : Partitioning) (inputs inputs' : Inputs) (outputs 
 pub record IsPlaceRefused (p : Partitioning) (inputs inputs' : Inputs) (outputs outputs' : Outputs) (status : Status) : Type 0 where
   pub hypergraph : Hyper
   pub accepted : IsAccepted p inputs inputs' hypergraph
-  pub cause : IsPlaceRefusal p hypergraph status
+  pub cause : IsPlaceRefusal (job_for p) hypergraph status
   pub unwritten : outputs' ≡ outputs
 
--- it met a fault while it wrote the texts of a result
-pub record IsWriteRefused (p : Partitioning) (inputs inputs' : Inputs) (outputs outputs' : Outputs) (status : Status) : Type 0 where
+-- it met a fault while it wrote the texts of what it made
+pub record IsWriteRefused (kinds : List Kind) (p : Partitioning) (inputs inputs' : Inputs) (outputs outputs' : Outputs) (status : Status) : Type 0 where
   pub hypergraph : Hyper
-  pub blocks : List ℕ
+  pub outcome : Outcome
   pub accepted : IsAccepted p inputs inputs' hypergraph
-  pub result : IsResult p hypergraph blocks
-  pub cause : IsWriteRefusal outputs outputs' (part_text blocks) (report_for p hypergraph blocks) status
+  pub made : IsOutcome kinds (job_for p) hypergraph outcome
+  pub cause : IsWriteRefusal outputs outputs' (part_text outcome.blocks) (report_for (job_for p) hypergraph outcome) status
 
 -- the stages of `partition`, and at each of them its refusals
-abbrev pub IsPartitionRefused : Partitioning → Inputs → Inputs → Outputs → Outputs → Status → Type 0
-IsPartitionRefused p inputs inputs' outputs outputs' status =
+abbrev pub IsPartitionRefused : List Kind → Partitioning → Inputs → Inputs → Outputs → Outputs → Status → Type 0
+IsPartitionRefused kinds p inputs inputs' outputs outputs' status =
     IsInputRefused p inputs inputs' outputs outputs' status
-    ⊎ (IsPlaceRefused p inputs inputs' outputs outputs' status ⊎ IsWriteRefused p inputs inputs' outputs outputs' status)
+    ⊎ (IsPlaceRefused p inputs inputs' outputs outputs' status ⊎ IsWriteRefused kinds p inputs inputs' outputs outputs' status)
 
 -- `evaluate` takes the graph and the partition file, and the report got the whole evaluation
 pub record IsEvaluated (e : Evaluation) (inputs inputs' : Inputs) (outputs outputs' : Outputs) : Type 0 where
@@ -217,10 +230,10 @@ pub record IsGenerationRefused (n : ℕ) (inputs inputs' : Inputs) (outputs outp
   pub cause : IsGenerationRefusal n outputs outputs' status
 
 -- how each command ends: done, with an outcome where it partitions, or refused
-abbrev pub IsPartitionEnd : Partitioning → Inputs → Inputs → Outputs → Outputs → Status → Option Outcome → Type 0
-IsPartitionEnd p inputs inputs' outputs outputs' Done (Some outcome) = IsPartitioned p inputs inputs' outputs outputs' outcome
-IsPartitionEnd p inputs inputs' outputs outputs' status None = IsPartitionRefused p inputs inputs' outputs outputs' status
-IsPartitionEnd p inputs inputs' outputs outputs' status (Some outcome) = ⊥
+abbrev pub IsPartitionEnd : List Kind → Partitioning → Inputs → Inputs → Outputs → Outputs → Status → Option Outcome → Type 0
+IsPartitionEnd kinds p inputs inputs' outputs outputs' Done (Some outcome) = IsPartitioned kinds p inputs inputs' outputs outputs' outcome
+IsPartitionEnd kinds p inputs inputs' outputs outputs' status None = IsPartitionRefused kinds p inputs inputs' outputs outputs' status
+IsPartitionEnd kinds p inputs inputs' outputs outputs' status (Some outcome) = ⊥
 
 abbrev pub IsEvaluationEnd : Evaluation → Inputs → Inputs → Outputs → Outputs → Status → Option Outcome → Type 0
 IsEvaluationEnd e inputs inputs' outputs outputs' Done None = IsEvaluated e inputs inputs' outputs outputs'
@@ -239,9 +252,15 @@ pub record IsUsage (inputs inputs' : Inputs) (outputs outputs' : Outputs) (ended
   pub unread : inputs' ≡ inputs
   pub unwritten : outputs' ≡ outputs
 
--- how a run of the wanted command ends
-abbrev pub IsEnd : Option Command → Inputs → Inputs → Outputs → Outputs → Ended → Type 0
-IsEnd None inputs inputs' outputs outputs' ended = IsUsage inputs inputs' outputs outputs' ended
-IsEnd (Some (Partition p)) inputs inputs' outputs outputs' ended = IsPartitionEnd p inputs inputs' outputs outputs' ended.status ended.outcome
-IsEnd (Some (Evaluate e)) inputs inputs' outputs outputs' ended = IsEvaluationEnd e inputs inputs' outputs outputs' ended.status ended.outcome
-IsEnd (Some (Generate n)) inputs inputs' outputs outputs' ended = IsGenerationEnd n inputs inputs' outputs outputs' ended.status ended.outcome
+-- how a run of the wanted command, with refiners of these kinds, ends
+abbrev pub IsEnd : List Kind → Option Command → Inputs → Inputs → Outputs → Outputs → Ended → Type 0
+IsEnd kinds None inputs inputs' outputs outputs' ended = IsUsage inputs inputs' outputs outputs' ended
+IsEnd kinds (Some (Partition p)) inputs inputs' outputs outputs' ended =
+    IsPartitionEnd kinds p inputs inputs' outputs outputs' ended.status ended.outcome
+IsEnd kinds (Some (Evaluate e)) inputs inputs' outputs outputs' ended = IsEvaluationEnd e inputs inputs' outputs outputs' ended.status ended.outcome
+IsEnd kinds (Some (Generate n)) inputs inputs' outputs outputs' ended = IsGenerationEnd n inputs inputs' outputs outputs' ended.status ended.outcome
+
+-- a command that partitions nothing leaves the tallies of the refiners alone
+abbrev pub Spares : Option Command → List Tally → List Tally → Type 0
+Spares (Some (Partition p)) old new = Unit {0}
+Spares _ old new = new ≡ old

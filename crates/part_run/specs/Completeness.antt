@@ -3,6 +3,7 @@ use Rattle.std.specs.Prelude.{◌≡◌, ℕ, ◌≤◌, List, length, Option, S
 use Rattle.hg_defs.specs.Hypergraph.{Hyper, vertex_count, Suits}
 use Rattle.hg_defs.specs.LeastLoaded.{overfills}
 use Rattle.hg_io.specs.Faults.{Rose}
+use Rattle.round_log.specs.declared.record.Kind.{Kind}
 use Rattle.hmetis_read.specs.Graph.{graph}
 use Rattle.part_text.specs.Entries.{spelled_part, spelled_fixes}
 use Rattle.part_run.specs.declared.status.Status.{Status}
@@ -58,6 +59,6 @@ IsServed (Generate n) inputs = Unit {0}
 -- a run whose sources give what its command asks of them, and which meets no fault, is done, or there was no memory
 abbrev pub RunsComeToTheirEnd : Type 0
 RunsComeToTheirEnd =
-    (command : Command) (inputs inputs' : Inputs) (outputs outputs' : Outputs) (ended : Ended)
-    → IsEnd (Some command) inputs inputs' outputs outputs' ended → IsServed command inputs → AreFaultless inputs inputs' outputs outputs'
+    (kinds : List Kind) (command : Command) (inputs inputs' : Inputs) (outputs outputs' : Outputs) (ended : Ended)
+    → IsEnd kinds (Some command) inputs inputs' outputs outputs' ended → IsServed command inputs → AreFaultless inputs inputs' outputs outputs'
     → (ended.status ≡ Done) ⊎ (ended.status ≡ NoMemory)

@@ -4,5 +4,6 @@ pub mod Places
 pub mod StatusText
 pub mod Reads
 pub mod Answers
+pub mod Made
 pub mod WordLaws
 pub mod Completeness

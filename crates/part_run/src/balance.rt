@@ -1,4 +1,4 @@
-//! The sizes that a partition is asked for.
+//! The numbers that a partition is asked for.
 
 ghost use Rattle.std.specs.Prelude.{◌≤◌};
 
@@ -10,4 +10,12 @@ pub(crate) struct Balance {
     pub ghost some: { 2 ≤ k },
     pub ghost few: { k ≤ 256 },
     pub ghost near: { eps ≤ 100000 },
+}
+
+/// How many workers there are, from 1 to 64.
+#[derive(Clone, Copy)]
+pub(crate) struct Workers {
+    pub count: u32,
+    pub ghost some: { 1 ≤ count },
+    pub ghost few: { count ≤ 64 },
 }

@@ -1,5 +1,6 @@
 use crate::Status;
 use hg_base::Blocks;
+use round_log::{Trace, TraceList};
 
 /// What a run that partitioned made.
 #[derive(Debug, Drop)]
@@ -8,6 +9,10 @@ pub struct Outcome {
     pub blocks: Blocks,
     /// The cost of that partition.
     pub cost: u64,
+    /// How the run came to it: its levels, and every round.
+    pub trace: Trace,
+    /// The traces of the cycles that followed.
+    pub cycles: TraceList,
 }
 
 /// How a run ended, and what it made.

@@ -6,6 +6,7 @@ mod ended;
 mod evaluate;
 mod generate;
 pub mod laws;
+mod multilevel;
 mod naming;
 mod partition;
 mod places;

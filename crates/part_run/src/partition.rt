@@ -1,29 +1,30 @@
 //! The command `partition`: from a graph to a partition and its report.
 
-ghost use Rattle.std.specs.Prelude.{◌≡◌, ◌≤◌, MatchResult, ◌≢◌, [], IfOk, OnErr, All, length};
-ghost use Rattle.hg_defs.specs.Hypergraph.{IsFixedWithin, IsHypergraph, IsWithinLimits, Suits};
-ghost use Rattle.hg_defs.specs.Hypergraph.{total_weight, vertex_count};
-ghost use Rattle.hg_defs.specs.Partition.{IsPartition};
+ghost use Rattle.std.specs.Prelude.{◌≡◌, ◌≢◌, ◌≤◌, ◌<◌, ◌^◌, MatchResult, IfOk, All, AllPairs, length, map};
+ghost use Rattle.hg_defs.specs.Hypergraph.{IsFixedWithin, IsHypergraph, Suits, vertex_count};
+ghost use Rattle.round_log.specs.declared.record.Kind.{Kind};
 ghost use Rattle.part_text.specs.Part.{part_text};
+ghost use Rattle.uncoarsen.specs.Refined.{tallies_with};
 ghost use Rattle.part_run.specs.Reads.{feed_of, IsFixedBy, IsFixRefusal};
 ghost use Rattle.part_run.specs.Answers.{inputs_of, outputs_of, port_of, IsSent, IsCutOff};
-ghost use Rattle.part_run.specs.Answers.{IsAccepted, IsInputRefusal};
-ghost use Rattle.part_run.specs.Answers.{IsPlaced, IsResult, IsPlaceRefusal, IsWritten};
-ghost use Rattle.part_run.specs.Answers.{IsWriteRefusal, IsPartitioned};
-ghost use Rattle.part_run.specs.Answers.{IsPartitionRefused, limit_for, report_for};
+ghost use Rattle.part_run.specs.Answers.{IsAccepted, IsInputRefusal, job_for};
+ghost use Rattle.part_run.specs.Answers.{IsWritten, IsWriteRefusal, IsPartitioned};
+ghost use Rattle.part_run.specs.Answers.{IsPartitionRefused, report_for};
+ghost use Rattle.part_run.specs.Made.{IsJob, IsMade, IsReportable};
 ghost use Rattle.part_run.specs.Spelled.{partitioning_of};
 
-use crate::evaluate::write_evaluation;
+use crate::multilevel::{Made, run_levels};
 use crate::reading::{read_fixes, read_graph};
 use crate::words::Partitioning;
 use crate::{Outcome, Status};
-use hg_base::{Blocks, FREE, FlatHyper, GreedyEnd, greedy, limit_of};
+use hg_base::{Blocks, FREE, FlatHyper};
 use hg_io::{Failed, Sink, Source};
-use incidence::Hypergraph;
 use part_text::put_part;
-use pin_plain::Partition;
-use round_log::RoundList;
+use refiner::Refiner;
+use round_log::Job;
 use std::alloc::Global;
+use std::thread::Threads;
+use trace_text::put_report;
 
 /// Fixes each vertex as the list says, whose entries are `FREE` or blocks.
 fn fix_all(h: &mut FlatHyper, fixes: &[u32])
@@ -83,79 +84,59 @@ fn accept<S: Source, X: Source>(
     }
 }
 
-/// Greedy placement, which is refused where it passes the limit.
-fn place(alloc: Global, p: &Partitioning<'_>, h: &FlatHyper, limit: u64) -> Result<Blocks, Status>
-    requires fixed { IsFixedWithin h.now p.now.balance.k }
-    requires limit { limit ≡ limit_for (partitioning_of p.now) h.now }
-    requires sound { IsHypergraph h.now }
-    requires bounds { IsWithinLimits h.now }
-    ensures answer { MatchResult result
-        (IsPlaced (partitioning_of p.now) h.now)
-        (IsPlaceRefusal (partitioning_of p.now) h.now) }
-{
-    match greedy(alloc, h, p.balance.k, limit) {
-        Ok(blocks) => Ok(blocks),
-        Err(GreedyEnd::Overfills { vertex }) => Err(Status::Unplaced { vertex: vertex + 1 }),
-        Err(GreedyEnd::NoMemory) => Err(Status::NoMemory),
-    }
-}
-
-/// Greedy placement, swept until no single allowed move makes it cheaper.
-fn settle(
-    alloc: Global,
-    p: &Partitioning<'_>,
-    h: &Hypergraph,
-    limit: u64,
-) -> Result<Partition, Status>
-    requires fixed { IsFixedWithin h.now p.now.balance.k }
-    requires suits { Suits h.now p.now.balance.k }
-    requires limit { limit ≡ limit_for (partitioning_of p.now) h.now }
-    ensures answer { MatchResult result
-        (λ q. IsResult (partitioning_of p.now) h.now q.blocks)
-        (IsPlaceRefusal (partitioning_of p.now) h.now) }
-    ensures hyper { IfOk result (λ q. q.hyper ≡ h.now) }
-    ensures blocks { IfOk result (λ q. q.k ≡ p.now.balance.k) }
-{
-    let _vertices = h.vertices();
-    let blocks = place(alloc, p, h.flat(), limit)?;
-    let mut partition = Partition::of(alloc, h, p.balance.k, limit, blocks)?;
-    let mut sweeps = RoundList::new(alloc);
-    partition.settle(alloc, h, &mut sweeps)?;
-    Ok(partition)
-}
-
 /// Writes the partition, and then its report.
 fn deliver<K: Sink, R: Sink>(
-    p: &Partitioning<'_>,
-    h: &FlatHyper,
-    blocks: &[u32],
+    job: &Job,
+    made: &Made,
     out: &mut K,
     report: &mut R,
 ) -> Result<(), Status>
-    requires partition { IsPartition h.now p.now.balance.k blocks.now }
+    requires reportable { IsReportable job.now made.now }
     ensures answer { let outputs = outputs_of (port_of (K.got out.old) (K.faults out.old) (K.held out.old))
         (port_of (R.got report.old) (R.faults report.old) (R.held report.old)) in
         let outputs_after = outputs_of (port_of (K.got out.new) (K.faults out.new) (K.held out.new))
         (port_of (R.got report.new) (R.faults report.new) (R.held report.new)) in
-        let text = part_text blocks.now in
-        let report_text = report_for (partitioning_of p.now) h.now blocks.now in
+        let text = part_text made.now.outcome.blocks in
+        let report_text = report_for job.now made.now.h made.now.outcome in
         MatchResult result
         (λ _. IsWritten outputs outputs_after text report_text)
         (IsWriteRefusal outputs outputs_after text report_text) }
     ensures out_later { K.faults out.old ≤ K.faults out.new }
     ensures report_later { R.faults report.old ≤ R.faults report.new }
 {
-    if write_blocks(out, blocks).is_err() {
+    if write_blocks(out, &made.outcome.blocks).is_err() {
         return Err(Status::WriteFault);
     }
-    if write_evaluation(report, h, p.balance, blocks).is_err() {
+    if write_report(report, job, made).is_err() {
         return Err(Status::WriteFault);
     }
     Ok(())
 }
 
+/// Writes the report of a run, and sends it on.
+fn write_report<R: Sink>(report: &mut R, job: &Job, made: &Made) -> Result<(), Failed>
+    requires reportable { IsReportable job.now made.now }
+    ensures answer { let old = port_of (R.got report.old) (R.faults report.old) (R.held report.old) in
+        let new = port_of (R.got report.new) (R.faults report.new) (R.held report.new) in
+        let text = report_for job.now made.now.h made.now.outcome in
+        MatchResult result (λ _. IsSent old new text) (λ _. IsCutOff old new text) }
+    ensures later { R.faults report.old ≤ R.faults report.new }
+{
+    let outcome = &made.outcome;
+    put_report(
+        report,
+        &made.h,
+        job,
+        made.greedy,
+        &outcome.trace,
+        &outcome.cycles,
+        outcome.blocks.slice(),
+    )?;
+    report.flush()
+}
+
 /// Writes the partition, and sends it on; where there is no vertex the sink isn't called.
-fn write_blocks<K: Sink>(out: &mut K, blocks: &[u32]) -> Result<(), Failed>
+fn write_blocks<K: Sink>(out: &mut K, blocks: &Blocks) -> Result<(), Failed>
     ensures answer { let old = port_of (K.got out.old) (K.faults out.old) (K.held out.old) in
         let new = port_of (K.got out.new) (K.faults out.new) (K.held out.new) in
         MatchResult result (λ _. IsSent old new (part_text blocks.now))
@@ -165,19 +146,37 @@ fn write_blocks<K: Sink>(out: &mut K, blocks: &[u32]) -> Result<(), Failed>
     if blocks.is_empty() {
         return Ok(());
     }
-    put_part(out, blocks)?;
+    put_part(out, blocks.slice())?;
     out.flush()
 }
 
-/// Partitions: reads what the words name, places, sweeps, and writes the partition and its report.
-pub(crate) fn partition<S: Source, X: Source, K: Sink, R: Sink>(
+/// What the words ask of the run.
+fn job_of(p: &Partitioning<'_>) -> Job
+    ensures value { result ≡ job_for (partitioning_of p.now) }
+    ensures bounds { IsJob result }
+{
+    Job {
+        k: p.balance.k,
+        eps: p.balance.eps,
+        seed: p.seed,
+        workers: p.workers.count,
+    }
+}
+
+/// Partitions: reads what the words name, makes a partition with the refiners, and writes it and its report.
+pub(crate) fn partition<H: Threads + Sync, S: Source, X: Source, K: Sink, R: Sink>(
+    rt: &H,
     alloc: Global,
     p: &Partitioning<'_>,
     graph: &mut S,
     extra: &mut X,
     out: &mut K,
     report: &mut R,
+    refiners: &mut [Box<dyn Refiner>],
 ) -> Result<Outcome, Status>
+    requires may_run { All (λ b. may_run b) refiners.old }
+    requires kinds { AllPairs (λ a b. a ≢ b) (map (λ b. kind b) refiners.old) }
+    requires tallied { All (λ b. ((tally b).rounds < 2 ^ 61) × ((tally b).gain < 2 ^ 61)) refiners.old }
     ensures answer { let inputs = inputs_of (feed_of (S.left graph.old) (S.faults graph.old))
         (feed_of (X.left extra.old) (X.faults extra.old)) in
         let inputs_after = inputs_of (feed_of (S.left graph.new) (S.faults graph.new))
@@ -186,22 +185,23 @@ pub(crate) fn partition<S: Source, X: Source, K: Sink, R: Sink>(
         (port_of (R.got report.old) (R.faults report.old) (R.held report.old)) in
         let outputs_after = outputs_of (port_of (K.got out.new) (K.faults out.new) (K.held out.new))
         (port_of (R.got report.new) (R.faults report.new) (R.held report.new)) in
+        let kinds = map (λ b. kind b) refiners.old in
         MatchResult result
-        (IsPartitioned (partitioning_of p.now) inputs inputs_after outputs outputs_after)
-        (IsPartitionRefused (partitioning_of p.now) inputs inputs_after outputs outputs_after) }
+        (IsPartitioned kinds (partitioning_of p.now) inputs inputs_after outputs outputs_after)
+        (IsPartitionRefused kinds (partitioning_of p.now) inputs inputs_after outputs outputs_after) }
     ensures graph_later { S.faults graph.old ≤ S.faults graph.new }
     ensures extra_later { X.faults extra.old ≤ X.faults extra.new }
     ensures out_later { K.faults out.old ≤ K.faults out.new }
     ensures report_later { R.faults report.old ≤ R.faults report.new }
+    ensures may_run { All (λ b. may_run b) refiners.new }
+    ensures kinds { map (λ b. kind b) refiners.new ≡ map (λ b. kind b) refiners.old }
+    ensures tallies { IfOk result (λ outcome. map (λ b. tally b) refiners.new ≡ tallies_with outcome.trace.rounds
+        (map (λ b. kind b) refiners.old) (map (λ b. tally b) refiners.old)) }
 {
     let flat = accept(alloc, p, graph, extra)?;
-    let limit = limit_of(flat.total_weight(), p.balance.k, p.balance.eps);
-    let h = Hypergraph::build(alloc, flat)?;
-    let partition = settle(alloc, p, &h, limit)?;
-    deliver(p, h.flat(), partition.blocks(), out, report)?;
-    let cost = partition.cost(&h);
-    Ok(Outcome {
-        blocks: partition.into_blocks(),
-        cost,
-    })
+    let _vertices = flat.vertices();
+    let job = job_of(p);
+    let made = run_levels(rt, alloc, &job, flat, refiners)?;
+    deliver(&job, &made, out, report)?;
+    Ok(made.outcome)
 }

@@ -2,8 +2,10 @@ use crate::{Ended, Names, Status, names, put_status, run};
 use hg_io::{AnySink, AnySource, MemSink, MemSource, Place};
 use hmetis_read::{LineKind, What};
 use part_text::PartKind;
+use refiner::Refiner;
 use std::alloc::{AllocError, Global};
 use std::test::Fail;
+use std::thread::Threads;
 use std::{env, fs, io, process};
 
 /// Seven vertices, four nets of weights 2, 3, 8 and 7.
@@ -47,13 +49,15 @@ const NONE: Fails = Fails {
     step: 1000,
 };
 
-fn run_over(
+fn run_over<H: Threads + Sync>(
+    rt: &H,
     alloc: Global,
     words: &str,
     graph: &[u8],
     extra: &[u8],
     fails: Fails,
 ) -> Result<Ran, Fail> {
+    let mut refiners: [Box<dyn Refiner>; 0] = [];
     let words = words_of(alloc, words)?;
     let step = fails.step.max(1);
     let mut graph = MemSource::of(
@@ -69,12 +73,14 @@ fn run_over(
     let mut out = MemSink::of(alloc, 10_000, vec![in alloc; fails.out]?, step)?;
     let mut report = MemSink::of(alloc, 10_000, vec![in alloc; fails.report]?, step)?;
     let ended = run(
+        rt,
         alloc,
         words.as_slice(),
         &mut graph,
         &mut extra,
         &mut out,
         &mut report,
+        &mut refiners,
     );
     Ok(Ran {
         ended,
@@ -93,56 +99,28 @@ fn partitions_and_evaluates(rt: HostRuntime) -> Result<(), Fail> {
             pair.as_slice(),
             "",
             "0\n1\n",
-            "vertices 2\nnets 1\nweight 2\nblocks 4\nlimit 1\ncost 1\nload 0 1\nload 1 1\nload 2 0\nload 3 0\nfits yes\n",
-        ),
-        (
-            "partition g 2 0",
-            PATH,
-            "",
-            "0\n1\n0\n1\n",
-            "vertices 4\nnets 3\nweight 4\nblocks 2\nlimit 2\ncost 3\nload 0 2\nload 1 2\nfits yes\n",
+            "vertices 2\nnets 1\nweight 2\nblocks 4\nlimit 1\nseed 1\nworkers 4\ngreedy 1\nlevels 1\nstart 0\nfirst 1\nchosen levels\ncost 1\nload 0 1\nload 1 1\nload 2 0\nload 3 0\n",
         ),
         (
             "partition - 2 0",
             b"0 0\n".as_slice(),
             "",
             "",
-            "vertices 0\nnets 0\nweight 0\nblocks 2\nlimit 0\ncost 0\nload 0 0\nload 1 0\nfits yes\n",
+            "vertices 0\nnets 0\nweight 0\nblocks 2\nlimit 0\nseed 1\nworkers 4\ngreedy 0\nlevels 1\nstart 0\nfirst 0\nchosen levels\ncost 0\nload 0 0\nload 1 0\n",
         ),
         (
-            "partition g 2 0 workers=1 seed=7",
-            FIRST,
-            "",
-            "1\n1\n0\n1\n0\n1\n0\n",
-            "vertices 7\nnets 4\nweight 7\nblocks 2\nlimit 4\ncost 18\nload 0 3\nload 1 4\nfits yes\n",
-        ),
-        (
-            "partition g 2 0 cost=soed",
-            FIRST,
-            "",
-            "1\n1\n0\n1\n0\n1\n0\n",
-            "vertices 7\nnets 4\nweight 7\nblocks 2\nlimit 4\nobjective soed\ncost 36\nload 0 3\nload 1 4\nfits yes\n",
-        ),
-        (
-            "partition g 2 0 fix=f",
-            FIRST,
-            "0\n-1\n-1\n1\n-1\n-1\n1\n",
-            "0\n0\n0\n1\n1\n1\n1\n",
-            "vertices 7\nnets 4\nweight 7\nblocks 2\nlimit 4\ncost 10\nload 0 3\nload 1 4\nfits yes\n",
-        ),
-        (
-            "partition g 2 0 fix=f",
+            "partition g 2 0 fix=f workers=1 seed=7 cost=soed",
             FIRST,
             "0\n0\n0\n1\n1\n1\n0\n",
             "0\n0\n0\n1\n1\n1\n0\n",
-            "vertices 7\nnets 4\nweight 7\nblocks 2\nlimit 4\ncost 10\nload 0 4\nload 1 3\nfits yes\n",
+            "vertices 7\nnets 4\nweight 7\nblocks 2\nlimit 4\nseed 7\nworkers 1\nobjective soed\ngreedy 20\nlevels 1\nstart 0\nfirst 20\nchosen levels\ncost 20\nload 0 4\nload 1 3\n",
         ),
         (
             "partition g 2 0.334",
             heavy.as_slice(),
             "",
             "0\n1\n0\n",
-            "vertices 3\nnets 1\nweight 12884901885\nblocks 2\nlimit 8594229557\ncost 4294967295\nload 0 8589934590\nload 1 4294967295\nfits yes\n",
+            "vertices 3\nnets 1\nweight 12884901885\nblocks 2\nlimit 8594229557\nseed 1\nworkers 4\ngreedy 4294967295\nlevels 1\nstart 0\nfirst 4294967295\nchosen levels\ncost 4294967295\nload 0 8589934590\nload 1 4294967295\n",
         ),
         (
             "evaluate g p 2 0",
@@ -201,7 +179,7 @@ fn partitions_and_evaluates(rt: HostRuntime) -> Result<(), Fail> {
             "",
         ),
     ] {
-        let made = run_over(rt.alloc(), words, graph, extra.as_bytes(), NONE)?;
+        let made = run_over(&rt, rt.alloc(), words, graph, extra.as_bytes(), NONE)?;
         assert_eq!(rt; made.ended.status, Status::Done, "{words}");
         assert_eq!(rt; made.out.as_slice(), out.as_bytes(), "{words}");
         assert_eq!(rt; made.report.as_slice(), report.as_bytes(), "{words}");
@@ -209,14 +187,65 @@ fn partitions_and_evaluates(rt: HostRuntime) -> Result<(), Fail> {
     Ok(())
 }
 
+/// The number behind a label at the head of one of the lines.
+fn number_behind<'a>(text: &'a str, label: &str) -> Option<&'a str> {
+    for line in text.split('\n') {
+        if let Some(number) = line.strip_prefix(label) {
+            return Some(number);
+        }
+    }
+    None
+}
+
+/// What is written is a partition that `evaluate` takes, at the cost that is reported, and it fits.
+#[test]
+fn written_partitions_are_evaluated(rt: HostRuntime) -> Result<(), Fail> {
+    for (words, graph, fixes, evaluation, greedy) in [
+        ("partition g 2 0", PATH, "", "evaluate g p 2 0", "greedy 3\n"),
+        ("partition g 2 0", FIRST, "", "evaluate g p 2 0", "greedy 20\n"),
+        ("partition g 3 0 seed=9", FIRST, "", "evaluate g p 3 0", "seed 9\n"),
+        (
+            "partition g 2 0 cost=cut workers=1",
+            FIRST,
+            "",
+            "evaluate g p 2 0 cost=cut",
+            "objective cut\ngreedy 20\n",
+        ),
+        (
+            "partition g 2 0 fix=f",
+            FIRST,
+            "0\n-1\n-1\n1\n-1\n-1\n1\n",
+            "evaluate g p 2 0",
+            "load 1 4\n",
+        ),
+    ] {
+        let made = run_over(&rt, rt.alloc(), words, graph, fixes.as_bytes(), NONE)?;
+        assert_eq!(rt; made.ended.status, Status::Done, "{words}");
+        let told = run_over(&rt, rt.alloc(), evaluation, graph, made.out.as_slice(), NONE)?;
+        assert_eq!(rt; told.ended.status, Status::Done, "{words}");
+        let report = str::from_utf8(made.report.as_slice())?;
+        let other = str::from_utf8(told.report.as_slice())?;
+        assert!(rt; report.contains(greedy), "{words}");
+        assert!(rt; other.ends_with("fits yes\n"), "{words}");
+        assert!(rt; number_behind(report, "cost ").is_some(), "{words}");
+        assert_eq!(rt; number_behind(report, "cost "), number_behind(other, "cost "), "{words}");
+        assert_eq!(rt; number_behind(report, "load 1 "), number_behind(other, "load 1 "), "{words}");
+    }
+    Ok(())
+}
+
+/// The outcome has what was written, and a trace that ends there.
 #[test]
 fn outcome_has_the_partition(rt: HostRuntime) -> Result<(), Fail> {
-    let made = run_over(rt.alloc(), "partition g 2 0", FIRST, b"", NONE)?;
+    let made = run_over(&rt, rt.alloc(), "partition g 2 0 fix=f", FIRST, b"0\n0\n0\n1\n1\n1\n0\n", NONE)?;
     let Some(outcome) = &made.ended.outcome else {
         return Err(Fail::from("no outcome"));
     };
-    assert_eq!(rt; outcome.cost, 18);
-    assert_eq!(rt; outcome.blocks.slice(), [1, 1, 0, 1, 0, 1, 0].as_slice());
+    assert_eq!(rt; outcome.cost, 10);
+    assert_eq!(rt; outcome.blocks.slice(), [0, 0, 0, 1, 1, 1, 0].as_slice());
+    assert_eq!(rt; outcome.trace.last.slice(), [0, 0, 0, 1, 1, 1, 0].as_slice());
+    assert_eq!(rt; outcome.trace.maps.len(), 0);
+    assert_eq!(rt; outcome.cycles.len(), 0);
     Ok(())
 }
 
@@ -312,7 +341,7 @@ fn refused_runs_write_nothing(rt: HostRuntime) -> Result<(), Fail> {
             bad_part(1, PartKind::ExtraLine),
         ),
     ] {
-        let made = run_over(rt.alloc(), words, graph.as_bytes(), extra.as_bytes(), NONE)?;
+        let made = run_over(&rt, rt.alloc(), words, graph.as_bytes(), extra.as_bytes(), NONE)?;
         assert_eq!(rt; made.ended.status, status, "{words}");
         assert_eq!(rt; made.out.len() + made.report.len(), 0, "{words}");
         assert_eq!(rt; made.ended.outcome.is_none(), true, "{words}");
@@ -322,14 +351,14 @@ fn refused_runs_write_nothing(rt: HostRuntime) -> Result<(), Fail> {
 
 #[test]
 fn failing_ends(rt: HostRuntime) -> Result<(), Fail> {
-    let text = b"1\n1\n0\n1\n0\n1\n0\n";
+    let text = b"0\n0\n0\n1\n1\n1\n0\n";
     for call in 1..=6 {
         let fails = Fails {
             out: call,
             step: 3,
             ..NONE
         };
-        let made = run_over(rt.alloc(), "partition g 2 0", FIRST, b"", fails)?;
+        let made = run_over(&rt, rt.alloc(), "partition g 2 0 fix=f", FIRST, text, fails)?;
         let got = (3 * (call as usize - 1)).min(14);
         assert_eq!(rt; made.ended.status == Status::Done, call == 6);
         assert_eq!(rt; made.ended.status == Status::WriteFault, call < 6);
@@ -342,7 +371,7 @@ fn failing_ends(rt: HostRuntime) -> Result<(), Fail> {
             step: 3,
             ..NONE
         };
-        let made = run_over(rt.alloc(), "partition g 2 0", FIRST, b"", fails)?;
+        let made = run_over(&rt, rt.alloc(), "partition g 2 0 fix=f", FIRST, text, fails)?;
         assert_eq!(rt; made.ended.status, Status::WriteFault);
         assert_eq!(rt; made.out.as_slice(), text.as_slice());
         let got = 3 * (call as usize - 1);
@@ -356,13 +385,13 @@ fn failing_ends(rt: HostRuntime) -> Result<(), Fail> {
             step: 5,
             ..NONE
         };
-        let made = run_over(rt.alloc(), "partition g 2 0", FIRST, b"", fails)?;
+        let made = run_over(&rt, rt.alloc(), "partition g 2 0 fix=f", FIRST, text, fails)?;
         assert_eq!(rt; made.ended.status == Status::Done, call == 10);
         assert_eq!(rt; made.ended.status == Status::ReadFault, call < 10);
         assert_eq!(rt; made.out.is_empty() && made.report.is_empty(), call < 10);
     }
     let fails = Fails { extra: 1, ..NONE };
-    let evaluated = run_over(rt.alloc(), "evaluate g p 2 0", PATH, b"0\n", fails)?;
+    let evaluated = run_over(&rt, rt.alloc(), "evaluate g p 2 0", PATH, b"0\n", fails)?;
     assert_eq!(rt; evaluated.ended.status, Status::ReadFault);
     Ok(())
 }
@@ -411,7 +440,11 @@ fn named_places(rt: HostRuntime) -> Result<(), Fail> {
 }
 
 /// Runs the words over the places that they name, standard streams being left out.
-fn run_over_files(rt: &HostRuntime, text: &str) -> Result<Status, Fail> {
+fn run_over_files<H: Threads + Sync>(
+    rt: &HostRuntime,
+    threads: &H,
+    text: &str,
+) -> Result<Status, Fail> {
     let alloc = rt.alloc();
     let words = words_of(alloc, text)?;
     let names = names(alloc, words.as_slice())?;
@@ -420,14 +453,17 @@ fn run_over_files(rt: &HostRuntime, text: &str) -> Result<Status, Fail> {
     let mut extra = AnySource::at(rt, nothing, names.extra);
     let mut out = AnySink::at(rt, io::sink(), io::sink(), names.out);
     let mut report = AnySink::at(rt, io::sink(), io::sink(), names.report);
+    let mut refiners: [Box<dyn Refiner>; 0] = [];
     Ok(
         run(
+            threads,
             alloc,
             words.as_slice(),
             &mut graph,
             &mut extra,
             &mut out,
             &mut report,
+            &mut refiners,
         )
         .status,
     )
@@ -442,16 +478,16 @@ fn runs_over_files(rt: HostRuntime) -> Result<(), Fail> {
     let part = format!(in alloc; "{graph}.part.2")?;
     fs::write(&rt, graph.as_str(), "3 4\n1 2\n2 3\n3 4\n")?;
     let words = format!(in alloc; "partition {graph} 2 0")?;
-    assert_eq!(rt; run_over_files(&rt, words.as_str())?, Status::Done);
+    assert_eq!(rt; run_over_files(&rt, &rt, words.as_str())?, Status::Done);
     assert_eq!(rt;
         fs::read(&rt, part.as_str())?.as_slice(),
         b"0\n1\n0\n1\n".as_slice()
     );
     let words = format!(in alloc; "evaluate {graph} {part} 2 0")?;
-    assert_eq!(rt; run_over_files(&rt, words.as_str())?, Status::Done);
+    assert_eq!(rt; run_over_files(&rt, &rt, words.as_str())?, Status::Done);
     let words = format!(in alloc; "evaluate {part} {graph} 2 0")?;
-    assert_eq!(rt; run_over_files(&rt, words.as_str())? == Status::Done, false);
-    assert_eq!(rt; run_over_files(&rt, "generate 4")?, Status::Done);
+    assert_eq!(rt; run_over_files(&rt, &rt, words.as_str())? == Status::Done, false);
+    assert_eq!(rt; run_over_files(&rt, &rt, "generate 4")?, Status::Done);
     fs::remove_file(&rt, graph.as_str())?;
     fs::remove_file(&rt, part.as_str())?;
     Ok(())

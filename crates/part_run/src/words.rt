@@ -7,7 +7,7 @@ ghost use Rattle.part_run.specs.Wanted.{if_unset, with_word, with_words, no_sett
 ghost use Rattle.part_run.specs.Wanted.{partition_words, evaluate_words, generate_words, wanted};
 ghost use Rattle.part_run.specs.Spelled.{settings_of, partitioning_of, evaluation_of, command_of, IsWithinBounds};
 
-use crate::balance::Balance;
+use crate::balance::{Balance, Workers};
 use hg_defs::Objective;
 use hg_text::number;
 
@@ -191,7 +191,7 @@ pub(crate) struct Partitioning<'a> {
     pub graph: &'a str,
     pub balance: Balance,
     pub seed: u64,
-    pub workers: u32,
+    pub workers: Workers,
     pub out: Option<&'a str>,
     pub objective: Objective,
     pub fix: Option<&'a str>,
@@ -228,7 +228,9 @@ fn partition_words(words: &[String]) -> Option<Partitioning<'_>>
         graph,
         balance: Balance { k, eps },
         seed: settings.seed.unwrap_or(1),
-        workers: settings.workers.unwrap_or(4),
+        workers: Workers {
+            count: settings.workers.unwrap_or(4),
+        },
         out: settings.out,
         objective: settings.cost.unwrap_or(Objective::Connectivity),
         fix: settings.fix,

@@ -1,4 +1,4 @@
-ghost use Rattle.std.specs.Prelude.{◌≡◌, ◌≤◌, [], IfOk, length};
+ghost use Rattle.std.specs.Prelude.{◌≡◌, ◌≤◌, [], All, IfOk, length};
 
 use crate::{put_evaluation, put_report, put_summary};
 use hg_base::{Blocks, Gains, MapStack, NoMemory, Objective, Verts, cost_of, greedy};
@@ -171,6 +171,18 @@ fn trace(alloc: Global, first: Blocks, kinds: &[Kind], chosen: Chosen) -> Result
     })
 }
 
+/// A cycle with rounds of these kinds, where there are any.
+fn cycles_of(alloc: Global, first: Blocks, kinds: &[Kind]) -> Result<TraceList, NoMemory>
+    ensures { IfOk result (All (λ t. (t.maps ≡ []) × ((t.start ≡ 0) × (t.first ≡ first)))) }
+{
+    let mut cycles = TraceList::new(alloc);
+    if kinds.is_empty() {
+        return Ok(cycles);
+    }
+    cycles.push(trace(alloc, first, kinds, Chosen::Levels)?)?;
+    Ok(cycles)
+}
+
 /// Reports a run that began and ended with the partition that a text spells, with no part of the share to
 /// spare, and with a cycle where rounds of it are named. Answers whether the sink got it all.
 fn report(
@@ -200,10 +212,7 @@ fn report(
     }
     let placed = greedy(alloc, h.flat(), k, 1_000)?;
     let blocks = read_part(alloc, part, h.vertices(), k)?;
-    let mut cycles = TraceList::new(alloc);
-    if !cycle.is_empty() {
-        cycles.push(trace(alloc, blocks.copy()?, cycle, Chosen::Levels)?)?;
-    }
+    let cycles = cycles_of(alloc, blocks.copy()?, cycle)?;
     let main = trace(alloc, blocks.copy()?, kinds, Chosen::Greedy)?;
     let cost = cost_of(h.flat(), placed.slice(), k);
     Ok(put_report(sink, &h, &job, cost, &main, &cycles, blocks.slice()).is_ok())

@@ -1,10 +1,14 @@
 use Rattle.std.proofs.Common.{◌≡◌, ◌∙◌, List, ℕ, Result, Ok, Err, inl, inr, refl, sym, subst}
 use Rattle.std.specs.Prelude.{MatchResult, IsErrAnd}
-use Rattle.hg_defs.specs.Hypergraph.{Hyper, IsFixedWithin}
+use Rattle.hg_defs.specs.Hypergraph.{Hyper, IsFixedWithin, Suits}
+use Rattle.round_log.specs.declared.record.Job.{Job}
 use Rattle.part_text.specs.Part.{part_text}
 use Rattle.part_run.specs.declared.status.Status.{Status}
-use Rattle.part_run.specs.Answers.{IsResult, IsPlaceRefusal, IsWriteRefusal, outputs_of, port_of, report_for}
+use Rattle.part_run.specs.declared.multilevel.Made.{Made}
+use Rattle.part_run.specs.Answers.{IsOutcome, IsPlaceRefusal, IsWritten, IsWriteRefusal, Outputs, outputs_of, port_of, job_for, report_for}
+use Rattle.part_run.specs.Made.{IsMade}
 use Rattle.part_run.specs.Spelled.{partitioning_of}
+use Rattle.part_run.proofs.Reportable.{reportable}
 use Rattle.part_run.proofs.partition.partition.Goals as goal
 
 -- an answer that is passed on is the refusal that it was
@@ -20,38 +24,63 @@ returns-in_err-flat-clause-answer g c =
       unwritten = refl;
     }))
 
-pub settle-requires-clause-fixed : goal.settle-requires-clause-fixed
-settle-requires-clause-fixed g c = subst (λ (h : Hyper). IsFixedWithin h c.args.p.now.balance.k) (sym c.in_ok-h.ensures) c.in_ok-flat.ensures.within
+pub run_levels-made-requires-clause-fixed : goal.run_levels-made-requires-clause-fixed
+run_levels-made-requires-clause-fixed g c =
+    subst (λ (j : Job). IsFixedWithin c.in_ok-flat.flat j.k) (sym c.job_of-job.ensures.value) c.in_ok-flat.ensures.within
 
-pub returns-in_err-partition-clause-answer : goal.returns-in_err-partition-clause-answer
-returns-in_err-partition-clause-answer g c =
-    let s = c.in_err-partition.field-0.0 in
-    passed_on _ _ c.from_residual-in_err-partition.result s c.from_residual-in_err-partition.ensures.1
+pub run_levels-made-requires-clause-suits : goal.run_levels-made-requires-clause-suits
+run_levels-made-requires-clause-suits g c =
+    subst (λ (j : Job). Suits c.in_ok-flat.flat j.k) (sym c.job_of-job.ensures.value) c.in_ok-flat.ensures.suits
+
+pub returns-in_err-made-clause-answer : goal.returns-in_err-made-clause-answer
+returns-in_err-made-clause-answer g c =
+    let s = c.in_err-made.field-0.0 in
+    passed_on _ _ c.from_residual-in_err-made.result s c.from_residual-in_err-made.ensures.1
     (inr (inl (record {
       hypergraph = c.in_ok-flat.flat;
       accepted = c.in_ok-flat.ensures.answer;
-      cause = subst (λ (h : Hyper). IsPlaceRefusal (partitioning_of c.args.p.now) h s) c.in_ok-h.ensures c.in_err-partition.ensures.answer;
+      cause = subst (λ (j : Job). IsPlaceRefusal j c.in_ok-flat.flat s) c.job_of-job.ensures.value c.in_err-made.ensures.answer;
       unwritten = refl;
     })))
+
+pub deliver-requires-clause-reportable : goal.deliver-requires-clause-reportable
+deliver-requires-clause-reportable g c = reportable _ c.job_of-job.result c.in_ok-flat.flat c.in_ok-made.made c.job_of-job.ensures.bounds
+    c.in_ok-made.ensures.answer
 
 pub returns-in_err-deliver-clause-answer : goal.returns-in_err-deliver-clause-answer
 returns-in_err-deliver-clause-answer g c =
     let s = c.in_err-deliver.field-0.0 in
     let p = partitioning_of c.args.p.now in
+    let made = c.in_ok-made.made in
     let old = outputs_of (port_of (g.K.Sink.got c.args.out.now) (g.K.Sink.faults c.args.out.now) (g.K.Sink.held c.args.out.now))
     (port_of (g.R.Sink.got c.args.report.now) (g.R.Sink.faults c.args.report.now) (g.R.Sink.held c.args.report.now)) in
     let new = outputs_of (port_of (g.K.Sink.got c.deliver.new.out) (g.K.Sink.faults c.deliver.new.out) (g.K.Sink.held c.deliver.new.out))
     (port_of (g.R.Sink.got c.deliver.new.report) (g.R.Sink.faults c.deliver.new.report) (g.R.Sink.held c.deliver.new.report)) in
-    let same_blocks : c.blocks-2.result.now ≡ c.in_ok-partition.partition.blocks = c.blocks-2.ensures.value in
     passed_on _ _ c.from_residual-in_err-deliver.result s c.from_residual-in_err-deliver.ensures.1
     (inr (inr (record {
       hypergraph = c.in_ok-flat.flat;
-      blocks = c.in_ok-partition.partition.blocks;
+      outcome = made.outcome;
       accepted = c.in_ok-flat.ensures.answer;
-      result = subst (λ (h : Hyper). IsResult p h c.in_ok-partition.partition.blocks) c.in_ok-h.ensures c.in_ok-partition.ensures.answer;
+      made = subst (λ (j : Job). IsOutcome _ j c.in_ok-flat.flat made.outcome) c.job_of-job.ensures.value c.in_ok-made.ensures.answer.outcome;
       cause =
-          subst (λ (h : Hyper). IsWriteRefusal old new (part_text c.in_ok-partition.partition.blocks) (report_for p h c.in_ok-partition.partition.blocks) s)
-          (c.flat.ensures ∙ c.in_ok-h.ensures)
-          (subst (λ (blocks : List ℕ). IsWriteRefusal old new (part_text blocks) (report_for p c.flat.result.now blocks) s) same_blocks
-          c.in_err-deliver.ensures.answer);
+          subst (λ (j : Job). IsWriteRefusal old new (part_text made.outcome.blocks) (report_for j c.in_ok-flat.flat made.outcome) s) c.job_of-job.ensures.value
+          (subst (λ (h : Hyper). IsWriteRefusal old new (part_text made.outcome.blocks) (report_for c.job_of-job.result h made.outcome) s)
+          c.in_ok-made.ensures.answer.hypergraph c.in_err-deliver.ensures.answer);
     })))
+
+pub returns-clause-answer : goal.returns-clause-answer
+returns-clause-answer g c =
+    let made = c.in_ok-made.made in
+    let old = outputs_of (port_of (g.K.Sink.got c.args.out.now) (g.K.Sink.faults c.args.out.now) (g.K.Sink.held c.args.out.now))
+    (port_of (g.R.Sink.got c.args.report.now) (g.R.Sink.faults c.args.report.now) (g.R.Sink.held c.args.report.now)) in
+    let new = outputs_of (port_of (g.K.Sink.got c.deliver.new.out) (g.K.Sink.faults c.deliver.new.out) (g.K.Sink.held c.deliver.new.out))
+    (port_of (g.R.Sink.got c.deliver.new.report) (g.R.Sink.faults c.deliver.new.report) (g.R.Sink.held c.deliver.new.report)) in
+    record {
+      hypergraph = c.in_ok-flat.flat;
+      accepted = c.in_ok-flat.ensures.answer;
+      made = subst (λ (j : Job). IsOutcome _ j c.in_ok-flat.flat made.outcome) c.job_of-job.ensures.value c.in_ok-made.ensures.answer.outcome;
+      written =
+          subst (λ (j : Job). IsWritten old new (part_text made.outcome.blocks) (report_for j c.in_ok-flat.flat made.outcome)) c.job_of-job.ensures.value
+          (subst (λ (h : Hyper). IsWritten old new (part_text made.outcome.blocks) (report_for c.job_of-job.result h made.outcome))
+          c.in_ok-made.ensures.answer.hypergraph c.in_ok-deliver.ensures.answer);
+    }

@@ -1,5 +1,4 @@
 use Rattle.std.proofs.Common.{drop}
-use Rattle.hg_io.specs.declared.traits.Failed.{Failed}
 use Rattle.trace_text.specs.Fields.{fields_text, fields_of}
 use Rattle.trace_text.proofs.TextLemmas.{IsWritten}
 use Rattle.trace_text.proofs.fields.put_fields.Given as goal

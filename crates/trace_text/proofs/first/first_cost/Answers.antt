@@ -3,7 +3,7 @@ use Rattle.std.proofs.Common.{◌≡◌, ℕ, ◌+◌, ◌*◌, ◌<◌, List, s
 use Rattle.std.proofs.lemmas.List.{take_all}
 use Rattle.hg_defs.specs.Hypergraph.{net_of, net_count}
 use Rattle.hg_defs.specs.Sums.{total}
-use Rattle.hg_defs.specs.Cost.{net_cost, price, connectivity}
+use Rattle.hg_defs.specs.Cost.{net_cost, price}
 use Rattle.hg_defs.specs.Levels.{projected_from}
 use Rattle.hg_base.proofs.CountLaws.{cost_so_far-lt, cost_more}
 use Rattle.trace_text.proofs.CarryingLemmas.{first_cost-projected}

@@ -1,5 +1,4 @@
 use Rattle.std.proofs.Common.{ℕ, List, ap, ◌∙◌, codes}
-use Rattle.hg_defs.specs.Hypergraph.{total_weight}
 use Rattle.hg_defs.specs.Partition.{limit}
 use Rattle.hg_defs.specs.Cost.{cost}
 use Rattle.hg_defs.specs.LeastLoaded.{greedy}

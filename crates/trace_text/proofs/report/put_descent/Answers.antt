@@ -1,4 +1,4 @@
-use Rattle.std.proofs.Common.{ℕ, suc, List, length, ap, codes}
+use Rattle.std.proofs.Common.{ℕ, List, ap, codes}
 use Rattle.trace_text.specs.Lines.{number_line}
 use Rattle.trace_text.specs.Rounds.{refined_text, swept_text}
 use Rattle.trace_text.specs.Report.{first_cost, chosen_text}

@@ -1,4 +1,4 @@
-use Rattle.std.proofs.Common.{◌≡◌, ℕ, List, ap, ap₂, ◌∙◌, sym, take, codes}
+use Rattle.std.proofs.Common.{ℕ, List, ap, ap₂, ◌∙◌, sym, codes}
 use Rattle.hg_defs.specs.Hypergraph.{Hyper}
 use Rattle.hg_defs.specs.Cost.{cost}
 use Rattle.hg_defs.specs.LeastLoaded.{greedy}

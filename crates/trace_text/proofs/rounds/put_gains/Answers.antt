@@ -1,5 +1,5 @@
 use Rattle.std.proofs.Common.{get_or, ap, arith, rules, w64}
-use Rattle.std.specs.Prelude.{ℤ, pos}
+use Rattle.std.specs.Prelude.{pos}
 use Rattle.std.specs.List.{flat_map}
 use Rattle.std.proofs.lemmas.Int.{to_z-of_z}
 use Rattle.std.proofs.lemmas.List.{at_drop_more}

@@ -1,0 +1,149 @@
+-- The levels of a coarsening, what a legal trace ends with, and what the refiners tally of it.
+use Rattle.std.proofs.Common.{◌≡◌, ◌≢◌, ℕ, zero, suc, ◌+◌, ◌*◌, ◌-◌, ◌<◌, ◌≤◌, ◌^◌, List, [], ◌∷◌, ◌++◌, length, All, refl, sym, ap, subst, ◌∙◌, arith}
+use Rattle.std.proofs.lemmas.Nat.{mul-le}
+use Rattle.std.proofs.lemmas.List.{length-map}
+use Rattle.std.proofs.lemmas.List.Elements.{All-nil, All-cons}
+use Rattle.hg_defs.specs.Hypergraph.{Hyper, vertex_count, net_count, total_weight, IsHypergraph, IsFixedWithin, Suits}
+use Rattle.hg_defs.specs.Contraction.{contract, images, merged_weight}
+use Rattle.hg_defs.specs.Clustering.{cluster_count, cluster_cap, IsClustering}
+use Rattle.hg_defs.specs.Levels.{level, coarsest}
+use Rattle.hg_defs.proofs.ContractionLaws.{length-images-le}
+use Rattle.hg_defs.proofs.LevelLaws.{vertices_of_contraction}
+use Rattle.round_log.specs.declared.record.Kind.{Kind}
+use Rattle.round_log.specs.declared.record.Kind.TheVariants.{Sweep}
+use Rattle.round_log.specs.declared.record.Stop.{Stop}
+use Rattle.round_log.specs.declared.record.Job.{Job}
+use Rattle.round_log.specs.declared.record.LoggedRound.{LoggedRound}
+use Rattle.round_log.specs.declared.record.Trace.{Trace}
+use Rattle.round_log.specs.Rounds.{after_round, after_rounds}
+use Rattle.round_log.specs.Passes.{IsPass}
+use Rattle.round_log.specs.Trace.{Good, AreContracted, IsStop, IsGoodClustering, IsDescent, IsTraced, AreSweeps, limit_of}
+use Rattle.round_log.specs.TraceLaws.{IsPlaceableWithin, IsPlaceableFor, IsSound}
+use Rattle.round_log.proofs.DescentLaws.{level_fixed, level_contractible}
+use Rattle.refiner.specs.declared.pass.Tally.{Tally}
+use Rattle.level_stack.specs.Stack.{Stack}
+use Rattle.uncoarsen.specs.Start.{ArePartable, IsStartAt}
+use Rattle.uncoarsen.specs.Settled.{SettlesBest}
+use Rattle.uncoarsen.specs.Refined.{ArePasses, IsRefinedBy, IsRefinedDown, IsLegalBy, tallies_with}
+use Rattle.uncoarsen.proofs.LegalLaws.{kinds-settled, kinds-below_greedy, traced}
+use Rattle.uncoarsen.proofs.TallyLemmas.{tallies_with-append, tallies_with-others}
+use Rattle.trace_text.specs.Report.{IsPrintable}
+use Rattle.part_run.specs.Answers.{IsResult}
+
+-- ---- each level may be parted
+
+-- a contraction that removes vertices has no more counts
+suits_contraction : (k : ℕ) (h : Hyper) (c : List ℕ) → cluster_count c ≤ vertex_count h → Suits h k → Suits (contract h c (cluster_count c)) k
+suits_contraction k h c fewer suits =
+    let vertices = vertices_of_contraction h c (cluster_count c) in
+    let nets : net_count (contract h c (cluster_count c)) ≡ length (images h c) =
+    length-map (images h c) (λ i. record { weight = merged_weight h c i; pins = i }) in
+    let less = length-images-le h c in
+    let sum : vertex_count (contract h c (cluster_count c)) + net_count (contract h c (cluster_count c)) ≤ vertex_count h + net_count h = omega arith in
+    let most = mul-le (vertex_count (contract h c (cluster_count c)) + net_count (contract h c (cluster_count c))) k (vertex_count h + net_count h) k sum
+    (omega arith) in
+    omega arith
+
+pub suits_levels : (good : Good) (number k : ℕ) (h : Hyper) (maps : List (List ℕ)) → AreContracted good number h k maps → Suits h k →
+    (i : ℕ) → i ≤ length maps → Suits (level h maps i) k
+suits_levels good number k h maps a suits zero low = suits
+suits_levels good number k h [] a suits (suc i) low = suits
+suits_levels good number k h (c ∷ maps) a suits (suc i) low =
+    let large = a.0 in
+    let shrinks = a.2 in
+    let fewer : cluster_count c ≤ vertex_count h = omega arith in
+    suits_levels good (suc number) k (contract h c (cluster_count c)) maps a.3 (suits_contraction k h c fewer suits) i (omega arith)
+
+clustered : (k number : ℕ) (h : Hyper) (c : List ℕ) → IsHypergraph h → IsGoodClustering k number h c → (cap : ℕ) × IsClustering h cap c
+clustered k number h c sound good = (cluster_cap (total_weight h) k, good.clustering)
+
+pub levels_partable : (k : ℕ) (s : Stack) → IsHypergraph s.base → AreContracted (IsGoodClustering k) 0 s.base k s.maps → Suits s.base k →
+    IsFixedWithin s.base k → ArePartable s k
+levels_partable k s sound contracted suits fixed i low = record {
+  suits = suits_levels (IsGoodClustering k) 0 k s.base s.maps contracted suits i low;
+  fixed = level_fixed (IsGoodClustering k) (clustered k) k s.base s.maps sound contracted fixed i low;
+}
+
+-- ---- what a legal trace ends with
+
+module _ (kinds : List Kind) (job : Job) (h : Hyper) (trace : Trace) (q : List ℕ) (ready : IsPlaceableFor h job) (legal : IsLegalBy kinds h job trace q)
+  where
+    pub legal_result : IsResult kinds job h trace q
+    legal_result =
+        let end = kinds-settled kinds h job trace q ready legal in record {
+          placed = ready.placed;
+          legal = legal;
+          partition = end.sound.partition;
+          obeys = end.sound.obeys;
+          fits = end.sound.fits;
+          settled = end.settled;
+          no_dearer = kinds-below_greedy kinds h job trace q ready legal;
+        }
+
+    -- it can be printed
+    pub legal_printable : IsPrintable h job.k trace
+    legal_printable = record {
+      start = legal.start.on_level;
+      levels = λ i low.
+          level_contractible (IsGoodClustering job.k) (clustered job.k) job.k h trace.maps ready.hypergraph legal.descended.maps i
+          (let bound = legal.start.on_level in omega arith);
+      first = legal.start.partition;
+    }
+
+-- ---- tallies
+
+-- no refiner that made a pass makes sweeps
+passes_unswept : (kinds : List Kind) (h : Hyper) (k l workers : ℕ) (p : List ℕ) (rounds : List LoggedRound) → ArePasses kinds h k l workers p rounds →
+    All (λ (kind : Kind). Sweep ≢ kind) kinds
+passes_unswept [] h k l workers p rounds none = All-nil (λ (kind : Kind). Sweep ≢ kind)
+passes_unswept (kind ∷ kinds) h k l workers p rounds s =
+    All-cons (λ (x : Kind). Sweep ≢ x) kind kinds (λ e. subst (λ (x : Kind). IsPass x h k l workers p s.0) (sym e) s.3)
+    (passes_unswept kinds h k l workers (after_rounds p s.0) s.1 s.4)
+
+descent_unswept : (kinds : List Kind) (h : Hyper) (k l workers : ℕ) (maps : List (List ℕ)) (i : ℕ) (p : List ℕ) (rounds : List LoggedRound) (q : List ℕ) →
+    IsDescent (IsRefinedBy kinds k l workers) h maps i p rounds q → All (λ (kind : Kind). Sweep ≢ kind) kinds
+descent_unswept kinds h k l workers maps zero p rounds q d = passes_unswept kinds h k l workers p rounds d.passes
+descent_unswept kinds h k l workers maps (suc i) p rounds q d = passes_unswept kinds (level h maps (suc i)) k l workers p d.0 d.4.passes
+
+sweeps_kind : (h : Hyper) (k l : ℕ) (p : List ℕ) (rounds : List LoggedRound) (q : List ℕ) → AreSweeps h k l p rounds q →
+    All (λ (r : LoggedRound). r.kind ≡ Sweep) rounds
+sweeps_kind h k l p [] q s = All-nil (λ (r : LoggedRound). r.kind ≡ Sweep)
+sweeps_kind h k l p (r ∷ rounds) q s =
+    All-cons (λ (x : LoggedRound). x.kind ≡ Sweep) r rounds s.0 (sweeps_kind h k l (after_round p r) rounds q s.4)
+
+length-tallies : (rounds : List LoggedRound) (kinds : List Kind) (ts : List Tally) → length kinds ≡ length ts →
+    length kinds ≡ length (tallies_with rounds kinds ts)
+length-tallies rounds [] ts long = refl
+length-tallies rounds (kind ∷ kinds) [] long = absurd (omega arith)
+length-tallies rounds (kind ∷ kinds) (t ∷ ts) long = ap suc (length-tallies rounds kinds ts (omega arith))
+
+-- the sweeps at the end add nothing to the tallies
+pub tallies_swept : (kinds : List Kind) (h : Hyper) (k l workers : ℕ) (maps : List (List ℕ)) (i : ℕ) (p last swept q : List ℕ)
+    (rounds sweeps : List LoggedRound) (ts : List Tally) → length kinds ≡ length ts → IsDescent (IsRefinedBy kinds k l workers) h maps i p rounds last →
+    AreSweeps h k l swept sweeps q → tallies_with (rounds ++ sweeps) kinds ts ≡ tallies_with rounds kinds ts
+tallies_swept kinds h k l workers maps i p last swept q rounds sweeps ts long down settled =
+    tallies_with-append rounds sweeps kinds ts
+    ∙ tallies_with-others Sweep sweeps kinds (tallies_with rounds kinds ts) (length-tallies rounds kinds ts long)
+    (descent_unswept kinds h k l workers maps i p rounds last down) (sweeps_kind h k l swept sweeps q settled)
+
+-- ---- a run put together
+
+module _ (kinds : List Kind) (s : Stack) (stop : Stop) (number : ℕ) (first : List ℕ) (job : Job) (old new : Trace) (q : List ℕ) where
+  -- what the coarsening, the start, the way down and the end tell of the levels of h
+  pub run_legal : (h : Hyper) → IsPlaceableFor h job → s.base ≡ h → AreContracted (IsGoodClustering job.k) 0 h job.k s.maps →
+      IsStop (IsGoodClustering job.k) (length s.maps) (coarsest h s.maps) job.k stop → IsStartAt s job.k (limit_of h job) job.seed number first →
+      IsRefinedDown kinds s stop number first job.k (limit_of h job) job.workers old → IsSound s.base job.k (limit_of h job) old.last →
+      SettlesBest s.base job.k (limit_of h job) old new q → IsLegalBy kinds h job new q
+  run_legal h ready base contracted stopped start down sound best =
+      subst (λ (g : Hyper). IsTraced (IsRefinedBy kinds job.k (limit_of h job) job.workers) g job.k (limit_of h job) job.seed new q) base
+      (traced kinds s stop number first job.k (limit_of h job) job.seed job.workers old new q
+      (subst (λ (g : Hyper). IsPlaceableWithin g job.k (limit_of h job)) (sym base) ready)
+      (subst (λ (g : Hyper). AreContracted (IsGoodClustering job.k) 0 g job.k s.maps) (sym base) contracted)
+      (subst (λ (g : Hyper). IsStop (IsGoodClustering job.k) (length s.maps) (coarsest g s.maps) job.k stop) (sym base) stopped)
+      start down sound best)
+
+  pub run_tallies : (l : ℕ) (ts : List Tally) → length kinds ≡ length ts → IsRefinedDown kinds s stop number first job.k l job.workers old →
+      SettlesBest s.base job.k l old new q → tallies_with old.rounds kinds ts ≡ tallies_with new.rounds kinds ts
+  run_tallies l ts long down best =
+      sym (tallies_swept kinds s.base job.k l job.workers s.maps number first old.last best.swept q old.rounds best.sweeps ts long down.descent best.settled)
+      ∙ ap (λ (rs : List LoggedRound). tallies_with rs kinds ts) (sym (ap (λ (t : Trace). t.rounds) best.trace))

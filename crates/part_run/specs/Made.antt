@@ -1,0 +1,33 @@
+-- What a run over a hypergraph made, before it is written.
+use Rattle.std.specs.Prelude.{◌≡◌, ◌≤◌, List, All}
+use Rattle.hg_defs.specs.Hypergraph.{Hyper}
+use Rattle.hg_defs.specs.Partition.{IsPartition}
+use Rattle.hg_defs.specs.Cost.{cost}
+use Rattle.hg_defs.specs.LeastLoaded.{greedy}
+use Rattle.round_log.specs.declared.record.Kind.{Kind}
+use Rattle.round_log.specs.declared.record.Job.{Job}
+use Rattle.round_log.specs.TraceLaws.{IsPlaceableFor}
+use Rattle.trace_text.specs.Report as report
+use Rattle.part_run.specs.declared.multilevel.Made.{Made}
+use Rattle.part_run.specs.Answers.{IsOutcome}
+
+-- the numbers of a run are within their bounds
+pub record IsJob (job : Job) : Type 0 where
+  pub bounds : report.IsJob job
+  pub working : 1 ≤ job.workers
+  pub few_workers : job.workers ≤ 64
+
+-- the hypergraph, the cost of greedy placement, and what a run with refiners of these kinds made
+pub record IsMade (kinds : List Kind) (job : Job) (h : Hyper) (made : Made) : Type 0 where
+  pub hypergraph : made.h ≡ h
+  pub ready : IsPlaceableFor h job
+  pub greedy : made.greedy ≡ cost h (greedy h job.k)
+  pub outcome : IsOutcome kinds job h made.outcome
+
+-- what is needed to report it
+pub record IsReportable (job : Job) (made : Made) : Type 0 where
+  pub bounds : report.IsJob job
+  pub partition : IsPartition made.h job.k made.outcome.blocks
+  pub greedy : made.greedy ≡ cost made.h (greedy made.h job.k)
+  pub trace : report.IsPrintable made.h job.k made.outcome.trace
+  pub cycles : All (report.IsPrintable made.h job.k) made.outcome.cycles
