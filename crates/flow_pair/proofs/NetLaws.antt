@@ -180,8 +180,13 @@ module _ (h : Hyper) (p : List ℕ) (a b : ℕ) (sound : IsHypergraph h) where
               free = free.0;
               block = free.1;
               other = away v (is_member nat_eq near v) refl n low;
-              net = (net_of h x.0, (x.0, net, get_or_default h.nets x.0 (net_of h x.0) (record { weight = 0; pins = [] }) net), leb-true (length (net_of h x.0).pins) 1000 small.1, pin.0,
-                  (u.0, member_of (net_of h x.0).pins u.0 on.1, is_near_of u.0 u.1));
+              net = (
+                net_of h x.0,
+                (x.0, net, get_or_default h.nets x.0 (net_of h x.0) (record { weight = 0; pins = [] }) net),
+                leb-true (length (net_of h x.0).pins) 1000 small.1,
+                pin.0,
+                (u.0, member_of (net_of h x.0).pins u.0 on.1, is_near_of u.0 u.1),
+              );
             }),
           )
 
@@ -271,13 +276,13 @@ pub joined_few : (h : Hyper) (test : Net → Bool) (nets : List ℕ) → map (ne
     → (length nets ≤ net_count h) × (total (λ e. length (net_of h e).pins) nets ≤ pin_count h)
 joined_few h test nets e = (
   let a = length-map nets (net_of h) in
-  let b = ap length e in
-  let c = length-filter-le h.nets in
-  omega arith,
+      let b = ap length e in
+      let c = length-filter-le h.nets in
+      omega arith,
   let a = total-map (λ (n : Net). length n.pins) (net_of h) nets in
-  let b = ap (total (λ (n : Net). length n.pins)) e in
-  let c = total-filter-le (λ (n : Net). length n.pins) test h.nets in
-  omega arith,
+      let b = ap (total (λ (n : Net). length n.pins)) e in
+      let c = total-filter-le (λ (n : Net). length n.pins) test h.nets in
+      omega arith,
 )
   where
     length-filter-le : (xs : List Net) → length (filter test xs) ≤ length xs

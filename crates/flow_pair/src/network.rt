@@ -95,7 +95,12 @@ fn add_nets(pair: Pair<'_>, network: &mut Network, nets: &[u32]) -> Result<(), N
 }
 
 /// The nets that join the network of a region: those that touch both blocks, and those of its vertices.
-fn nets_of_region(alloc: Global, h: &Hypergraph, region: &[u32], touching: &[u32]) -> Result<Vec<u32>, NoMemory>
+fn nets_of_region(
+    alloc: Global,
+    h: &Hypergraph,
+    region: &[u32],
+    touching: &[u32],
+) -> Result<Vec<u32>, NoMemory>
     requires { All (λ v. v < vertex_count h.now) region.now }
     ensures { IfOk result (λ nets. nets.items ≡ set_of nat_cmp (touching.now ++ flat_map (nets_of h.now) region.now)) }
 {
@@ -162,5 +167,14 @@ pub fn region_network(
     ensures { IfOk result (λ network. network ≡ pair_network h.now p.now.blocks a b region.now) }
 {
     let touching = touching_nets_of(alloc, h, p, a, b)?;
-    build_network(alloc, h, p, a, b, region, touching.as_slice(), more_than_all(h))
+    build_network(
+        alloc,
+        h,
+        p,
+        a,
+        b,
+        region,
+        touching.as_slice(),
+        more_than_all(h),
+    )
 }

@@ -2,8 +2,11 @@
 //! hypergraphs to try it on.
 #![tactic(auto)]
 
+use crew::OpenGate;
+use flow_pair::FlowPair;
 use hg_defs::NoMemory;
 use hg_io::{AnySink, AnySource, Place, StdSink};
+use label_prop::LabelProp;
 use part_run::{Status, names, put_status, run};
 use refiner::Refiner;
 use std::env;
@@ -37,7 +40,13 @@ fn carry_out<H: Threads + Sync>(rt: HostRuntime, threads: &H, words: &[String]) 
     let mut extra = AnySource::at(rt, rt.stdin(), names.extra);
     let mut out = AnySink::at(rt, rt.stdout(), rt.stderr(), names.out);
     let mut report = AnySink::at(rt, rt.stdout(), rt.stderr(), names.report);
-    let mut refiners: [Box<dyn Refiner>; 0] = [];
+    let Ok(label) = Box::new(rt.alloc(), LabelProp::new(rt, OpenGate)) else {
+        return Status::NoMemory;
+    };
+    let Ok(flow) = Box::new(rt.alloc(), FlowPair::new()) else {
+        return Status::NoMemory;
+    };
+    let mut refiners: [Box<dyn Refiner>; 2] = [label, flow];
     run(
         threads,
         rt.alloc(),

@@ -31,10 +31,19 @@ pub borrowed_sync : (κ₀ κ₁ κ₂ : Lft) (κ₃ : NamedLft) (κ₄ κ₅ κ
     ∷ ShrRef erased κ₅ G ∷ ShrRef erased κ₆ flag.the_row ∷ []))
 borrowed_sync κ₀ κ₁ κ₂ κ₃ κ₄ κ₅ κ₆ G s =
     declared_sync (type_at [] (ShrRef erased κ₀ graph.the_row ∷ ShrRef erased κ₁ (UInt w32) ∷ ShrRef erased κ₂ (round.the_row κ₃)
-    ∷ ShrRef erased κ₄ (UInt w32) ∷ ShrRef erased κ₅ G ∷ ShrRef erased κ₆ flag.the_row ∷ []))
-    (as_row_sync (row_field (ShrRef erased κ₀ graph.the_row)) (lent_sync κ₀ graph.the_row hyper.the_sync),
-    (as_row_sync (row_field (ShrRef erased κ₁ (UInt w32))) (lent_sync κ₁ (UInt w32) number_sync),
-    (as_row_sync (row_field (ShrRef erased κ₂ (round.the_row κ₃))) (lent_sync κ₂ (round.the_row κ₃) (round_sync κ₃)),
-    (as_row_sync (row_field (ShrRef erased κ₄ (UInt w32))) (lent_sync κ₄ (UInt w32) number_sync),
-    (as_row_sync (row_field (ShrRef erased κ₅ G)) (lent_sync κ₅ G s),
-    (as_row_sync (row_field (ShrRef erased κ₆ flag.the_row)) (lent_sync κ₆ flag.the_row flag_sync), tt))))))
+    ∷ ShrRef erased κ₄ (UInt w32) ∷ ShrRef erased κ₅ G ∷ ShrRef erased κ₆ flag.the_row ∷ [])) (
+      as_row_sync (row_field (ShrRef erased κ₀ graph.the_row)) (lent_sync κ₀ graph.the_row hyper.the_sync),
+      (
+        as_row_sync (row_field (ShrRef erased κ₁ (UInt w32))) (lent_sync κ₁ (UInt w32) number_sync),
+        (
+          as_row_sync (row_field (ShrRef erased κ₂ (round.the_row κ₃))) (lent_sync κ₂ (round.the_row κ₃) (round_sync κ₃)),
+          (
+            as_row_sync (row_field (ShrRef erased κ₄ (UInt w32))) (lent_sync κ₄ (UInt w32) number_sync),
+            (
+              as_row_sync (row_field (ShrRef erased κ₅ G)) (lent_sync κ₅ G s),
+              (as_row_sync (row_field (ShrRef erased κ₆ flag.the_row)) (lent_sync κ₆ flag.the_row flag_sync), tt),
+            ),
+          ),
+        ),
+      ),
+    )

@@ -65,9 +65,9 @@ module _ (h : Hyper) (task : Task) (p q : Parted) (after : q ≡ record p { bloc
         → LogsLabelRound false h task p old new (before - later) q
     sweeps moves before later r old new em eb ea er el =
         let is : r ≡ sweep_round task.level (sweep h p.k p.limit p.blocks) (cost h p.blocks) (cost h (replay p.blocks (sweep h p.k p.limit p.blocks))) =
-            er ∙ ap (λ (ms : List Move). sweep_round task.level ms before later) em
-            ∙ ap (λ (b : ℕ). sweep_round task.level (sweep h p.k p.limit p.blocks) b later) eb
-            ∙ ap (λ (a : ℕ). sweep_round task.level (sweep h p.k p.limit p.blocks) (cost h p.blocks) a) (ea ∙ ap (cost h) new_blocks) in
+        er ∙ ap (λ (ms : List Move). sweep_round task.level ms before later) em
+        ∙ ap (λ (b : ℕ). sweep_round task.level (sweep h p.k p.limit p.blocks) b later) eb
+        ∙ ap (λ (a : ℕ). sweep_round task.level (sweep h p.k p.limit p.blocks) (cost h p.blocks) a) (ea ∙ ap (cost h) new_blocks) in
         let swept = subst (IsSwept h p.k p.limit p.blocks) (sym is) (round_swept h p.k p.limit task.level p.blocks unsettled) in
         record {
           round = r;

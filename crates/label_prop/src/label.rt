@@ -69,6 +69,15 @@ impl<H: Threads + Sync + Drop> Refiner for LabelProp<H, OpenGate> {
         p: Partition,
         log: &mut Log,
     ) -> Result<Partition, NoMemory> {
-        label_pass(&self.rt, &self.gate, &mut self.tally, alloc, h, task, p, log)
+        label_pass(
+            &self.rt,
+            &self.gate,
+            &mut self.tally,
+            alloc,
+            h,
+            task,
+            p,
+            log,
+        )
     }
 }

@@ -104,7 +104,15 @@ pub(crate) fn run_levels<H: Threads + Sync>(
     let (stack, stop) = coarsen(rt, alloc, h, job.k, job.workers, job.seed, &OpenGate)?;
     let start = begin(rt, alloc, &stack, job.k, limit, job.seed)?;
     let (last, mut trace) = uncoarsen(
-        alloc, &stack, stop, start, job.k, limit, job.workers, job.seed, refiners,
+        alloc,
+        &stack,
+        stop,
+        start,
+        job.k,
+        limit,
+        job.workers,
+        job.seed,
+        refiners,
     )?;
     let h = stack.base();
     let best = settle_best(alloc, &h, last, placed, &mut trace)?;

@@ -201,9 +201,27 @@ fn number_behind<'a>(text: &'a str, label: &str) -> Option<&'a str> {
 #[test]
 fn written_partitions_are_evaluated(rt: HostRuntime) -> Result<(), Fail> {
     for (words, graph, fixes, evaluation, greedy) in [
-        ("partition g 2 0", PATH, "", "evaluate g p 2 0", "greedy 3\n"),
-        ("partition g 2 0", FIRST, "", "evaluate g p 2 0", "greedy 20\n"),
-        ("partition g 3 0 seed=9", FIRST, "", "evaluate g p 3 0", "seed 9\n"),
+        (
+            "partition g 2 0",
+            PATH,
+            "",
+            "evaluate g p 2 0",
+            "greedy 3\n",
+        ),
+        (
+            "partition g 2 0",
+            FIRST,
+            "",
+            "evaluate g p 2 0",
+            "greedy 20\n",
+        ),
+        (
+            "partition g 3 0 seed=9",
+            FIRST,
+            "",
+            "evaluate g p 3 0",
+            "seed 9\n",
+        ),
         (
             "partition g 2 0 cost=cut workers=1",
             FIRST,
@@ -221,15 +239,30 @@ fn written_partitions_are_evaluated(rt: HostRuntime) -> Result<(), Fail> {
     ] {
         let made = run_over(&rt, rt.alloc(), words, graph, fixes.as_bytes(), NONE)?;
         assert_eq!(rt; made.ended.status, Status::Done, "{words}");
-        let told = run_over(&rt, rt.alloc(), evaluation, graph, made.out.as_slice(), NONE)?;
+        let told = run_over(
+            &rt,
+            rt.alloc(),
+            evaluation,
+            graph,
+            made.out.as_slice(),
+            NONE,
+        )?;
         assert_eq!(rt; told.ended.status, Status::Done, "{words}");
         let report = str::from_utf8(made.report.as_slice())?;
         let other = str::from_utf8(told.report.as_slice())?;
         assert!(rt; report.contains(greedy), "{words}");
         assert!(rt; other.ends_with("fits yes\n"), "{words}");
         assert!(rt; number_behind(report, "cost ").is_some(), "{words}");
-        assert_eq!(rt; number_behind(report, "cost "), number_behind(other, "cost "), "{words}");
-        assert_eq!(rt; number_behind(report, "load 1 "), number_behind(other, "load 1 "), "{words}");
+        assert_eq!(rt;
+            number_behind(report, "cost "),
+            number_behind(other, "cost "),
+            "{words}"
+        );
+        assert_eq!(rt;
+            number_behind(report, "load 1 "),
+            number_behind(other, "load 1 "),
+            "{words}"
+        );
     }
     Ok(())
 }
@@ -237,13 +270,23 @@ fn written_partitions_are_evaluated(rt: HostRuntime) -> Result<(), Fail> {
 /// The outcome has what was written, and a trace that ends there.
 #[test]
 fn outcome_has_the_partition(rt: HostRuntime) -> Result<(), Fail> {
-    let made = run_over(&rt, rt.alloc(), "partition g 2 0 fix=f", FIRST, b"0\n0\n0\n1\n1\n1\n0\n", NONE)?;
+    let made = run_over(
+        &rt,
+        rt.alloc(),
+        "partition g 2 0 fix=f",
+        FIRST,
+        b"0\n0\n0\n1\n1\n1\n0\n",
+        NONE,
+    )?;
     let Some(outcome) = &made.ended.outcome else {
         return Err(Fail::from("no outcome"));
     };
     assert_eq!(rt; outcome.cost, 10);
     assert_eq!(rt; outcome.blocks.slice(), [0, 0, 0, 1, 1, 1, 0].as_slice());
-    assert_eq!(rt; outcome.trace.last.slice(), [0, 0, 0, 1, 1, 1, 0].as_slice());
+    assert_eq!(rt;
+        outcome.trace.last.slice(),
+        [0, 0, 0, 1, 1, 1, 0].as_slice()
+    );
     assert_eq!(rt; outcome.trace.maps.len(), 0);
     assert_eq!(rt; outcome.cycles.len(), 0);
     Ok(())
@@ -341,7 +384,14 @@ fn refused_runs_write_nothing(rt: HostRuntime) -> Result<(), Fail> {
             bad_part(1, PartKind::ExtraLine),
         ),
     ] {
-        let made = run_over(&rt, rt.alloc(), words, graph.as_bytes(), extra.as_bytes(), NONE)?;
+        let made = run_over(
+            &rt,
+            rt.alloc(),
+            words,
+            graph.as_bytes(),
+            extra.as_bytes(),
+            NONE,
+        )?;
         assert_eq!(rt; made.ended.status, status, "{words}");
         assert_eq!(rt; made.out.len() + made.report.len(), 0, "{words}");
         assert_eq!(rt; made.ended.outcome.is_none(), true, "{words}");
@@ -486,7 +536,10 @@ fn runs_over_files(rt: HostRuntime) -> Result<(), Fail> {
     let words = format!(in alloc; "evaluate {graph} {part} 2 0")?;
     assert_eq!(rt; run_over_files(&rt, &rt, words.as_str())?, Status::Done);
     let words = format!(in alloc; "evaluate {part} {graph} 2 0")?;
-    assert_eq!(rt; run_over_files(&rt, &rt, words.as_str())? == Status::Done, false);
+    assert_eq!(rt;
+        run_over_files(&rt, &rt, words.as_str())? == Status::Done,
+        false
+    );
     assert_eq!(rt; run_over_files(&rt, &rt, "generate 4")?, Status::Done);
     fs::remove_file(&rt, graph.as_str())?;
     fs::remove_file(&rt, part.as_str())?;

@@ -13,11 +13,10 @@ ghost use Rattle.pin_plain.specs.Parted.{IsParted, IsLoaded, loads_after, KeepsC
 mod best;
 mod sweep;
 
-pub use best::BestMove;
-
 use crate::counts::{count, count_nets, lay_out, move_pin};
 use crate::gains::saved_and_lost;
 use crate::lent::Lent;
+pub use best::BestMove;
 use hg_base::{Blocks, Items, NoMemory, bits_of, cost_of};
 use incidence::Hypergraph;
 use std::alloc::Global;

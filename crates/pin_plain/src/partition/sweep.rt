@@ -21,7 +21,12 @@ use std::mem;
 
 impl Partition {
     /// The best block of a vertex, and the gain there, where there is one.
-    pub(crate) fn best_move(&self, h: &Hypergraph, v: u32, scores: &mut Scores) -> Option<(u32, u64)>
+    pub(crate) fn best_move(
+        &self,
+        h: &Hypergraph,
+        v: u32,
+        scores: &mut Scores,
+    ) -> Option<(u32, u64)>
         requires belongs { self.now.hyper ≡ h.now }
         requires vertex { v < vertex_count h.now }
         requires clear { IsClear scores.old.sums }

@@ -40,9 +40,9 @@ count-requires-clause-rounds g c =
     let whole = subst (λ (x : Hyper). IsPartition x c.args.p.k c.args.p.blocks) c.requires.belongs c.blocks-blocks.ensures.parted.partition in
     let bounds = subst IsWithinLimits c.requires.belongs c.blocks-blocks.ensures.parted.bounds in
     let room = raced_room c.args.h.now c.args.task.now c.args.p c.args.tally.now c.args.log.now c.requires.belongs whole c.requires.fits bounds
-        c.requires.tallied.0 c.requires.tallied.1 c.turns.counter c.turns.part c.turns.tally c.turns.log c.turns.invariant.underway
-        (λ settled. true≢false (sym (c.settled.ensures.1 settled) ∙ c.if-settled.false)) c.turns-test.true
-        c.in_ok-raced.saved c.in_ok-raced.raced c.race_round.new.log c.in_ok-raced.ensures.ok in
+    c.requires.tallied.0 c.requires.tallied.1 c.turns.counter c.turns.part c.turns.tally c.turns.log c.turns.invariant.underway
+    (λ settled. true≢false (sym (c.settled.ensures.1 settled) ∙ c.if-settled.false)) c.turns-test.true
+    c.in_ok-raced.saved c.in_ok-raced.raced c.race_round.new.log c.in_ok-raced.ensures.ok in
     let a = room.0 in
     omega arith
 
@@ -51,9 +51,9 @@ count-requires-clause-gain g c =
     let whole = subst (λ (x : Hyper). IsPartition x c.args.p.k c.args.p.blocks) c.requires.belongs c.blocks-blocks.ensures.parted.partition in
     let bounds = subst IsWithinLimits c.requires.belongs c.blocks-blocks.ensures.parted.bounds in
     let room = raced_room c.args.h.now c.args.task.now c.args.p c.args.tally.now c.args.log.now c.requires.belongs whole c.requires.fits bounds
-        c.requires.tallied.0 c.requires.tallied.1 c.turns.counter c.turns.part c.turns.tally c.turns.log c.turns.invariant.underway
-        (λ settled. true≢false (sym (c.settled.ensures.1 settled) ∙ c.if-settled.false)) c.turns-test.true
-        c.in_ok-raced.saved c.in_ok-raced.raced c.race_round.new.log c.in_ok-raced.ensures.ok in
+    c.requires.tallied.0 c.requires.tallied.1 c.turns.counter c.turns.part c.turns.tally c.turns.log c.turns.invariant.underway
+    (λ settled. true≢false (sym (c.settled.ensures.1 settled) ∙ c.if-settled.false)) c.turns-test.true
+    c.in_ok-raced.saved c.in_ok-raced.raced c.race_round.new.log c.in_ok-raced.ensures.ok in
     let a = room.1 in
     omega arith
 
@@ -67,18 +67,18 @@ returns-in_err-saved-clause-part g c =
     (under_part c.args.h.now c.args.task.now c.args.p c.args.tally.now c.args.log.now c.turns.counter false c.in_ok-raced.raced c.count.new.tally
     c.race_round.new.log
     (raced_same c.args.h.now c.args.task.now c.args.p c.args.tally.now c.args.log.now c.requires.belongs whole c.requires.fits bounds
-        c.requires.tallied.0 c.requires.tallied.1 c.turns.counter c.turns.part c.turns.tally c.turns.log c.turns.invariant.underway
-        (λ settled. true≢false (sym (c.settled.ensures.1 settled) ∙ c.if-settled.false)) c.turns-test.true
-        c.in_ok-raced.saved c.in_ok-raced.raced c.race_round.new.log c.in_ok-raced.ensures.ok c.count.new.tally c.count.ensures c.if-saved-eq0.true)))
+    c.requires.tallied.0 c.requires.tallied.1 c.turns.counter c.turns.part c.turns.tally c.turns.log c.turns.invariant.underway
+    (λ settled. true≢false (sym (c.settled.ensures.1 settled) ∙ c.if-settled.false)) c.turns-test.true
+    c.in_ok-raced.saved c.in_ok-raced.raced c.race_round.new.log c.in_ok-raced.ensures.ok c.count.new.tally c.count.ensures c.if-saved-eq0.true)))
 
 pub returns-in_default-clause-pass : goal.returns-in_default-clause-pass
 returns-in_default-clause-pass g c =
     let whole = subst (λ (x : Hyper). IsPartition x c.args.p.k c.args.p.blocks) c.requires.belongs c.blocks-blocks.ensures.parted.partition in
     let bounds = subst IsWithinLimits c.requires.belongs c.blocks-blocks.ensures.parted.bounds in
     rested_whole c.args.h.now c.args.task.now c.args.p c.args.tally.now c.args.log.now c.requires.belongs whole c.requires.fits bounds
-        c.requires.tallied.0 c.requires.tallied.1 c.turns.counter c.turns.part c.turns.tally c.turns.log c.turns.invariant.underway
-        (λ settled. true≢false (sym (c.settled.ensures.1 settled) ∙ c.if-settled.false)) c.turns-test.true
-        c.in_ok-raced.saved c.in_ok-raced.raced c.race_round.new.log c.in_ok-raced.ensures.ok c.count.new.tally c.count.ensures c.if-saved-eq0.true c.sweep_round.new.log c.sweep_round.new.part
+    c.requires.tallied.0 c.requires.tallied.1 c.turns.counter c.turns.part c.turns.tally c.turns.log c.turns.invariant.underway
+    (λ settled. true≢false (sym (c.settled.ensures.1 settled) ∙ c.if-settled.false)) c.turns-test.true
+    c.in_ok-raced.saved c.in_ok-raced.raced c.race_round.new.log c.in_ok-raced.ensures.ok c.count.new.tally c.count.ensures c.if-saved-eq0.true c.sweep_round.new.log c.sweep_round.new.part
     (subst (λ (o : Option ℕ). SweepsOrRests c.args.h.now c.args.task.now c.in_ok-raced.raced c.race_round.new.log c.sweep_round.new.log o c.sweep_round.new.part)
     c.in_default.is c.in_ok-saved.ensures.ok)
 
@@ -87,11 +87,11 @@ count-requires-then-saved-eq0-clause-rounds g c =
     let whole = subst (λ (x : Hyper). IsPartition x c.args.p.k c.args.p.blocks) c.requires.belongs c.blocks-blocks.ensures.parted.partition in
     let bounds = subst IsWithinLimits c.requires.belongs c.blocks-blocks.ensures.parted.bounds in
     let room = swept_room c.args.h.now c.args.task.now c.args.p c.args.tally.now c.args.log.now c.requires.belongs whole c.requires.fits bounds
-        c.requires.tallied.0 c.requires.tallied.1 c.turns.counter c.turns.part c.turns.tally c.turns.log c.turns.invariant.underway
-        (λ settled. true≢false (sym (c.settled.ensures.1 settled) ∙ c.if-settled.false)) c.turns-test.true
-        c.in_ok-raced.saved c.in_ok-raced.raced c.race_round.new.log c.in_ok-raced.ensures.ok c.count.new.tally c.count.ensures c.if-saved-eq0.true c.in-Some.saved c.sweep_round.new.log c.sweep_round.new.part
-        (subst (λ (o : Option ℕ). SweepsOrRests c.args.h.now c.args.task.now c.in_ok-raced.raced c.race_round.new.log c.sweep_round.new.log o
-        c.sweep_round.new.part) c.in-Some.is c.in_ok-saved.ensures.ok) in
+    c.requires.tallied.0 c.requires.tallied.1 c.turns.counter c.turns.part c.turns.tally c.turns.log c.turns.invariant.underway
+    (λ settled. true≢false (sym (c.settled.ensures.1 settled) ∙ c.if-settled.false)) c.turns-test.true
+    c.in_ok-raced.saved c.in_ok-raced.raced c.race_round.new.log c.in_ok-raced.ensures.ok c.count.new.tally c.count.ensures c.if-saved-eq0.true c.in-Some.saved c.sweep_round.new.log c.sweep_round.new.part
+    (subst (λ (o : Option ℕ). SweepsOrRests c.args.h.now c.args.task.now c.in_ok-raced.raced c.race_round.new.log c.sweep_round.new.log o
+    c.sweep_round.new.part) c.in-Some.is c.in_ok-saved.ensures.ok) in
     let a = room.0 in
     omega arith
 
@@ -100,11 +100,11 @@ count-requires-then-saved-eq0-clause-gain g c =
     let whole = subst (λ (x : Hyper). IsPartition x c.args.p.k c.args.p.blocks) c.requires.belongs c.blocks-blocks.ensures.parted.partition in
     let bounds = subst IsWithinLimits c.requires.belongs c.blocks-blocks.ensures.parted.bounds in
     let room = swept_room c.args.h.now c.args.task.now c.args.p c.args.tally.now c.args.log.now c.requires.belongs whole c.requires.fits bounds
-        c.requires.tallied.0 c.requires.tallied.1 c.turns.counter c.turns.part c.turns.tally c.turns.log c.turns.invariant.underway
-        (λ settled. true≢false (sym (c.settled.ensures.1 settled) ∙ c.if-settled.false)) c.turns-test.true
-        c.in_ok-raced.saved c.in_ok-raced.raced c.race_round.new.log c.in_ok-raced.ensures.ok c.count.new.tally c.count.ensures c.if-saved-eq0.true c.in-Some.saved c.sweep_round.new.log c.sweep_round.new.part
-        (subst (λ (o : Option ℕ). SweepsOrRests c.args.h.now c.args.task.now c.in_ok-raced.raced c.race_round.new.log c.sweep_round.new.log o
-        c.sweep_round.new.part) c.in-Some.is c.in_ok-saved.ensures.ok) in
+    c.requires.tallied.0 c.requires.tallied.1 c.turns.counter c.turns.part c.turns.tally c.turns.log c.turns.invariant.underway
+    (λ settled. true≢false (sym (c.settled.ensures.1 settled) ∙ c.if-settled.false)) c.turns-test.true
+    c.in_ok-raced.saved c.in_ok-raced.raced c.race_round.new.log c.in_ok-raced.ensures.ok c.count.new.tally c.count.ensures c.if-saved-eq0.true c.in-Some.saved c.sweep_round.new.log c.sweep_round.new.part
+    (subst (λ (o : Option ℕ). SweepsOrRests c.args.h.now c.args.task.now c.in_ok-raced.raced c.race_round.new.log c.sweep_round.new.log o
+    c.sweep_round.new.part) c.in-Some.is c.in_ok-saved.ensures.ok) in
     let a = room.1 in
     omega arith
 
@@ -114,22 +114,22 @@ turns-preserved g c =
     let bounds = subst IsWithinLimits c.requires.belongs c.blocks-blocks.ensures.parted.bounds in
     elim c.if-saved-eq0.branch [
       | then-saved-eq0+in_ok-saved+in-Some w ↦ record {
-          underway = under_same_as c.args.h.now c.args.task.now c.args.p c.args.tally.now c.args.log.now (c.turns.counter + 1) w.part-is w.tally-is w.log-is
-              (swept_lower c.args.h.now c.args.task.now c.args.p c.args.tally.now c.args.log.now c.requires.belongs whole c.requires.fits bounds
-        c.requires.tallied.0 c.requires.tallied.1 c.turns.counter c.turns.part c.turns.tally c.turns.log c.turns.invariant.underway
-        (λ settled. true≢false (sym (c.settled.ensures.1 settled) ∙ c.if-settled.false)) c.turns-test.true
-        c.in_ok-raced.saved c.in_ok-raced.raced c.race_round.new.log c.in_ok-raced.ensures.ok c.count.new.tally c.count.ensures w.if-saved-eq0.true w.in-Some.saved w.sweep_round.new.log w.sweep_round.new.part
-              (subst (λ (o : Option ℕ). SweepsOrRests c.args.h.now c.args.task.now c.in_ok-raced.raced c.race_round.new.log w.sweep_round.new.log o
-              w.sweep_round.new.part) w.in-Some.is w.in_ok-saved.ensures.ok)
-              w.count-then-saved-eq0.new.tally w.count-then-saved-eq0.ensures);
-        }
+        underway = under_same_as c.args.h.now c.args.task.now c.args.p c.args.tally.now c.args.log.now (c.turns.counter + 1) w.part-is w.tally-is w.log-is
+            (swept_lower c.args.h.now c.args.task.now c.args.p c.args.tally.now c.args.log.now c.requires.belongs whole c.requires.fits bounds
+            c.requires.tallied.0 c.requires.tallied.1 c.turns.counter c.turns.part c.turns.tally c.turns.log c.turns.invariant.underway
+            (λ settled. true≢false (sym (c.settled.ensures.1 settled) ∙ c.if-settled.false)) c.turns-test.true
+            c.in_ok-raced.saved c.in_ok-raced.raced c.race_round.new.log c.in_ok-raced.ensures.ok c.count.new.tally c.count.ensures w.if-saved-eq0.true w.in-Some.saved w.sweep_round.new.log w.sweep_round.new.part
+            (subst (λ (o : Option ℕ). SweepsOrRests c.args.h.now c.args.task.now c.in_ok-raced.raced c.race_round.new.log w.sweep_round.new.log o
+            w.sweep_round.new.part) w.in-Some.is w.in_ok-saved.ensures.ok)
+            w.count-then-saved-eq0.new.tally w.count-then-saved-eq0.ensures);
+      }
       | else-saved-eq0 w ↦ record {
-          underway = under_same_as c.args.h.now c.args.task.now c.args.p c.args.tally.now c.args.log.now (c.turns.counter + 1) w.part-is w.tally-is w.log-is
-              (raced_lower c.args.h.now c.args.task.now c.args.p c.args.tally.now c.args.log.now c.requires.belongs whole c.requires.fits bounds
-        c.requires.tallied.0 c.requires.tallied.1 c.turns.counter c.turns.part c.turns.tally c.turns.log c.turns.invariant.underway
-        (λ settled. true≢false (sym (c.settled.ensures.1 settled) ∙ c.if-settled.false)) c.turns-test.true
-        c.in_ok-raced.saved c.in_ok-raced.raced c.race_round.new.log c.in_ok-raced.ensures.ok c.count.new.tally c.count.ensures (let some = w.if-saved-eq0.false in omega arith));
-        }
+        underway = under_same_as c.args.h.now c.args.task.now c.args.p c.args.tally.now c.args.log.now (c.turns.counter + 1) w.part-is w.tally-is w.log-is
+            (raced_lower c.args.h.now c.args.task.now c.args.p c.args.tally.now c.args.log.now c.requires.belongs whole c.requires.fits bounds
+            c.requires.tallied.0 c.requires.tallied.1 c.turns.counter c.turns.part c.turns.tally c.turns.log c.turns.invariant.underway
+            (λ settled. true≢false (sym (c.settled.ensures.1 settled) ∙ c.if-settled.false)) c.turns-test.true
+            c.in_ok-raced.saved c.in_ok-raced.raced c.race_round.new.log c.in_ok-raced.ensures.ok c.count.new.tally c.count.ensures (let some = w.if-saved-eq0.false in omega arith));
+      }
     ]
 
 pub returns-clause-pass : goal.returns-clause-pass

@@ -22,7 +22,7 @@ swept-requires-clause-few c =
 pub swept-requires-clause-lower : goal.swept-requires-clause-lower
 swept-requires-clause-lower c =
     let less = cheaper c.args.h.now c.args.task.now c.args.part.now c.sweep.new.self c.in_ok-sweep.ensures.after
-        (λ settled. true≢false (sym c.if-not-branch.false ∙ c.in_ok-sweep.ensures.settled.1 settled)) in
+    (λ settled. true≢false (sym c.if-not-branch.false ∙ c.in_ok-sweep.ensures.settled.1 settled)) in
     let before = c.cost-before.ensures.value in
     let after = c.cost-after.ensures.value in
     omega arith
@@ -30,7 +30,7 @@ swept-requires-clause-lower c =
 pub overflow_sub-result : goal.overflow_sub-result
 overflow_sub-result c =
     let less = cheaper c.args.h.now c.args.task.now c.args.part.now c.sweep.new.self c.in_ok-sweep.ensures.after
-        (λ settled. true≢false (sym c.if-not-branch.false ∙ c.in_ok-sweep.ensures.settled.1 settled)) in
+    (λ settled. true≢false (sym c.if-not-branch.false ∙ c.in_ok-sweep.ensures.settled.1 settled)) in
     let before = c.cost-before.ensures.value in
     let after = c.cost-after.ensures.value in
     omega arith
