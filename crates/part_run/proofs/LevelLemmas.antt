@@ -4,6 +4,7 @@ use Rattle.std.proofs.lemmas.Nat.{mul-le}
 use Rattle.std.proofs.lemmas.List.{length-map}
 use Rattle.std.proofs.lemmas.List.Elements.{All-nil, All-cons}
 use Rattle.hg_defs.specs.Hypergraph.{Hyper, vertex_count, net_count, total_weight, IsHypergraph, IsFixedWithin, Suits}
+use Rattle.hg_defs.specs.Partition.{Fits}
 use Rattle.hg_defs.specs.Contraction.{contract, images, merged_weight}
 use Rattle.hg_defs.specs.Clustering.{cluster_count, cluster_cap, IsClustering}
 use Rattle.hg_defs.specs.Levels.{level, coarsest}
@@ -147,3 +148,39 @@ module _ (kinds : List Kind) (s : Stack) (stop : Stop) (number : ℕ) (first : L
   run_tallies l ts long down best =
       sym (tallies_swept kinds s.base job.k l job.workers s.maps number first old.last best.swept q old.rounds best.sweeps ts long down.descent best.settled)
       ∙ ap (λ (rs : List LoggedRound). tallies_with rs kinds ts) (sym (ap (λ (t : Trace). t.rounds) best.trace))
+
+  -- the same, where the numbers are told in other words
+  pub run_told : (h g : Hyper) (l k' l' : ℕ) → IsPlaceableFor h job → l ≡ limit_of h job → s.base ≡ h → g ≡ s.base → k' ≡ job.k → l' ≡ l →
+      AreContracted (IsGoodClustering job.k) 0 h job.k s.maps → IsStop (IsGoodClustering job.k) (length s.maps) (coarsest h s.maps) job.k stop →
+      IsStartAt s job.k l job.seed number first → IsRefinedDown kinds s stop number first job.k l job.workers old → IsSound s.base job.k l old.last →
+      SettlesBest g k' l' old new q → IsLegalBy kinds h job new q
+  run_told h g l k' l' ready is base same_g same_k same_l contracted stopped start down sound best =
+      run_legal h ready base contracted stopped
+      (subst (λ (x : ℕ). IsStartAt s job.k x job.seed number first) is start)
+      (subst (λ (x : ℕ). IsRefinedDown kinds s stop number first job.k x job.workers old) is down)
+      (subst (λ (x : ℕ). IsSound s.base job.k x old.last) is sound)
+      (subst (λ (x : Hyper). SettlesBest x job.k (limit_of h job) old new q) same_g
+      (subst (λ (x : ℕ). SettlesBest g x (limit_of h job) old new q) same_k
+      (subst (λ (x : ℕ). SettlesBest g k' x old new q) (same_l ∙ is) best)))
+
+  pub tallies_told : (g : Hyper) (l k' l' : ℕ) (ts : List Tally) → g ≡ s.base → k' ≡ job.k → l' ≡ l → length kinds ≡ length ts →
+      IsRefinedDown kinds s stop number first job.k l job.workers old → SettlesBest g k' l' old new q →
+      tallies_with old.rounds kinds ts ≡ tallies_with new.rounds kinds ts
+  tallies_told g l k' l' ts same_g same_k same_l long down best =
+      run_tallies l ts long down
+      (subst (λ (x : Hyper). SettlesBest x job.k l old new q) same_g
+      (subst (λ (x : ℕ). SettlesBest g x l old new q) same_k (subst (λ (x : ℕ). SettlesBest g k' x old new q) same_l best)))
+
+-- what holds of the file's hypergraph holds of the base of its stack
+pub partable_over : (k : ℕ) (s : Stack) (h : Hyper) → s.base ≡ h → IsHypergraph h → AreContracted (IsGoodClustering k) 0 h k s.maps → Suits h k →
+    IsFixedWithin h k → ArePartable s k
+partable_over k s h base sound contracted suits fixed =
+    levels_partable k s (subst IsHypergraph (sym base) sound)
+    (subst (λ (g : Hyper). AreContracted (IsGoodClustering k) 0 g k s.maps) (sym base) contracted)
+    (subst (λ (g : Hyper). Suits g k) (sym base) suits)
+    (subst (λ (g : Hyper). IsFixedWithin g k) (sym base) fixed)
+
+pub fits_over : (h g : Hyper) (k k' l l' : ℕ) (p : List ℕ) → g ≡ h → k' ≡ k → l' ≡ l → Fits h k l p → Fits g k' l' p
+fits_over h g k k' l l' p same_g same_k same_l fits =
+    subst (λ (x : Hyper). Fits x k' l' p) (sym same_g)
+    (subst (λ (x : ℕ). Fits h x l' p) (sym same_k) (subst (λ (x : ℕ). Fits h k x p) (sym same_l) fits))
