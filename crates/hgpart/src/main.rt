@@ -4,6 +4,7 @@
 
 use crew::OpenGate;
 use flow_pair::FlowPair;
+use fm_search::FmSearch;
 use hg_defs::NoMemory;
 use hg_io::{AnySink, AnySource, Place, StdSink};
 use label_prop::LabelProp;
@@ -43,10 +44,13 @@ fn carry_out<H: Threads + Sync>(rt: HostRuntime, threads: &H, words: &[String]) 
     let Ok(label) = Box::new(rt.alloc(), LabelProp::new(rt, OpenGate)) else {
         return Status::NoMemory;
     };
+    let Ok(search) = Box::new(rt.alloc(), FmSearch::new(rt, OpenGate)) else {
+        return Status::NoMemory;
+    };
     let Ok(flow) = Box::new(rt.alloc(), FlowPair::new()) else {
         return Status::NoMemory;
     };
-    let mut refiners: [Box<dyn Refiner>; 2] = [label, flow];
+    let mut refiners: [Box<dyn Refiner>; 3] = [label, search, flow];
     run(
         threads,
         rt.alloc(),

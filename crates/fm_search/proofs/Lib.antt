@@ -1,0 +1,7 @@
+pub mod PassLaws
+pub mod PossibleLaws
+pub mod TakenLaws
+pub mod RaceLaws
+pub mod LogLaws
+pub mod SharingLaws
+pub mod SingleLaws

@@ -1,0 +1,8 @@
+-- The workers may share the round.
+use denote.Param.Send.{sendable}
+use Rattle.std.proofs.Crossing.{crosses}
+use Rattle.fm_search.proofs.SharingLaws.{shared_sync}
+use Rattle.fm_search.proofs.race.search_all.Goals as goal
+
+pub each-requires-sync-F : goal.each-requires-sync-F
+each-requires-sync-F g c κs within = search (sendable, crosses, shared_sync) depth 20

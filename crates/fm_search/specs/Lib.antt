@@ -1,0 +1,4 @@
+pub mod Standing
+pub mod Possible
+pub mod Logging
+pub mod Workers

@@ -1,0 +1,255 @@
+//! What a worker remembers while it searches. It is made once a pass, and used for all its searches.
+
+ghost use Rattle.std.specs.Prelude.{◌≡◌, ◌≢◌, ◌<◌, ◌≤◌, IfOk, IfSome, OnOk, vec_len};
+ghost use Rattle.hg_defs.specs.Hypergraph.{vertex_count, net_count};
+ghost use Rattle.fm_search.specs.Standing.{IsOf};
+
+use crate::cells::{BLANK, Cell};
+use crate::change::Change;
+use crate::mover::Mover;
+use crate::queue::{Offer, Queue};
+use crate::reading::{Choice, best_block, read_vertex};
+use crate::shared::Shared;
+use hg_base::NoMemory;
+use incidence::Hypergraph;
+use std::alloc::Global;
+use std::marker::Model;
+
+/// A worker keeps the cells of so many blocks at most, beside one row of them.
+const MOST_CELLS: u32 = 1 << 20;
+
+/// What a worker remembers of a vertex.
+#[derive(Clone, Copy)]
+pub(crate) struct Mark {
+    /// The search in which it was read last.
+    search: u32,
+    /// Where its row of cells starts.
+    start: u32,
+    /// The round in which the worker moved it or found it taken.
+    round: u32,
+    /// Whether it waits to be offered.
+    listed: bool,
+}
+
+/// Makes room for so many cells.
+fn reach(cells: &mut Vec<Cell>, count: usize) -> Result<(), NoMemory>
+    ensures kept { vec_len cells.old ≤ vec_len cells.new }
+    ensures ok { OnOk result (count ≤ vec_len cells.new) }
+{
+    if cells.len() < count {
+        cells.resize(count, BLANK)?;
+    }
+    Ok(())
+}
+
+/// What a worker remembers while it searches: a mark for each vertex, the search that walked each net last, and
+/// for the vertices that were read in this search a row of cells. Contracts see how large it is.
+#[derive(Drop)]
+pub(crate) struct Desk {
+    k: u32,
+    search: u32,
+    round: u32,
+    next: u32,
+    marks: Vec<Mark>,
+    walked: Vec<u32>,
+    cells: Vec<Cell>,
+    listed: Vec<u32>,
+    queue: Queue,
+}
+
+impl Model for Desk {
+    ghost use Rattle.std.specs.Prelude.{◌≡◌, ◌+◌, ◌<◌, ◌≤◌, All, vec_len};
+    ghost use Rattle.fm_search.specs.Standing.{Size};
+
+    ghost Value = { Size };
+
+    ghost view = { λ d. record { vertices = vec_len d.marks; nets = vec_len d.walked; blocks = d.k } };
+
+    ghost invariant = { λ d. (d.queue ≡ vec_len d.marks) × (d.k ≤ 256)
+        × All (λ m. m.start + d.k ≤ vec_len d.cells) d.marks.items
+        × All (λ v. v < vec_len d.marks) d.listed.items };
+}
+
+impl Desk {
+    /// Makes room for searches of a hypergraph and so many blocks.
+    pub(crate) fn make(alloc: Global, h: &Hypergraph, k: u32) -> Result<Self, NoMemory>
+        requires { k ≤ 256 }
+        ensures { IfOk result (λ d. d ≡ record { vertices = vertex_count h.now; nets = net_count h.now; blocks = k }) }
+    {
+        let mark = Mark {
+            search: 0,
+            start: 0,
+            round: 0,
+            listed: false,
+        };
+        Ok(Desk {
+            k,
+            search: 0,
+            round: 0,
+            next: 0,
+            marks: vec![in alloc; mark; h.vertices() as usize]?,
+            walked: vec![in alloc; 0u32; h.nets() as usize]?,
+            cells: vec![in alloc; BLANK; k as usize]?,
+            listed: Vec::new(alloc),
+            queue: Queue::start(alloc, h.vertices()),
+        })
+    }
+
+    /// Begins a round, in which no vertex is gone yet.
+    pub(crate) fn begin_round(&mut self)
+        ensures { self.new ≡ self.old }
+    {
+        self.round = self.round.wrapping_add(1);
+    }
+
+    /// Begins a search, which has read nothing.
+    pub(crate) fn begin_search(&mut self)
+        ensures { self.new ≡ self.old }
+    {
+        self.search = self.search.wrapping_add(1);
+        self.next = 0;
+        self.queue.clear();
+    }
+
+    /// Whether the worker moved a vertex in this round, or found it taken.
+    pub(crate) fn is_gone(&self, v: u32) -> bool
+        requires { v < self.now.vertices }
+    {
+        self.marks[v as usize].round == self.round
+    }
+
+    /// A vertex was moved, or can't be.
+    pub(crate) fn leave(&mut self, v: u32)
+        requires { v < self.old.vertices }
+        ensures { self.new ≡ self.old }
+    {
+        self.marks[v as usize].round = self.round;
+    }
+
+    /// Adds an offer.
+    pub(crate) fn offer(&mut self, gain: i64, pull: i64, v: u32) -> Result<(), NoMemory>
+        requires { v < self.old.vertices }
+        ensures { self.new ≡ self.old }
+    {
+        self.queue.push(gain, pull, v)
+    }
+
+    /// Takes the highest offer.
+    pub(crate) fn pop(&mut self) -> Option<Offer>
+        ensures same { self.new ≡ self.old }
+        ensures vertex { IfSome result (λ offer. offer.2 < self.old.vertices) }
+    {
+        self.queue.pop()
+    }
+
+    /// Takes a vertex that was listed.
+    pub(crate) fn unlist(&mut self) -> Option<u32>
+        ensures same { self.new ≡ self.old }
+        ensures vertex { IfSome result (λ v. v < self.old.vertices) }
+    {
+        let v = self.listed.pop()?;
+        self.marks[v as usize].listed = false;
+        Some(v)
+    }
+
+    /// Walks a net, and tells whether it is the first time in this search.
+    pub(crate) fn walk(&mut self, e: u32) -> bool
+        requires { e < self.old.nets }
+        ensures { self.new ≡ self.old }
+    {
+        let first = self.walked[e as usize] != self.search;
+        self.walked[e as usize] = self.search;
+        first
+    }
+
+    /// Reads the gains of a vertex in `block` into its row, anew where it has one. Tells whether there was a
+    /// row for it.
+    pub(crate) fn read(
+        &mut self,
+        shared: &Shared<'_>,
+        mover: &mut Mover,
+        v: u32,
+        block: u32,
+    ) -> Result<bool, NoMemory>
+        requires belongs { IsOf shared.now.round.now mover.old }
+        requires blocks { self.old.blocks ≡ shared.now.k }
+        requires marked { v < self.old.vertices }
+        requires vertex { v < vertex_count shared.now.h.now }
+        requires block { block < shared.now.k }
+        ensures same { self.new ≡ self.old }
+        ensures mover { mover.new ≡ mover.old }
+    {
+        if self.marks[v as usize].search != self.search {
+            let start = self.next;
+            if start >= MOST_CELLS {
+                return Ok(false);
+            }
+            reach(&mut self.cells, (start + self.k) as usize)?;
+            self.next = start + self.k;
+            let mark = &mut self.marks[v as usize];
+            mark.search = self.search;
+            mark.start = start;
+        }
+        let start = self.marks[v as usize].start as usize;
+        let row = &mut self.cells.as_mut_slice()[start..start + self.k as usize];
+        for cell in row.iter_mut() {
+            *cell = BLANK;
+        }
+        read_vertex(shared, mover, row, v, block);
+        Ok(true)
+    }
+
+    /// Where a vertex in `block` gains most, by its row.
+    pub(crate) fn choose(
+        &self,
+        shared: &Shared<'_>,
+        mover: &mut Mover,
+        v: u32,
+        block: u32,
+    ) -> Option<Choice>
+        requires belongs { IsOf shared.now.round.now mover.old }
+        requires blocks { self.now.blocks ≡ shared.now.k }
+        requires marked { v < self.now.vertices }
+        requires vertex { v < vertex_count shared.now.h.now }
+        requires block { block < shared.now.k }
+        ensures mover { mover.new ≡ mover.old }
+        ensures block { IfSome result (λ c. c.to < shared.now.k) }
+        ensures other { IfSome result (λ c. c.to ≢ block) }
+    {
+        let start = self.marks[v as usize].start as usize;
+        let row = &self.cells.as_slice()[start..start + self.k as usize];
+        best_block(shared, mover, row, v, block)
+    }
+
+    /// Whether a vertex was read in this search.
+    pub(crate) fn is_read(&self, v: u32) -> bool
+        requires { v < self.now.vertices }
+    {
+        self.marks[v as usize].search == self.search
+    }
+
+    /// Tells a vertex in `block` of a change on one of its nets, and lists it where it wasn't read yet or one of
+    /// its gains may have risen.
+    pub(crate) fn tell(&mut self, v: u32, block: u32, change: &Change) -> Result<(), NoMemory>
+        requires vertex { v < self.old.vertices }
+        requires from { change.now.from < self.old.blocks }
+        requires to { change.now.to < self.old.blocks }
+        ensures { self.new ≡ self.old }
+    {
+        let mark = self.marks[v as usize];
+        if mark.round == self.round {
+            return Ok(());
+        }
+        let mut rises = true;
+        if mark.search == self.search {
+            let start = mark.start as usize;
+            let row = &mut self.cells.as_mut_slice()[start..start + self.k as usize];
+            rises = change.adjust(row, block);
+        }
+        if rises && !mark.listed {
+            self.marks[v as usize].listed = true;
+            self.listed.push(v)?;
+        }
+        Ok(())
+    }
+}

@@ -1,0 +1,219 @@
+//! A worker: it draws seeds, and grows a search from each.
+
+ghost use Rattle.std.specs.Prelude.{◌≡◌, ◌≢◌, ◌<◌, ◌≤◌, IfOk, IfSome, length};
+ghost use Rattle.hg_defs.specs.Hypergraph.{vertex_count, net_count, net_of, IsFree};
+ghost use Rattle.hg_defs.specs.Partition.{block_of};
+ghost use Rattle.fm_search.specs.Standing.{IsFit};
+
+use crate::change::Change;
+use crate::desk::Desk;
+use crate::mover::{Mover, Outcome};
+use crate::queue::Offer;
+use crate::reading::{Choice, scored};
+use crate::shared::Shared;
+use crate::streak::Streak;
+use crew::Gate;
+use hg_base::{FREE, NoMemory};
+
+/// The neighbours through nets of more pins aren't looked at.
+const MOST_PINS: usize = 1000;
+
+/// What a worker owns.
+#[derive(Drop)]
+pub(crate) struct Worker {
+    pub(crate) mover: Mover,
+    pub(crate) desk: Desk,
+}
+
+impl Worker {
+    /// Reads the gains of a vertex anew, and tells where it gains most.
+    fn look(&mut self, shared: &Shared<'_>, v: u32, block: u32) -> Result<Option<Choice>, NoMemory>
+        requires fit { IsFit shared.now.round.now shared.now.h.now shared.now.k self.old.mover self.old.desk }
+        requires vertex { v < vertex_count shared.now.h.now }
+        requires block { block < shared.now.k }
+        ensures mover { self.new.mover ≡ self.old.mover }
+        ensures desk { self.new.desk ≡ self.old.desk }
+        ensures block { IfOk result (λ choice. IfSome choice (λ c. c.to < shared.now.k)) }
+        ensures other { IfOk result (λ choice. IfSome choice (λ c. c.to ≢ block)) }
+    {
+        Ok(if self.desk.read(shared, &mut self.mover, v, block)? {
+            self.desk.choose(shared, &mut self.mover, v, block)
+        } else {
+            None
+        })
+    }
+
+    /// Offers a vertex that was listed.
+    fn offer(&mut self, shared: &Shared<'_>, v: u32) -> Result<(), NoMemory>
+        requires fit { IsFit shared.now.round.now shared.now.h.now shared.now.k self.old.mover self.old.desk }
+        requires vertex { v < vertex_count shared.now.h.now }
+        ensures mover { self.new.mover ≡ self.old.mover }
+        ensures desk { self.new.desk ≡ self.old.desk }
+    {
+        if shared.h.fix(v) != FREE {
+            self.desk.leave(v);
+            return Ok(());
+        }
+        let block = shared.round.opening(v);
+        let choice = if self.desk.is_read(v) {
+            self.desk.choose(shared, &mut self.mover, v, block)
+        } else {
+            self.look(shared, v, block)?
+        };
+        match choice {
+            Some(choice) => self.desk.offer(choice.gain, choice.pull, v),
+            None => Ok(()),
+        }
+    }
+
+    /// Tells the pins of a net that one of them moved.
+    fn tell_net(&mut self, shared: &Shared<'_>, e: u32, from: u32, to: u32) -> Result<(), NoMemory>
+        requires fit { IsFit shared.now.round.now shared.now.h.now shared.now.k self.old.mover self.old.desk }
+        requires net { e < net_count shared.now.h.now }
+        requires pins { 2 ≤ length (net_of shared.now.h.now e).pins }
+        requires from { from < shared.now.k }
+        requires to { to < shared.now.k }
+        ensures mover { self.new.mover ≡ self.old.mover }
+        ensures desk { self.new.desk ≡ self.old.desk }
+    {
+        let net = scored(shared.h, e);
+        let from_count = self.mover.count(shared.round, e, from);
+        let to_count = self.mover.count(shared.round, e, to);
+        let change = Change::of(&net, from, to, from_count, to_count);
+        if !self.desk.walk(e) && change.is_nothing() {
+            return Ok(());
+        }
+        'pins: for v in shared.h.pins(e) {
+            self.desk.tell(*v, shared.round.opening(*v), &change)?;
+        }
+        Ok(())
+    }
+
+    /// Tells the neighbours of a vertex that it moved, and offers those that it brings near.
+    fn tell(&mut self, shared: &Shared<'_>, v: u32, from: u32, to: u32) -> Result<(), NoMemory>
+        requires fit { IsFit shared.now.round.now shared.now.h.now shared.now.k self.old.mover self.old.desk }
+        requires vertex { v < vertex_count shared.now.h.now }
+        requires from { from < shared.now.k }
+        requires to { to < shared.now.k }
+        ensures mover { self.new.mover ≡ self.old.mover }
+        ensures desk { self.new.desk ≡ self.old.desk }
+    {
+        'nets: for e in shared.h.nets_of(v) {
+            let size = shared.h.pins(*e).len();
+            if size >= 2 && size <= MOST_PINS {
+                self.tell_net(shared, *e, from, to)?;
+            }
+        }
+        'listed: for _ in 0..u32::MAX {
+            let Some(u) = self.desk.unlist() else {
+                break;
+            };
+            self.offer(shared, u)?;
+        }
+        Ok(())
+    }
+
+    /// Tries to move a vertex, and goes on from there.
+    fn go(
+        &mut self,
+        shared: &Shared<'_>,
+        v: u32,
+        from: u32,
+        to: u32,
+        streak: &mut Streak,
+    ) -> Result<(), NoMemory>
+        requires fit { IsFit shared.now.round.now shared.now.h.now shared.now.k self.old.mover self.old.desk }
+        requires vertex { v < vertex_count shared.now.h.now }
+        requires free { IsFree shared.now.h.now v }
+        requires from { from ≡ block_of shared.now.round.now.terms.part.blocks v }
+        requires block { from < shared.now.k }
+        requires to { to < shared.now.k }
+        requires other { to ≢ from }
+        ensures mover { self.new.mover ≡ self.old.mover }
+        ensures desk { self.new.desk ≡ self.old.desk }
+    {
+        match self.mover.carry(shared.round, v, to)? {
+            Outcome::Full => {}
+            Outcome::Taken => self.desk.leave(v),
+            Outcome::Moved(gain) => {
+                self.desk.leave(v);
+                shared.progress.add(gain);
+                streak.add(gain);
+                if !streak.is_over() {
+                    self.tell(shared, v, from, to)?;
+                }
+            }
+        }
+        Ok(())
+    }
+
+    /// Takes up an offer: where the vertex gains less by now, it is offered again, and else it moves.
+    fn take_up(
+        &mut self,
+        shared: &Shared<'_>,
+        offer: Offer,
+        streak: &mut Streak,
+    ) -> Result<(), NoMemory>
+        requires fit { IsFit shared.now.round.now shared.now.h.now shared.now.k self.old.mover self.old.desk }
+        requires vertex { offer.2 < vertex_count shared.now.h.now }
+        ensures mover { self.new.mover ≡ self.old.mover }
+        ensures desk { self.new.desk ≡ self.old.desk }
+    {
+        let (gain, _, v) = offer;
+        if self.desk.is_gone(v) || shared.h.fix(v) != FREE {
+            return Ok(());
+        }
+        let block = shared.round.opening(v);
+        match self.look(shared, v, block)? {
+            None => Ok(()),
+            Some(choice) if choice.gain < gain => self.desk.offer(choice.gain, choice.pull, v),
+            Some(choice) => self.go(shared, v, block, choice.to, streak),
+        }
+    }
+
+    /// Grows a search from a seed, which moves whatever its gain.
+    fn search(&mut self, shared: &Shared<'_>, seed: u32) -> Result<(), NoMemory>
+        requires fit { IsFit shared.now.round.now shared.now.h.now shared.now.k self.old.mover self.old.desk }
+        requires vertex { seed < vertex_count shared.now.h.now }
+        ensures mover { self.new.mover ≡ self.old.mover }
+        ensures desk { self.new.desk ≡ self.old.desk }
+    {
+        self.desk.begin_search();
+        self.desk.offer(i64::MIN, 0, seed)?;
+        let mut streak = Streak::new();
+        'turns: for _ in 0..u32::MAX {
+            if streak.is_over() || shared.progress.is_stopped() {
+                break;
+            }
+            let Some(offer) = self.desk.pop() else {
+                break;
+            };
+            self.take_up(shared, offer, &mut streak)?;
+        }
+        Ok(())
+    }
+
+    /// Draws seeds, and grows a search from each. It passes the gate before each draw.
+    pub(crate) fn run<G: Gate>(&mut self, shared: &Shared<'_>, gate: &G, number: u32)
+        requires fit { IsFit shared.now.round.now shared.now.h.now shared.now.k self.old.mover self.old.desk }
+        requires fresh { self.old.mover.seeds ≡ 0 }
+        ensures mover { self.new.mover ≡ record self.old.mover { seeds = self.new.mover.seeds } }
+        ensures desk { self.new.desk ≡ self.old.desk }
+    {
+        self.desk.begin_round();
+        'seeds: for turn in 0..shared.seeds.len() {
+            if !shared.progress.goes_on() {
+                return;
+            }
+            gate.pass(number, turn as u64);
+            let drawn = self.mover.draw(shared.round);
+            if drawn >= shared.seeds.len() as u64 {
+                return;
+            }
+            if self.search(shared, shared.seed(drawn)).is_err() {
+                shared.progress.stop();
+                return;
+            }
+        }
+    }
+}
