@@ -2,6 +2,8 @@
 //! hypergraphs to try it on.
 #![tactic(auto)]
 
+ghost use Rattle.std.specs.Prelude.{◌≡◌, ◌≢◌, ◌<◌, ◌^◌, All, AllPairs, map};
+
 use crew::OpenGate;
 use flow_pair::FlowPair;
 use fm_search::FmSearch;
@@ -31,8 +33,17 @@ fn words(rt: &HostRuntime) -> Result<Vec<String>, Status> {
     Ok(words)
 }
 
-/// Carries out the command that the words spell, over files and the standard streams.
-fn carry_out<H: Threads + Sync>(rt: HostRuntime, threads: &H, words: &[String]) -> Status {
+/// Carries out the command that the words spell, over files and the standard streams, with these refiners.
+fn carry_out<H: Threads + Sync>(
+    rt: HostRuntime,
+    threads: &H,
+    words: &[String],
+    refiners: &mut [Box<dyn Refiner>],
+) -> Status
+    requires may_run { All (λ b. may_run b) refiners.old }
+    requires kinds { AllPairs (λ a b. a ≢ b) (map (λ b. kind b) refiners.old) }
+    requires tallied { All (λ b. ((tally b).rounds < 2 ^ 61) × ((tally b).gain < 2 ^ 61)) refiners.old }
+{
     let names = match names(rt.alloc(), words) {
         Ok(names) => names,
         Err(NoMemory) => return Status::NoMemory,
@@ -41,16 +52,6 @@ fn carry_out<H: Threads + Sync>(rt: HostRuntime, threads: &H, words: &[String]) 
     let mut extra = AnySource::at(rt, rt.stdin(), names.extra);
     let mut out = AnySink::at(rt, rt.stdout(), rt.stderr(), names.out);
     let mut report = AnySink::at(rt, rt.stdout(), rt.stderr(), names.report);
-    let Ok(label) = Box::new(rt.alloc(), LabelProp::new(rt, OpenGate)) else {
-        return Status::NoMemory;
-    };
-    let Ok(search) = Box::new(rt.alloc(), FmSearch::new(rt, OpenGate)) else {
-        return Status::NoMemory;
-    };
-    let Ok(flow) = Box::new(rt.alloc(), FlowPair::new()) else {
-        return Status::NoMemory;
-    };
-    let mut refiners: [Box<dyn Refiner>; 3] = [label, search, flow];
     run(
         threads,
         rt.alloc(),
@@ -59,17 +60,32 @@ fn carry_out<H: Threads + Sync>(rt: HostRuntime, threads: &H, words: &[String]) 
         &mut extra,
         &mut out,
         &mut report,
-        &mut refiners,
+        refiners,
     )
     .status
 }
 
-fn main(rt: HostRuntime) -> ExitCode {
-    let status = match words(&rt) {
-        Ok(words) => carry_out(rt, &rt, words.as_slice()),
-        Err(status) => status,
-    };
+/// Tells how the program ends.
+fn end(rt: HostRuntime, status: Status) -> ExitCode {
     let mut errors = StdSink::over(rt.stderr());
     let _ = put_status(&mut errors, &status);
     ExitCode::from(status.code())
+}
+
+fn main(rt: HostRuntime) -> ExitCode {
+    let words = match words(&rt) {
+        Ok(words) => words,
+        Err(status) => return end(rt, status),
+    };
+    let Ok(label) = Box::new(rt.alloc(), LabelProp::new(rt, OpenGate)) else {
+        return end(rt, Status::NoMemory);
+    };
+    let Ok(search) = Box::new(rt.alloc(), FmSearch::new(rt, OpenGate)) else {
+        return end(rt, Status::NoMemory);
+    };
+    let Ok(flow) = Box::new(rt.alloc(), FlowPair::new()) else {
+        return end(rt, Status::NoMemory);
+    };
+    let mut refiners: [Box<dyn Refiner>; 3] = [label, search, flow];
+    end(rt, carry_out(rt, &rt, words.as_slice(), &mut refiners))
 }
