@@ -14,3 +14,6 @@ mod worker;
 
 pub use label::LabelProp;
 pub use pass::label_pass;
+
+#[cfg(test)]
+mod tests;

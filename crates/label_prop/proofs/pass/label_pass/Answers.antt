@@ -78,8 +78,10 @@ returns-in_default-clause-pass g c =
     rested_whole c.args.h.now c.args.task.now c.args.p c.args.tally.now c.args.log.now c.requires.belongs whole c.requires.fits bounds
     c.requires.tallied.0 c.requires.tallied.1 c.turns.counter c.turns.part c.turns.tally c.turns.log c.turns.invariant.underway
     (λ settled. true≢false (sym (c.settled.ensures.1 settled) ∙ c.if-settled.false)) c.turns-test.true
-    c.in_ok-raced.saved c.in_ok-raced.raced c.race_round.new.log c.in_ok-raced.ensures.ok c.count.new.tally c.count.ensures c.if-saved-eq0.true c.sweep_round.new.log c.sweep_round.new.part
-    (subst (λ (o : Option ℕ). SweepsOrRests c.args.h.now c.args.task.now c.in_ok-raced.raced c.race_round.new.log c.sweep_round.new.log o c.sweep_round.new.part)
+    c.in_ok-raced.saved c.in_ok-raced.raced c.race_round.new.log c.in_ok-raced.ensures.ok c.count.new.tally c.count.ensures c.if-saved-eq0.true
+    c.sweep_round.new.log c.sweep_round.new.part
+    (subst (λ (o : Option ℕ). SweepsOrRests c.args.h.now c.args.task.now c.in_ok-raced.raced c.race_round.new.log c.sweep_round.new.log o
+    c.sweep_round.new.part)
     c.in_default.is c.in_ok-saved.ensures.ok)
 
 pub count-requires-then-saved-eq0-clause-rounds : goal.count-requires-then-saved-eq0-clause-rounds
@@ -89,7 +91,8 @@ count-requires-then-saved-eq0-clause-rounds g c =
     let room = swept_room c.args.h.now c.args.task.now c.args.p c.args.tally.now c.args.log.now c.requires.belongs whole c.requires.fits bounds
     c.requires.tallied.0 c.requires.tallied.1 c.turns.counter c.turns.part c.turns.tally c.turns.log c.turns.invariant.underway
     (λ settled. true≢false (sym (c.settled.ensures.1 settled) ∙ c.if-settled.false)) c.turns-test.true
-    c.in_ok-raced.saved c.in_ok-raced.raced c.race_round.new.log c.in_ok-raced.ensures.ok c.count.new.tally c.count.ensures c.if-saved-eq0.true c.in-Some.saved c.sweep_round.new.log c.sweep_round.new.part
+    c.in_ok-raced.saved c.in_ok-raced.raced c.race_round.new.log c.in_ok-raced.ensures.ok c.count.new.tally c.count.ensures c.if-saved-eq0.true c.in-Some.saved
+    c.sweep_round.new.log c.sweep_round.new.part
     (subst (λ (o : Option ℕ). SweepsOrRests c.args.h.now c.args.task.now c.in_ok-raced.raced c.race_round.new.log c.sweep_round.new.log o
     c.sweep_round.new.part) c.in-Some.is c.in_ok-saved.ensures.ok) in
     let a = room.0 in
@@ -102,7 +105,8 @@ count-requires-then-saved-eq0-clause-gain g c =
     let room = swept_room c.args.h.now c.args.task.now c.args.p c.args.tally.now c.args.log.now c.requires.belongs whole c.requires.fits bounds
     c.requires.tallied.0 c.requires.tallied.1 c.turns.counter c.turns.part c.turns.tally c.turns.log c.turns.invariant.underway
     (λ settled. true≢false (sym (c.settled.ensures.1 settled) ∙ c.if-settled.false)) c.turns-test.true
-    c.in_ok-raced.saved c.in_ok-raced.raced c.race_round.new.log c.in_ok-raced.ensures.ok c.count.new.tally c.count.ensures c.if-saved-eq0.true c.in-Some.saved c.sweep_round.new.log c.sweep_round.new.part
+    c.in_ok-raced.saved c.in_ok-raced.raced c.race_round.new.log c.in_ok-raced.ensures.ok c.count.new.tally c.count.ensures c.if-saved-eq0.true c.in-Some.saved
+    c.sweep_round.new.log c.sweep_round.new.part
     (subst (λ (o : Option ℕ). SweepsOrRests c.args.h.now c.args.task.now c.in_ok-raced.raced c.race_round.new.log c.sweep_round.new.log o
     c.sweep_round.new.part) c.in-Some.is c.in_ok-saved.ensures.ok) in
     let a = room.1 in
@@ -118,7 +122,8 @@ turns-preserved g c =
             (swept_lower c.args.h.now c.args.task.now c.args.p c.args.tally.now c.args.log.now c.requires.belongs whole c.requires.fits bounds
             c.requires.tallied.0 c.requires.tallied.1 c.turns.counter c.turns.part c.turns.tally c.turns.log c.turns.invariant.underway
             (λ settled. true≢false (sym (c.settled.ensures.1 settled) ∙ c.if-settled.false)) c.turns-test.true
-            c.in_ok-raced.saved c.in_ok-raced.raced c.race_round.new.log c.in_ok-raced.ensures.ok c.count.new.tally c.count.ensures w.if-saved-eq0.true w.in-Some.saved w.sweep_round.new.log w.sweep_round.new.part
+            c.in_ok-raced.saved c.in_ok-raced.raced c.race_round.new.log c.in_ok-raced.ensures.ok c.count.new.tally c.count.ensures w.if-saved-eq0.true
+            w.in-Some.saved w.sweep_round.new.log w.sweep_round.new.part
             (subst (λ (o : Option ℕ). SweepsOrRests c.args.h.now c.args.task.now c.in_ok-raced.raced c.race_round.new.log w.sweep_round.new.log o
             w.sweep_round.new.part) w.in-Some.is w.in_ok-saved.ensures.ok)
             w.count-then-saved-eq0.new.tally w.count-then-saved-eq0.ensures);
@@ -128,7 +133,8 @@ turns-preserved g c =
             (raced_lower c.args.h.now c.args.task.now c.args.p c.args.tally.now c.args.log.now c.requires.belongs whole c.requires.fits bounds
             c.requires.tallied.0 c.requires.tallied.1 c.turns.counter c.turns.part c.turns.tally c.turns.log c.turns.invariant.underway
             (λ settled. true≢false (sym (c.settled.ensures.1 settled) ∙ c.if-settled.false)) c.turns-test.true
-            c.in_ok-raced.saved c.in_ok-raced.raced c.race_round.new.log c.in_ok-raced.ensures.ok c.count.new.tally c.count.ensures (let some = w.if-saved-eq0.false in omega arith));
+            c.in_ok-raced.saved c.in_ok-raced.raced c.race_round.new.log c.in_ok-raced.ensures.ok c.count.new.tally c.count.ensures
+            (let some = w.if-saved-eq0.false in omega arith));
       }
     ]
 

@@ -43,5 +43,6 @@ returns-clause-ok c =
     (λ settled. true≢false (sym c.if-not-branch.false ∙ c.in_ok-sweep.ensures.settled.1 settled))
     c.in_ok-made.made c.cost-before.result c.cost-after.result c.in_ok-swept.field-0 c.args.log.now c.add.new.self made c.cost-before.ensures.value
     c.cost-after.ensures.value c.in_ok-swept.ensures
-    (c.in_ok-add.ensures.ok ∙ ap (λ (rs : List LoggedRound). c.args.log.now ++ rs) (c.in_ok-push.ensures.ok ∙ ap (λ (rs : List LoggedRound). rs ++ c.in_ok-swept.field-0 ∷ [])
+    (c.in_ok-add.ensures.ok ∙ ap (λ (rs : List LoggedRound). c.args.log.now ++ rs) (c.in_ok-push.ensures.ok ∙
+    ap (λ (rs : List LoggedRound). rs ++ c.in_ok-swept.field-0 ∷ [])
     c.new-rounds.ensures))
