@@ -101,7 +101,8 @@ fn search_all<H: Threads + Sync, G: Gate>(
         workers,
         &|i, worker: &mut Worker|
             requires { (i < 64) × IsFreshAt shared.now.round.now shared.now.h.now shared.now.k i worker.now }
-            ensures { IsWorkerAt shared.entry.now.round.now shared.entry.now.h.now shared.entry.now.k i worker.exit.now }
+            ensures { IsWorkerAt shared.entry.now.round.now shared.entry.now.h.now shared.entry.now.k i
+                worker.exit.now }
         { worker.run(shared, gate, i as u32) },
     );
 }

@@ -66,6 +66,7 @@ fn leaves_local_optimum(rt: HostRuntime) -> Result<(), Fail> {
     let h = path(alloc)?;
     for seed in 0..8 {
         for workers in [1, 3] {
+            assert!(rt; 1 <= workers && workers <= 64);
             let p = parted(&rt, alloc, &h, 4, &[0, 0, 1, 1, 0, 0])?;
             assert!(rt; p.cost(&h) == 2 && p.settled(&h));
             let task = Task {

@@ -18,7 +18,8 @@ returns-then-not-is_empty-clause-round g c =
     (λ q. LogsSearchRound c.args.h.now c.args.task.now c.args.p q c.args.log.now c.race-then-not-is_empty.new.self)
     (λ q s. raced_logged c.args.h.now c.args.task.now c.args.p parted c.requires.fits c.in_ok-closed.closed c.in_ok-closed.ensures.opening
     c.in_ok-closed.ensures.part c.in_ok-closed.ensures.gains
-    (some_moves c.moves.result.now c.in_ok-closed.closed.moves c.moves.ensures (sym c.is_empty.ensures ∙ c.if-not-is_empty.true)) q c.args.log.now c.race-then-not-is_empty.new.self s)
+    (some_moves c.moves.result.now c.in_ok-closed.closed.moves c.moves.ensures (sym c.is_empty.ensures ∙ c.if-not-is_empty.true)) q c.args.log.now
+    c.race-then-not-is_empty.new.self s)
     c.race-then-not-is_empty.ensures.ok
 
 pub single_round-requires-clause-first : goal.single_round-requires-clause-first

@@ -40,7 +40,8 @@ returns-in_default-clause-pass g c =
 pub returns-in_err-next-clause-part : goal.returns-in_err-next-clause-part
 returns-in_err-next-clause-part g c =
     at_err c.from_residual.result
-    (subst (λ (xs : List LoggedRound). LogsRounds false Search c.args.h.now c.args.task.now c.args.p c.args.tally.now c.search_round.new.tally c.args.log.now xs)
+    (subst (λ (xs : List LoggedRound). LogsRounds false Search c.args.h.now c.args.task.now c.args.p c.args.tally.now c.search_round.new.tally c.args.log.now
+    xs)
     (sym c.in_err-next.ensures.err.0)
     (subst (λ (t : Tally). LogsRounds false Search c.args.h.now c.args.task.now c.args.p c.args.tally.now t c.args.log.now c.rounds.log)
     (sym c.in_err-next.ensures.err.1)

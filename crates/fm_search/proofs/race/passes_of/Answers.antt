@@ -11,7 +11,8 @@ use Rattle.fm_search.proofs.race.passes_of.Goals as goal
 pub workers-preserved : goal.workers-preserved
 workers-preserved c =
     let sized = taken_item (λ w. w.desk ≡ size_for c.args.h.now c.args.k) c.into_iter-worker-iterator.result c.workers.yielded c.workers.worker-iterator
-    c.in-Some.worker c.next.new.self c.workers.yielded_by (subst (λ r. into_iter_steps c.workers.worker-iterator r c.next.new.self) c.in-Some.is c.next.ensures.steps)
+    c.in-Some.worker c.next.new.self c.workers.yielded_by (subst (λ r. into_iter_steps c.workers.worker-iterator r c.next.new.self) c.in-Some.is
+    c.next.ensures.steps)
     (subst (All (λ w. w.desk ≡ size_for c.args.h.now c.args.k)) (sym c.into_iter-worker-iterator.ensures.into_iter_gives.0) c.requires.sizes) in
     record {
       movers =

@@ -13,7 +13,8 @@ passes-preserved c =
     let idle = taken_item (λ p. p.view.account.stage ≡ Idle) c.into_iter-pass-iterator.result c.passes.yielded c.passes.pass-iterator
     c.in-Some.pass c.next.new.self c.passes.yielded_by
     (subst (λ r. into_iter_steps c.passes.pass-iterator r c.next.new.self) c.in-Some.is c.next.ensures.steps)
-    (subst (All (λ p. p.view.account.stage ≡ Idle)) (sym (c.into_iter-pass-iterator.ensures.into_iter_gives.0 ∙ c.into_vec-pass-items.ensures)) c.requires.idle) in
+    (subst (All (λ p. p.view.account.stage ≡ Idle)) (sym (c.into_iter-pass-iterator.ensures.into_iter_gives.0 ∙ c.into_vec-pass-items.ensures))
+    c.requires.idle) in
     record {
       movers =
           ap (map (λ w. w.mover)) c.in_ok-push.ensures.items

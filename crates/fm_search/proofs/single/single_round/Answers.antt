@@ -17,7 +17,13 @@ roll_back-requires-clause-moves g c κs within =
     let h = c.args.h.now in
     let p : Parted = c.args.p.now in
     let parted = subst (λ (x : Hyper). IsParted x p.k p.blocks) c.requires.belongs c.blocks-2.ensures.parted in
-    let m : Move = record { vertex = c.args.first.0; from = get_or c.blocks-2.result.now c.args.first.0 0; to = c.args.first.1; worker = 0; booked = to_z w64 (of_z w64 c.gain.result) } in
+    let m : Move = record {
+      vertex = c.args.first.0;
+      from = get_or c.blocks-2.result.now c.args.first.0 0;
+      to = c.args.first.1;
+      worker = 0;
+      booked = to_z w64 (of_z w64 c.gain.result);
+    } in
     let from : m.from ≡ block_of p.blocks m.vertex = ap (λ xs. get_or xs c.args.first.0 0) c.blocks-2.ensures.value in
     let low : m.vertex < length p.blocks = let a = c.requires.first.possible.allowed.vertex in let b = parted.partition.vertices in omega arith in
     let rolled = c.slice.ensures ∙ (c.in_ok-push.ensures.ok ∙ ap (λ (xs : List Move). xs ++ m ∷ []) c.new-moves.ensures) in
@@ -29,7 +35,13 @@ roll_back-requires-clause-fits g c κs within =
     let h = c.args.h.now in
     let p : Parted = c.args.p.now in
     let parted = subst (λ (x : Hyper). IsParted x p.k p.blocks) c.requires.belongs c.blocks-2.ensures.parted in
-    let m : Move = record { vertex = c.args.first.0; from = get_or c.blocks-2.result.now c.args.first.0 0; to = c.args.first.1; worker = 0; booked = to_z w64 (of_z w64 c.gain.result) } in
+    let m : Move = record {
+      vertex = c.args.first.0;
+      from = get_or c.blocks-2.result.now c.args.first.0 0;
+      to = c.args.first.1;
+      worker = 0;
+      booked = to_z w64 (of_z w64 c.gain.result);
+    } in
     let from : m.from ≡ block_of p.blocks m.vertex = ap (λ xs. get_or xs c.args.first.0 0) c.blocks-2.ensures.value in
     let low : m.vertex < length p.blocks = let a = c.requires.first.possible.allowed.vertex in let b = parted.partition.vertices in omega arith in
     let rolled = c.slice.ensures ∙ (c.in_ok-push.ensures.ok ∙ ap (λ (xs : List Move). xs ++ m ∷ []) c.new-moves.ensures) in
@@ -40,7 +52,13 @@ returns-clause-round g c =
     let h = c.args.h.now in
     let p : Parted = c.args.p.now in
     let parted = subst (λ (x : Hyper). IsParted x p.k p.blocks) c.requires.belongs c.blocks-2.ensures.parted in
-    let m : Move = record { vertex = c.args.first.0; from = get_or c.blocks-2.result.now c.args.first.0 0; to = c.args.first.1; worker = 0; booked = to_z w64 (of_z w64 c.gain.result) } in
+    let m : Move = record {
+      vertex = c.args.first.0;
+      from = get_or c.blocks-2.result.now c.args.first.0 0;
+      to = c.args.first.1;
+      worker = 0;
+      booked = to_z w64 (of_z w64 c.gain.result);
+    } in
     let from : m.from ≡ block_of p.blocks m.vertex = ap (λ xs. get_or xs c.args.first.0 0) c.blocks-2.ensures.value in
     let low : m.vertex < length p.blocks = let a = c.requires.first.possible.allowed.vertex in let b = parted.partition.vertices in omega arith in
     let told = told_gain c.gain.result (cost h p.blocks) (cost h (moved p.blocks m.vertex m.to)) c.gain.ensures (cost-lt h p.blocks parted.bounds)
@@ -48,7 +66,8 @@ returns-clause-round g c =
     let rolled = c.slice.ensures ∙ (c.in_ok-push.ensures.ok ∙ ap (λ (xs : List Move). xs ++ m ∷ []) c.new-moves.ensures) in
     record {
       single = single h p.k p.limit p.blocks m parted c.requires.fits
-          (record { possible = c.requires.first.possible; vertex = c.requires.first.vertex; block = c.requires.first.block }) from refl (told ∙ c.gain.ensures) _
+          (record { possible = c.requires.first.possible; vertex = c.requires.first.vertex; block = c.requires.first.block }) from refl (told ∙ c.gain.ensures)
+          _
           (c.in_ok-push.ensures.ok ∙ ap (λ (xs : List Move). xs ++ m ∷ []) c.new-moves.ensures)
           (c.in_ok-push-2.ensures.ok ∙ ap₂ (λ (xs : List ℤ) (x : ℤ). xs ++ x ∷ []) c.new-gains.ensures (ap (λ (x : ℤ). to_z w64 (of_z w64 x)) told))
           c.cost-before.ensures.value
@@ -68,9 +87,17 @@ returns-clause-partition g c =
     let h = c.args.h.now in
     let p : Parted = c.args.p.now in
     let parted = subst (λ (x : Hyper). IsParted x p.k p.blocks) c.requires.belongs c.blocks-2.ensures.parted in
-    let m : Move = record { vertex = c.args.first.0; from = get_or c.blocks-2.result.now c.args.first.0 0; to = c.args.first.1; worker = 0; booked = to_z w64 (of_z w64 c.gain.result) } in
+    let m : Move = record {
+      vertex = c.args.first.0;
+      from = get_or c.blocks-2.result.now c.args.first.0 0;
+      to = c.args.first.1;
+      worker = 0;
+      booked = to_z w64 (of_z w64 c.gain.result);
+    } in
     let from : m.from ≡ block_of p.blocks m.vertex = ap (λ xs. get_or xs c.args.first.0 0) c.blocks-2.ensures.value in
     let low : m.vertex < length p.blocks = let a = c.requires.first.possible.allowed.vertex in let b = parted.partition.vertices in omega arith in
-    rolled_to h p c.shift.new.self m c.slice.result.now c.shift.ensures (c.slice.ensures ∙ (c.in_ok-push.ensures.ok ∙ ap (λ (xs : List Move). xs ++ m ∷ []) c.new-moves.ensures)) low from
+    rolled_to h p c.shift.new.self m c.slice.result.now c.shift.ensures
+    (c.slice.ensures ∙ (c.in_ok-push.ensures.ok ∙ ap (λ (xs : List Move). xs ++ m ∷ []) c.new-moves.ensures)) low from
     c.roll_back.new.p c.in_ok-kept.kept c.in_ok-kept.ensures.partition
-    ∙ ap (λ (ms : List Move). record p { blocks = replay_first p.blocks ms c.in_ok-kept.kept }) (sym (c.in_ok-push.ensures.ok ∙ ap (λ (xs : List Move). xs ++ m ∷ []) c.new-moves.ensures))
+    ∙ ap (λ (ms : List Move). record p { blocks = replay_first p.blocks ms c.in_ok-kept.kept })
+    (sym (c.in_ok-push.ensures.ok ∙ ap (λ (xs : List Move). xs ++ m ∷ []) c.new-moves.ensures))
