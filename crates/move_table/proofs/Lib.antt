@@ -16,3 +16,5 @@ pub mod GatherLaws
 pub mod EndLaws
 pub mod ClaimedLaws
 pub mod SharingLaws
+pub mod PassesLaws
+mod OrderLaws

@@ -1,7 +1,7 @@
 //! How a round is closed.
 
 ghost use Rattle.std.specs.Prelude.{◌≡◌, ◌≢◌, ℕ, ◌+◌, ◌<◌, ◌≤◌, length, map, drop, All};
-ghost use Rattle.std.specs.Prelude.{slice_index_or, IfOk, IfErr, OnOk, []};
+ghost use Rattle.std.specs.Prelude.{slice_index_or, IfOk, IfErr, OnOk, [], IsPermutation};
 ghost use Rattle.hg_defs.specs.Hypergraph.{vertex_count};
 ghost use Rattle.hg_defs.specs.Replay.{replay};
 ghost use Rattle.move_core.specs.declared.account.Stage.TheVariants.{Idle};
@@ -136,7 +136,10 @@ impl<'h> Round<'h> {
         requires passes { ArePassesOf self passes }
         ensures opening { IfOk result (λ c. c.opening ≡ self.entry.terms.part.blocks) }
         ensures part { IfOk result (λ c. c.part ≡ record self.entry.terms.part { blocks = replay c.opening c.moves }) }
+        ensures permuted { IfOk result (λ c. IsPermutation (all_moves passes) c.moves) }
         ensures moves { IfOk result (λ c. AreByNumber (all_numbers passes) (all_moves passes) c.moves) }
+        ensures kept { OnOk result ((i : ℕ) (p : RacedPass) → i < length passes →
+            IsKeptPass (slice_index_or passes i p)) }
         ensures gains { IfOk result (λ c. c.gains ≡ all_gains passes) }
         ensures refused { IfErr result (λ e. (e.0 ≡ self.entry) × (e.1 ≡ passes)) }
     {

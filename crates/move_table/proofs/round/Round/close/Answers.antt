@@ -1,10 +1,11 @@
-use Rattle.std.proofs.Common.{rules, ◌≡◌, ◌<◌, List, length, drop, All, sym, ap, ◌∙◌, subst}
+use Rattle.std.proofs.Common.{rules, ◌≡◌, ℕ, ◌<◌, List, length, drop, All, slice_index_or, IsPermutation, sym, ap, ◌∙◌, subst}
 use Rattle.hg_defs.specs.declared.moves.Move.{Move}
 use Rattle.hg_defs.specs.Replay.{replay}
 use Rattle.hg_defs.specs.Hypergraph.{Hyper, vertex_count}
-use Rattle.move_table.specs.Calls.{RacedRound}
-use Rattle.move_table.specs.Closing.{all_moves, all_numbers, AreByNumber}
+use Rattle.move_table.specs.Calls.{RacedRound, RacedPass}
+use Rattle.move_table.specs.Closing.{all_moves, all_numbers, AreByNumber, IsKeptPass}
 use Rattle.move_table.proofs.EndLaws.{gathered_of, have_places, is_laid_out, ended_as, written_back}
+use Rattle.move_table.proofs.OrderLaws.{order_of_moves}
 use Rattle.move_table.proofs.round.Round.close.Goals as goal
 
 pub lay_moves-requires-clause-below : goal.lay_moves-requires-clause-below
@@ -54,6 +55,19 @@ make_moves-requires-clause-blocks c =
     let back = written_back c.in-Ok.gathered.moves.len c.lay_moves.new.moves (drop (length c.lay_moves.new.moves) c.in-Ok.gathered.moves.items) wide_out in
     subst (All (λ (m : Move). m.to < t.part.k)) (sym (c.as_slice-2.ensures.value ∙ back)) laid.blocks
 
+pub returns-clause-permuted : goal.returns-clause-permuted
+returns-clause-permuted c =
+    let t = c.self.inside.terms in
+    let ps = c.args.passes in
+    let done = c.in-Ok.gathered.done.items in
+    let wide = c.requires.passes.all ∙ sym (ap (λ (r : RacedRound). r.terms.workers) c.self.view_is) in
+    let g = gathered_of t c.self.inside.table.shared.key ps c.slice.result.now done c.as_slice.result.now c.end_words.ensures c.self.invariant.same_key
+    c.slice.ensures c.as_slice.ensures.value wide c.requires.passes.numbers c.in-Ok.ensures.kept c.in-Ok.ensures.numbers c.in-Ok.ensures.moves in
+    let wide_out : c.in-Ok.gathered.moves.len ≡ length c.lay_moves.new.moves = search rules in
+    let back = written_back c.in-Ok.gathered.moves.len c.lay_moves.new.moves (drop (length c.lay_moves.new.moves) c.in-Ok.gathered.moves.items) wide_out in
+    subst (IsPermutation (all_moves ps)) (sym (c.from_vec.ensures ∙ back))
+    (order_of_moves t ps c.as_slice.result.now c.lay_moves.new.moves g c.lay_moves.ensures)
+
 pub returns-clause-moves : goal.returns-clause-moves
 returns-clause-moves c =
     let t = c.self.inside.terms in
@@ -66,6 +80,10 @@ returns-clause-moves c =
     let wide_out : c.in-Ok.gathered.moves.len ≡ length c.lay_moves.new.moves = search rules in
     let back = written_back c.in-Ok.gathered.moves.len c.lay_moves.new.moves (drop (length c.lay_moves.new.moves) c.in-Ok.gathered.moves.items) wide_out in
     subst (AreByNumber (all_numbers ps) (all_moves ps)) (sym (c.from_vec.ensures ∙ back)) laid.laid
+
+pub returns-clause-kept : goal.returns-clause-kept
+returns-clause-kept c =
+    subst (λ (ps : List RacedPass). (i : ℕ) (p : RacedPass) → i < length ps → IsKeptPass (slice_index_or ps i p)) c.slice.ensures c.in-Ok.ensures.kept
 
 pub invariant_of-result : goal.invariant_of-result
 invariant_of-result c =
