@@ -118,6 +118,23 @@ fn ratings(rt: HostRuntime) -> Result<(), Fail> {
     Ok(())
 }
 
+#[test]
+fn places_of_seeds(rt: HostRuntime) -> Result<(), Fail> {
+    // The worker begins at the vertices 4, 1, 5, 0, 3 and 2.
+    for (seed, expected) in [
+        (0, [1, 1, 2, 3, 3, 5]),
+        (1, [0, 0, 3, 3, 5, 5]),
+        (2, [1, 1, 3, 3, 4, 4]),
+        (4, [1, 1, 3, 3, 5, 5]),
+        (7, [1, 1, 2, 2, 5, 5]),
+        (9, [0, 1, 1, 4, 4, 5]),
+    ] {
+        let roots = cluster(&rt, rt.alloc(), &path(rt.alloc())?, 2, 1, seed, &OpenGate)?;
+        assert_eq!(rt; roots.slice(), expected.as_slice());
+    }
+    Ok(())
+}
+
 /// In its first call of the gate each of two workers tells that it is there, and looks for the other.
 #[derive(Drop)]
 struct Meeting {

@@ -1,6 +1,7 @@
 pub mod MarkLaws
 pub mod NumberLaws
 pub mod PairLaws
+pub mod RootLaws
 pub mod SweepLaws
 pub mod LevelSteps
 pub mod InsideSteps

@@ -7,6 +7,7 @@ ghost use Rattle.hg_defs.specs.Clustering.{cluster_count, IsClustering, IsInside
 ghost use Rattle.hg_defs.specs.Clustering as clusterings;
 ghost use Rattle.hg_defs.specs.Pairing.{split_by};
 ghost use Rattle.round_log.specs.Trace.{IsGoodClustering};
+ghost use Rattle.coarsen.specs.Numbers.{IsByRoot};
 
 use crate::pairing::{pair_all, pair_within};
 use cluster_claim::cluster;
@@ -52,7 +53,8 @@ pub(crate) fn cluster_level<R: Threads + Sync, G: Gate>(
     requires blocks { 0 < k }
     requires some { 1 ≤ workers }
     requires few { workers ≤ 64 }
-    ensures { IfOk result (λ clusters. (number : ℕ) → IsGoodClustering k number h.now clusters) }
+    ensures good { IfOk result (λ clusters. (number : ℕ) → IsGoodClustering k number h.now clusters) }
+    ensures by_root { IfOk result IsByRoot }
 {
     let _vertices = h.vertices();
     let cap = cluster_cap(h.total_weight(), k);
@@ -77,7 +79,8 @@ pub(crate) fn cluster_inside<R: Threads + Sync, G: Gate>(
     requires partition { IsPartition h.now k blocks.now }
     requires some { 1 ≤ workers }
     requires few { workers ≤ 64 }
-    ensures { IfOk result (IsInside h.now (clusterings.cluster_cap (total_weight h.now) k) blocks.now) }
+    ensures inside { IfOk result (IsInside h.now (clusterings.cluster_cap (total_weight h.now) k) blocks.now) }
+    ensures by_root { IfOk result IsByRoot }
 {
     let _vertices = h.vertices();
     let cap = cluster_cap(h.total_weight(), k);

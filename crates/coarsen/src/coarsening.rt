@@ -5,6 +5,7 @@ ghost use Rattle.hg_defs.specs.Partition.{IsPartition};
 ghost use Rattle.hg_defs.specs.Levels.{coarsest, lifted, lifted_to};
 ghost use Rattle.round_log.specs.Trace.{IsGoodClustering, AreContracted, IsStop};
 ghost use Rattle.round_log.specs.Cycles.{IsInsideAt};
+ghost use Rattle.coarsen.specs.Numbers.{IsByRoot, IsStopByRoot};
 
 use crate::clustering::{cluster_inside, cluster_level, count_clusters, is_twentieth_fewer};
 use contract_nets::contract;
@@ -37,6 +38,8 @@ pub fn coarsen<R: Threads + Sync, G: Gate>(
     ensures levels { IfOk result (λ pair. AreContracted (IsGoodClustering k) 0 h k pair.0.maps) }
     ensures stop { IfOk result (λ pair. IsStop (IsGoodClustering k) (length pair.0.maps) (coarsest h pair.0.maps) k
         pair.1) }
+    ensures numbered { IfOk result (λ pair. All IsByRoot pair.0.maps) }
+    ensures stop_numbered { IfOk result (λ pair. IsStopByRoot pair.1) }
 {
     let mut stack = LevelStack::start(alloc, h)?;
     'levels: while u64::from(stack.top().vertices()) > 32 * u64::from(k) {
@@ -72,6 +75,8 @@ pub fn coarsen_inside<R: Threads + Sync, G: Gate>(
     ensures stop { IfOk result (λ all. IsStop (IsInsideAt k all.0.maps blocks.now) (length all.0.maps)
         (coarsest h all.0.maps) k all.1) }
     ensures top { IfOk result (λ all. all.2 ≡ lifted_to blocks.now all.0.maps (length all.0.maps)) }
+    ensures numbered { IfOk result (λ all. All IsByRoot all.0.maps) }
+    ensures stop_numbered { IfOk result (λ all. IsStopByRoot all.1) }
 {
     let mut stack = LevelStack::start(alloc, h)?;
     let mut current = Vec::from_slice(alloc, blocks)?;

@@ -12,6 +12,7 @@ ghost use Rattle.hg_defs.specs.Pairing.{lightest_first, pair_up, paired_from, pa
 ghost use Rattle.hg_defs.specs.Pairing as pairing;
 ghost use Rattle.hg_defs.specs.Sorting.{sorted, lower_first};
 ghost use Rattle.coarsen.specs.Marks.{AreMarked, weighed};
+ghost use Rattle.coarsen.specs.Numbers.{IsByRoot};
 
 use crate::marks::{count_singles, mark_singles};
 use crate::numbering::number_clusters;
@@ -57,6 +58,7 @@ pub(crate) fn pair_all(
 ) -> Result<MapList, NoMemory>
     requires { IsRooted h.now cap roots.items }
     ensures paired { IfOk result (λ clusters. clusters ≡ numbered (paired_from h.now cap roots.items)) }
+    ensures by_root { IfOk result IsByRoot }
     ensures clustering { IfOk result (IsClustering h.now cap) }
     ensures maximal { IfOk result (IsMaximal h.now cap) }
 {

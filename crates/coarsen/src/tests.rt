@@ -5,7 +5,9 @@ use super::*;
 use crew::OpenGate;
 use hg_base::FlatHyper;
 use std::alloc::Global;
+use std::process::Abort;
 use std::test::Fail;
+use std::thread::Threads;
 
 /// The vertices i, i + 1 and i * i + 3, modulo n.
 fn pins_of(i: u32, n: u32) -> [u32; 3]
@@ -92,5 +94,25 @@ fn levels_inside_blocks(rt: HostRuntime) -> Result<(), Fail> {
         let block = entry(top.slice(), cluster_at_top(&stack, v));
         assert_eq!(rt; block, entry(&blocks, v));
     }
+    Ok(())
+}
+
+/// The first clustering of one worker, which the seed alone decides.
+fn first_map<R: Abort + Threads + Sync>(
+    rt: &R,
+    alloc: Global,
+    seed: u64,
+) -> Result<Vec<u32>, Fail> {
+    let h = ring(alloc, 300)?;
+    let (stack, _stop) = coarsen(rt, alloc, h, 2, 1, seed, &OpenGate)?;
+    assert!(rt; stack.depth() >= 2);
+    Ok(stack.map(0).to_vec(alloc)?)
+}
+
+#[test]
+fn maps_of_seeds(rt: HostRuntime) -> Result<(), Fail> {
+    let first = first_map(&rt, rt.alloc(), 1)?;
+    let second = first_map(&rt, rt.alloc(), 2)?;
+    assert!(rt; first.as_slice() != second.as_slice());
     Ok(())
 }

@@ -7,6 +7,8 @@ use Rattle.hg_defs.specs.Clustering.{IsInside, cluster_cap}
 use Rattle.hg_defs.specs.Numbering.{IsRooted, numbered}
 use Rattle.hg_defs.specs.Pairing.{paired_inside, split_by}
 use Rattle.hg_defs.proofs.PairingLaws.{split-rooted, split-blocks, paired_inside-inside}
+use Rattle.coarsen.specs.Numbers.{IsByRoot}
+use Rattle.coarsen.proofs.RootLaws.{by_root_inside}
 use Rattle.coarsen.proofs.clustering.cluster_inside.Goals as goal
 
 rooted_weaker : (h : Hyper) (a b : ℕ) (roots : List ℕ) → IsRooted h a roots → a ≤ b → IsRooted h b roots
@@ -43,8 +45,8 @@ pair_within-requires-clause-rooted g c =
     c.in_ok-raced.ensures c.pass_cap.ensures
     (c.split_roots-roots.ensures ∙ ap (split_by c.args.blocks.now) c.into_vec.ensures)
 
-pub returns : goal.returns
-returns g c =
+pub returns-clause-inside : goal.returns-clause-inside
+returns-clause-inside g c =
     let cap = c.cluster_cap-cap.ensures ∙ ap (λ (w : ℕ). cluster_cap w c.args.k) c.total_weight.ensures in
     IfOk-weaker c.pair_within.result (λ clusters. clusters ≡ numbered (paired_inside c.args.h.now c.cluster_cap-cap.result c.args.k c.args.blocks.now
     c.split_roots-roots.result.items)) (IsInside c.args.h.now (cluster_cap (total_weight c.args.h.now) c.args.k) c.args.blocks.now)
@@ -53,4 +55,15 @@ returns g c =
     c.in_ok-raced.ensures c.pass_cap.ensures
     (c.split_roots-roots.ensures ∙ ap (split_by c.args.blocks.now) c.into_vec.ensures)
     c.args.k clusters c.vertices-vertices.ensures.sound c.requires.partition made))
+    c.pair_within.ensures
+
+pub returns-clause-by_root : goal.returns-clause-by_root
+returns-clause-by_root g c =
+    IfOk-weaker c.pair_within.result (λ clusters. clusters ≡ numbered (paired_inside c.args.h.now c.cluster_cap-cap.result c.args.k c.args.blocks.now
+    c.split_roots-roots.result.items)) IsByRoot
+    (λ clusters made. by_root_inside c.args.h.now c.cluster_cap-cap.result c.args.k c.args.blocks.now c.split_roots-roots.result.items clusters
+    c.vertices-vertices.ensures.sound
+    (split_rooted c.args.h.now c.pass_cap.result c.cluster_cap-cap.result c.args.blocks.now c.in_ok-raced.raced c.split_roots-roots.result.items
+    c.in_ok-raced.ensures c.pass_cap.ensures
+    (c.split_roots-roots.ensures ∙ ap (split_by c.args.blocks.now) c.into_vec.ensures)) made)
     c.pair_within.ensures

@@ -1,6 +1,7 @@
 -- One level more inside the blocks.
 use Rattle.std.proofs.Common.{◌≡◌, ℕ, suc, ◌+◌, ◌-◌, ◌*◌, ◌<◌, ◌≤◌, Bool, true, false, List, [], ◌∷◌, ◌++◌, length, All, refl, sym, ap, ◌∙◌, subst, arith}
 use Rattle.std.proofs.lemmas.List.{length_push}
+use Rattle.std.proofs.lemmas.List.Elements.{All-push}
 use Rattle.hg_defs.specs.Hypergraph.{Hyper, vertex_count, total_weight, IsHypergraph, IsWithinLimits}
 use Rattle.hg_defs.specs.Partition.{IsPartition}
 use Rattle.hg_defs.specs.Contraction.{IsFull, contract}
@@ -10,6 +11,7 @@ use Rattle.hg_defs.proofs.LevelLaws.{level_is_added}
 use Rattle.round_log.specs.Trace.{IsLarge, AreContracted}
 use Rattle.round_log.specs.Cycles.{IsInsideAt}
 use Rattle.level_stack.specs.Stack.{Stack, LeadsUp}
+use Rattle.coarsen.specs.Numbers.{IsByRoot}
 use Rattle.coarsen.proofs.LevelSteps.{count_within, all_small, leads_from, large_at, fewer_at}
 use Rattle.coarsen.proofs.InsideSteps.{inside_more, lifted_more, lifted_partition}
 use Rattle.coarsen.proofs.coarsening.coarsen_inside.Goals as goal
@@ -23,16 +25,16 @@ inside_at top h k lent current clusters inside same read =
 pub count_clusters-count-requires : goal.count_clusters-count-requires
 count_clusters-count-requires g c =
     let h = coarsest c.levels.stack.base c.levels.stack.maps in
-    let good = inside_at c.top-in-levels.result.now h c.args.k c.deref.result.now c.levels.current.items c.in_ok-clusters.clusters c.in_ok-clusters.ensures
-    c.top-in-levels.ensures c.deref.ensures.value in
+    let good = inside_at c.top-in-levels.result.now h c.args.k c.deref.result.now c.levels.current.items c.in_ok-clusters.clusters
+    c.in_ok-clusters.ensures.inside c.top-in-levels.ensures c.deref.ensures.value in
     all_small h _ c.in_ok-clusters.clusters c.slice.result.now good.clustering (subst IsWithinLimits c.top.ensures c.vertices.ensures.bounds)
     c.slice.ensures
 
 pub is_twentieth_fewer-requires : goal.is_twentieth_fewer-requires
 is_twentieth_fewer-requires g c =
     let h = coarsest c.levels.stack.base c.levels.stack.maps in
-    let good = inside_at c.top-in-levels.result.now h c.args.k c.deref.result.now c.levels.current.items c.in_ok-clusters.clusters c.in_ok-clusters.ensures
-    c.top-in-levels.ensures c.deref.ensures.value in
+    let good = inside_at c.top-in-levels.result.now h c.args.k c.deref.result.now c.levels.current.items c.in_ok-clusters.clusters
+    c.in_ok-clusters.ensures.inside c.top-in-levels.ensures c.deref.ensures.value in
     let most = count_within h _ c.in_ok-clusters.clusters good.clustering in
     let count = c.count_clusters-count.ensures ∙ ap cluster_count c.slice.ensures in
     let top = ap (λ (x : Hyper). vertex_count x) c.top-in-levels-2.ensures in
@@ -41,16 +43,16 @@ is_twentieth_fewer-requires g c =
 pub lift_blocks-requires-clause-below : goal.lift_blocks-requires-clause-below
 lift_blocks-requires-clause-below g c =
     let h = coarsest c.levels.stack.base c.levels.stack.maps in
-    let good = inside_at c.top-in-levels.result.now h c.args.k c.deref.result.now c.levels.current.items c.in_ok-clusters.clusters c.in_ok-clusters.ensures
-    c.top-in-levels.ensures c.deref.ensures.value in
+    let good = inside_at c.top-in-levels.result.now h c.args.k c.deref.result.now c.levels.current.items c.in_ok-clusters.clusters
+    c.in_ok-clusters.ensures.inside c.top-in-levels.ensures c.deref.ensures.value in
     subst (λ (n : ℕ). All (λ i. i < n) c.slice-in-levels.result.now) (sym (c.count_clusters-count.ensures ∙ ap cluster_count c.slice.ensures))
     (subst (All (λ i. i < cluster_count c.in_ok-clusters.clusters)) (sym c.slice-in-levels.ensures) good.clustering.full.below)
 
 pub push-requires-clause-books : goal.push-requires-clause-books
 push-requires-clause-books g c =
     let h = coarsest c.levels.stack.base c.levels.stack.maps in
-    let good = inside_at c.top-in-levels.result.now h c.args.k c.deref.result.now c.levels.current.items c.in_ok-clusters.clusters c.in_ok-clusters.ensures
-    c.top-in-levels.ensures c.deref.ensures.value in
+    let good = inside_at c.top-in-levels.result.now h c.args.k c.deref.result.now c.levels.current.items c.in_ok-clusters.clusters
+    c.in_ok-clusters.ensures.inside c.top-in-levels.ensures c.deref.ensures.value in
     leads_from h c.top-in-levels-3.result.now c.in_ok-coarse.coarse _ c.in_ok-clusters.clusters c.slice-in-levels-2.result.now c.in_ok-coarse.ledger
     good.clustering c.top-in-levels-3.ensures c.slice-in-levels-2.ensures c.in_ok-coarse.ensures.ledger
 
@@ -77,7 +79,7 @@ levels-preserved g c =
     let large = large_at c.levels.stack.base c.args.h c.top.result.now maps c.args.k c.from.result c.from-in-levels.result c.vertices.result
     c.levels.invariant.base c.top.ensures c.vertices.ensures.count c.from.ensures c.from-in-levels.ensures c.levels-test.true in
     let p = lifted_to c.args.blocks.now maps (length maps) in
-    let good = inside_at c.top-in-levels.result.now h c.args.k c.deref.result.now p clusters c.in_ok-clusters.ensures same (c.deref.ensures.value ∙
+    let good = inside_at c.top-in-levels.result.now h c.args.k c.deref.result.now p clusters c.in_ok-clusters.ensures.inside same (c.deref.ensures.value ∙
     c.levels.invariant.top) in
     let ok = c.in_ok-push.ensures.ok in
     let here : c.in_ok-above.above.items ≡ lifted p clusters (cluster_count clusters) =
@@ -106,5 +108,7 @@ levels-preserved g c =
       partition = subst (λ (x : Hyper). IsPartition x c.args.k c.in_ok-above.above.items) (sym next)
           (subst (IsPartition (contract h clusters (cluster_count clusters)) c.args.k) (sym here) (lifted_partition h _ c.args.k p clusters sound whole
           good));
+      numbered = subst (All IsByRoot) (sym (ap (λ (x : Stack). x.maps) ok))
+          (All-push IsByRoot maps clusters c.levels.invariant.numbered c.in_ok-clusters.ensures.by_root);
       depth = omega arith;
     }

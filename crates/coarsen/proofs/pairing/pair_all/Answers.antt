@@ -8,6 +8,8 @@ use Rattle.hg_defs.specs.Clustering.{IsInside, IsClustering, IsMaximal}
 use Rattle.hg_defs.specs.Numbering.{IsRooted, numbered}
 use Rattle.hg_defs.specs.Pairing.{paired_from, paired_inside}
 use Rattle.hg_defs.proofs.PairingLaws.{paired_inside-inside}
+use Rattle.coarsen.specs.Numbers.{IsByRoot}
+use Rattle.coarsen.proofs.RootLaws.{by_root_inside}
 use Rattle.coarsen.proofs.SweepLaws.{zeros, paired_zeros}
 use Rattle.coarsen.proofs.pairing.pair_all.Goals as goal
 
@@ -58,4 +60,11 @@ returns-clause-maximal c =
     (IsMaximal c.args.h.now c.args.cap)
     (λ clusters made. maximal_is c.args.h.now c.args.cap c.len.result c.args.roots.items c.deref.result.now clusters c.vertices-vertices.ensures.sound
     c.requires (c.deref.ensures.value ∙ c.in_ok-blocks.ensures.items_if_clones_equal (λ y e. e)) (omega (arith, c.len.ensures, c.args.roots.ok.0)) made)
+    c.pair_within.ensures
+
+pub returns-clause-by_root : goal.returns-clause-by_root
+returns-clause-by_root c =
+    IfOk-weaker c.pair_within.result (λ clusters. clusters ≡ numbered (paired_inside c.args.h.now c.args.cap 1 c.deref.result.now c.args.roots.items))
+    IsByRoot
+    (λ clusters made. by_root_inside c.args.h.now c.args.cap 1 c.deref.result.now c.args.roots.items clusters c.vertices-vertices.ensures.sound c.requires made)
     c.pair_within.ensures
