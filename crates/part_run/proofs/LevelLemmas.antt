@@ -1,23 +1,25 @@
 -- The levels of a coarsening, what a legal trace ends with, and what the refiners tally of it.
-use Rattle.std.proofs.Common.{◌≡◌, ◌≢◌, ℕ, zero, suc, ◌+◌, ◌*◌, ◌-◌, ◌<◌, ◌≤◌, ◌^◌, List, [], ◌∷◌, ◌++◌, length, All, refl, sym, ap, subst, ◌∙◌, arith}
+use Rattle.std.proofs.Common.{◌≡◌, ◌≢◌, ℕ, zero, suc, ◌+◌, ◌*◌, ◌-◌, ◌<◌, ◌≤◌, ◌^◌, false, List, [], ◌∷◌, ◌++◌, length, All, refl, sym, ap, subst, ◌∙◌, arith}
 use Rattle.std.proofs.lemmas.Nat.{mul-le}
-use Rattle.std.proofs.lemmas.List.{length-map}
-use Rattle.std.proofs.lemmas.List.Elements.{All-nil, All-cons}
+use Rattle.std.proofs.lemmas.List.{append-nil, length-map}
+use Rattle.std.proofs.lemmas.List.Elements.{All-nil, All-cons, All-head, All-tail, filter-append}
 use Rattle.hg_defs.specs.Hypergraph.{Hyper, vertex_count, net_count, total_weight, IsHypergraph, IsFixedWithin, Suits}
 use Rattle.hg_defs.specs.Partition.{Fits}
 use Rattle.hg_defs.specs.Contraction.{contract, images, merged_weight}
 use Rattle.hg_defs.specs.Clustering.{cluster_count, cluster_cap, IsClustering}
 use Rattle.hg_defs.specs.Levels.{level, coarsest}
 use Rattle.hg_defs.proofs.ContractionLaws.{length-images-le}
+use Rattle.hg_defs.specs.Sums.{total}
+use Rattle.hg_defs.proofs.NumberingLaws.{filter_none}
 use Rattle.hg_defs.proofs.LevelLaws.{vertices_of_contraction}
 use Rattle.round_log.specs.declared.record.Kind.{Kind}
-use Rattle.round_log.specs.declared.record.Kind.TheVariants.{Sweep}
+use Rattle.round_log.specs.declared.record.Kind.TheVariants.{Label, Search, Flow, Sweep}
 use Rattle.round_log.specs.declared.record.Stop.{Stop}
 use Rattle.round_log.specs.declared.record.Job.{Job}
 use Rattle.round_log.specs.declared.record.LoggedRound.{LoggedRound}
 use Rattle.round_log.specs.declared.record.Trace.{Trace}
 use Rattle.round_log.specs.Rounds.{after_round, after_rounds}
-use Rattle.round_log.specs.Passes.{IsPass}
+use Rattle.round_log.specs.Passes.{IsPass, saved}
 use Rattle.round_log.specs.Trace.{Good, AreContracted, IsStop, IsGoodClustering, IsDescent, IsTraced, AreSweeps, limit_of}
 use Rattle.round_log.specs.TraceLaws.{IsPlaceableWithin, IsPlaceableFor, IsSound}
 use Rattle.round_log.proofs.DescentLaws.{level_fixed, level_contractible}
@@ -25,9 +27,8 @@ use Rattle.refiner.specs.declared.pass.Tally.{Tally}
 use Rattle.level_stack.specs.Stack.{Stack}
 use Rattle.uncoarsen.specs.Start.{ArePartable, IsStartAt}
 use Rattle.uncoarsen.specs.Settled.{SettlesBest}
-use Rattle.uncoarsen.specs.Refined.{ArePasses, IsRefinedBy, IsRefinedDown, IsLegalBy, tallies_with}
+use Rattle.uncoarsen.specs.Refined.{ArePasses, IsRefinedBy, IsRefinedDown, IsLegalBy, is_same_kind, rounds_of, tally_with, tallies_with}
 use Rattle.uncoarsen.proofs.LegalLaws.{kinds-settled, kinds-below_greedy, traced}
-use Rattle.uncoarsen.proofs.TallyLemmas.{tallies_with-append, tallies_with-others}
 use Rattle.trace_text.specs.Report.{IsPrintable}
 use Rattle.part_run.specs.Answers.{IsResult}
 
@@ -112,20 +113,38 @@ sweeps_kind h k l p [] q s = All-nil (λ (r : LoggedRound). r.kind ≡ Sweep)
 sweeps_kind h k l p (r ∷ rounds) q s =
     All-cons (λ (x : LoggedRound). x.kind ≡ Sweep) r rounds s.0 (sweeps_kind h k l (after_round p r) rounds q s.4)
 
-length-tallies : (rounds : List LoggedRound) (kinds : List Kind) (ts : List Tally) → length kinds ≡ length ts →
-    length kinds ≡ length (tallies_with rounds kinds ts)
-length-tallies rounds [] ts long = refl
-length-tallies rounds (kind ∷ kinds) [] long = absurd (omega arith)
-length-tallies rounds (kind ∷ kinds) (t ∷ ts) long = ap suc (length-tallies rounds kinds ts (omega arith))
+same_kind-sweep : (kind : Kind) → Sweep ≢ kind → is_same_kind Sweep kind ≡ false
+same_kind-sweep Label n = refl
+same_kind-sweep Search n = refl
+same_kind-sweep Flow n = refl
+same_kind-sweep Sweep n = absurd (n refl)
+
+rounds_swept : (kind : Kind) (rounds sweeps : List LoggedRound) → Sweep ≢ kind → All (λ (r : LoggedRound). r.kind ≡ Sweep) sweeps →
+    rounds_of kind (rounds ++ sweeps) ≡ rounds_of kind rounds
+rounds_swept kind rounds sweeps other swept =
+    filter-append (λ (r : LoggedRound). is_same_kind r.kind kind) rounds sweeps
+    ∙ ap (λ (rs : List LoggedRound). rounds_of kind rounds ++ rs)
+    (filter_none (λ (r : LoggedRound). is_same_kind r.kind kind) sweeps
+    (λ i d low. ap (λ (x : Kind). is_same_kind x kind) (swept i d low) ∙ same_kind-sweep kind other))
+    ∙ append-nil (rounds_of kind rounds)
+
+counted_swept : (rounds sweeps : List LoggedRound) (kinds : List Kind) (ts : List Tally) → All (λ (kind : Kind). Sweep ≢ kind) kinds →
+    All (λ (r : LoggedRound). r.kind ≡ Sweep) sweeps → tallies_with (rounds ++ sweeps) kinds ts ≡ tallies_with rounds kinds ts
+counted_swept rounds sweeps [] ts others swept = refl
+counted_swept rounds sweeps (kind ∷ kinds) [] others swept = refl
+counted_swept rounds sweeps (kind ∷ kinds) (t ∷ ts) others swept =
+    ap (λ (rs : List LoggedRound). let u : Tally = record { rounds = t.rounds + length rs; gain = t.gain + total saved rs } in
+    u ∷ tallies_with (rounds ++ sweeps) kinds ts)
+    (rounds_swept kind rounds sweeps (All-head (λ (x : Kind). Sweep ≢ x) kind kinds others) swept)
+    ∙ ap (λ (us : List Tally). tally_with rounds kind t ∷ us)
+    (counted_swept rounds sweeps kinds ts (All-tail (λ (x : Kind). Sweep ≢ x) kind kinds others) swept)
 
 -- the sweeps at the end add nothing to the tallies
 pub tallies_swept : (kinds : List Kind) (h : Hyper) (k l workers : ℕ) (maps : List (List ℕ)) (i : ℕ) (p last swept q : List ℕ)
-    (rounds sweeps : List LoggedRound) (ts : List Tally) → length kinds ≡ length ts → IsDescent (IsRefinedBy kinds k l workers) h maps i p rounds last →
+    (rounds sweeps : List LoggedRound) (ts : List Tally) → IsDescent (IsRefinedBy kinds k l workers) h maps i p rounds last →
     AreSweeps h k l swept sweeps q → tallies_with (rounds ++ sweeps) kinds ts ≡ tallies_with rounds kinds ts
-tallies_swept kinds h k l workers maps i p last swept q rounds sweeps ts long down settled =
-    tallies_with-append rounds sweeps kinds ts
-    ∙ tallies_with-others Sweep sweeps kinds (tallies_with rounds kinds ts) (length-tallies rounds kinds ts long)
-    (descent_unswept kinds h k l workers maps i p rounds last down) (sweeps_kind h k l swept sweeps q settled)
+tallies_swept kinds h k l workers maps i p last swept q rounds sweeps ts down settled =
+    counted_swept rounds sweeps kinds ts (descent_unswept kinds h k l workers maps i p rounds last down) (sweeps_kind h k l swept sweeps q settled)
 
 -- ---- a run put together
 
@@ -143,10 +162,10 @@ module _ (kinds : List Kind) (s : Stack) (stop : Stop) (number : ℕ) (first : L
       (subst (λ (g : Hyper). IsStop (IsGoodClustering job.k) (length s.maps) (coarsest g s.maps) job.k stop) (sym base) stopped)
       start down sound best)
 
-  pub run_tallies : (l : ℕ) (ts : List Tally) → length kinds ≡ length ts → IsRefinedDown kinds s stop number first job.k l job.workers old →
+  pub run_tallies : (l : ℕ) (ts : List Tally) → IsRefinedDown kinds s stop number first job.k l job.workers old →
       SettlesBest s.base job.k l old new q → tallies_with old.rounds kinds ts ≡ tallies_with new.rounds kinds ts
-  run_tallies l ts long down best =
-      sym (tallies_swept kinds s.base job.k l job.workers s.maps number first old.last best.swept q old.rounds best.sweeps ts long down.descent best.settled)
+  run_tallies l ts down best =
+      sym (tallies_swept kinds s.base job.k l job.workers s.maps number first old.last best.swept q old.rounds best.sweeps ts down.descent best.settled)
       ∙ ap (λ (rs : List LoggedRound). tallies_with rs kinds ts) (sym (ap (λ (t : Trace). t.rounds) best.trace))
 
   -- the same, where the numbers are told in other words
@@ -163,11 +182,11 @@ module _ (kinds : List Kind) (s : Stack) (stop : Stop) (number : ℕ) (first : L
       (subst (λ (x : ℕ). SettlesBest g x (limit_of h job) old new q) same_k
       (subst (λ (x : ℕ). SettlesBest g k' x old new q) (same_l ∙ is) best)))
 
-  pub tallies_told : (g : Hyper) (l k' l' : ℕ) (ts : List Tally) → g ≡ s.base → k' ≡ job.k → l' ≡ l → length kinds ≡ length ts →
+  pub tallies_told : (g : Hyper) (l k' l' : ℕ) (ts : List Tally) → g ≡ s.base → k' ≡ job.k → l' ≡ l →
       IsRefinedDown kinds s stop number first job.k l job.workers old → SettlesBest g k' l' old new q →
       tallies_with old.rounds kinds ts ≡ tallies_with new.rounds kinds ts
-  tallies_told g l k' l' ts same_g same_k same_l long down best =
-      run_tallies l ts long down
+  tallies_told g l k' l' ts same_g same_k same_l down best =
+      run_tallies l ts down
       (subst (λ (x : Hyper). SettlesBest x job.k l old new q) same_g
       (subst (λ (x : ℕ). SettlesBest g x l old new q) same_k (subst (λ (x : ℕ). SettlesBest g k' x old new q) same_l best)))
 

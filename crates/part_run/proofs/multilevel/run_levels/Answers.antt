@@ -1,6 +1,5 @@
 use Rattle.std.proofs.Common.{◌≡◌, ◌∙◌, ℕ, List, length, Result, Ok, Err, refl, sym, ap, subst, arith}
 use Rattle.std.specs.Prelude.{MatchResult, IsErrAnd}
-use Rattle.std.proofs.lemmas.List.{length-map}
 use Rattle.hg_defs.specs.Hypergraph.{Hyper}
 use Rattle.hg_defs.specs.Partition.{limit}
 use Rattle.hg_defs.specs.Cost.{cost}
@@ -9,6 +8,7 @@ use Rattle.hg_defs.specs.Levels.{coarsest}
 use Rattle.round_log.specs.Trace.{AreContracted, IsStop, IsGoodClustering, limit_of}
 use Rattle.round_log.specs.TraceLaws.{IsPlaceableFor}
 use Rattle.pin_plain.specs.Parted.{Parted}
+use Rattle.part_run.specs.Answers.{IsResult}
 use Rattle.part_run.specs.declared.status.Status.{Status}
 use Rattle.part_run.specs.declared.status.Status.TheVariants.{NoMemory}
 use Rattle.part_run.proofs.LevelLemmas.{partable_over, fits_over, legal_result, run_told, tallies_told}
@@ -78,14 +78,16 @@ returns-clause-answer g c =
       ready = ready;
       greedy = c.cost_of-greedy.ensures.value ∙ ap (cost h) (c.slice.ensures ∙ placed.greedy);
       outcome = record {
-        result = legal_result _ j h c.settle_best.new.trace q.blocks ready
+        result =
+            subst (λ (bs : List ℕ). IsResult _ j h c.settle_best.new.trace bs) (sym c.into_blocks.ensures)
+            (legal_result _ j h c.settle_best.new.trace q.blocks ready
             (run_told _ s c.in_ok-stack.stop c.in_ok-start.start.level c.in_ok-start.start.blocks j c.in_ok-last.trace c.settle_best.new.trace q.blocks
             h c.base-h.result l last.k last.limit ready limit_is base c.base-h.ensures same_k same_l
             (subst (λ (x : Hyper). AreContracted (IsGoodClustering j.k) 0 x j.k s.maps) c.in_ok-h.ensures c.in_ok-stack.ensures.levels)
             (subst (λ (x : Hyper). IsStop (IsGoodClustering j.k) (length s.maps) (coarsest x s.maps) j.k c.in_ok-stack.stop) c.in_ok-h.ensures
             c.in_ok-stack.ensures.stop)
-            c.in_ok-start.ensures c.in_ok-last.ensures.trace c.in_ok-last.ensures.sound c.in_ok-best.ensures.trace);
-        cost = c.cost-cost.ensures.value ∙ ap (λ (x : Hyper). cost x q.blocks) (c.base-h.ensures ∙ base);
+            c.in_ok-start.ensures c.in_ok-last.ensures.trace c.in_ok-last.ensures.sound c.in_ok-best.ensures.trace));
+        cost = c.cost-cost.ensures.value ∙ ap (λ (x : Hyper). cost x q.blocks) (c.base-h.ensures ∙ base) ∙ ap (cost h) (sym c.into_blocks.ensures);
         cycles = c.new.ensures;
       };
     }
@@ -105,5 +107,4 @@ returns-clause-tallies g c =
     c.in_ok-last.ensures.tallies
     ∙ tallies_told _ s c.in_ok-stack.stop c.in_ok-start.start.level c.in_ok-start.start.blocks j c.in_ok-last.trace c.settle_best.new.trace q.blocks
     c.base-h.result l last.k last.limit _ c.base-h.ensures same_k same_l
-    (length-map c.args.refiners.now _ ∙ sym (length-map c.args.refiners.now _))
     c.in_ok-last.ensures.trace c.in_ok-best.ensures.trace
