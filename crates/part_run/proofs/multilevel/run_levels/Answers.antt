@@ -8,9 +8,9 @@ use Rattle.hg_defs.specs.Levels.{coarsest}
 use Rattle.round_log.specs.Trace.{AreContracted, IsStop, IsGoodClustering, limit_of}
 use Rattle.round_log.specs.TraceLaws.{IsPlaceableFor}
 use Rattle.pin_plain.specs.Parted.{Parted}
-use Rattle.part_run.specs.Answers.{IsResult}
 use Rattle.part_run.specs.declared.status.Status.{Status}
 use Rattle.part_run.specs.declared.status.Status.TheVariants.{NoMemory}
+use Rattle.part_run.proofs.Reportable.{result_over}
 use Rattle.part_run.proofs.LevelLemmas.{partable_over, fits_over, legal_result, run_told, tallies_told}
 use Rattle.part_run.proofs.multilevel.run_levels.Goals as goal
 
@@ -19,7 +19,7 @@ refused P Q (Ok x) s h q = absurd h
 refused P Q (Err x) s h q = subst Q (sym h) q
 
 pub begin-requires-clause-levels : goal.begin-requires-clause-levels
-begin-requires-clause-levels g c =
+begin-requires-clause-levels g c κs within =
     let h = c.args.flat in
     let j = c.args.job.now in
     let s = c.in_ok-stack.stack in
@@ -79,7 +79,7 @@ returns-clause-answer g c =
       greedy = c.cost_of-greedy.ensures.value ∙ ap (cost h) (c.slice.ensures ∙ placed.greedy);
       outcome = record {
         result =
-            subst (λ (bs : List ℕ). IsResult _ j h c.settle_best.new.trace bs) (sym c.into_blocks.ensures)
+            result_over c.into_blocks.ensures
             (legal_result _ j h c.settle_best.new.trace q.blocks ready
             (run_told _ s c.in_ok-stack.stop c.in_ok-start.start.level c.in_ok-start.start.blocks j c.in_ok-last.trace c.settle_best.new.trace q.blocks
             h c.base-h.result l last.k last.limit ready limit_is base c.base-h.ensures same_k same_l

@@ -5,10 +5,10 @@ use Rattle.round_log.specs.declared.record.Job.{Job}
 use Rattle.part_text.specs.Part.{part_text}
 use Rattle.part_run.specs.declared.status.Status.{Status}
 use Rattle.part_run.specs.declared.multilevel.Made.{Made}
-use Rattle.part_run.specs.Answers.{IsOutcome, IsPlaceRefusal, IsWritten, IsWriteRefusal, Outputs, outputs_of, port_of, job_for, report_for}
+use Rattle.part_run.specs.Answers.{IsPlaceRefusal, IsWritten, IsWriteRefusal, Outputs, outputs_of, port_of, job_for, report_for}
 use Rattle.part_run.specs.Made.{IsMade}
 use Rattle.part_run.specs.Spelled.{partitioning_of}
-use Rattle.part_run.proofs.Reportable.{reportable}
+use Rattle.part_run.proofs.Reportable.{reportable, outcome_over}
 use Rattle.part_run.proofs.partition.partition.Goals as goal
 
 -- an answer that is passed on is the refusal that it was
@@ -24,12 +24,12 @@ returns-in_err-flat-clause-answer g c =
       unwritten = refl;
     }))
 
-pub run_levels-made-requires-clause-fixed : goal.run_levels-made-requires-clause-fixed
-run_levels-made-requires-clause-fixed g c =
+pub run_levels-requires-clause-fixed : goal.run_levels-requires-clause-fixed
+run_levels-requires-clause-fixed g c =
     subst (λ (j : Job). IsFixedWithin c.in_ok-flat.flat j.k) (sym c.job_of-job.ensures.value) c.in_ok-flat.ensures.within
 
-pub run_levels-made-requires-clause-suits : goal.run_levels-made-requires-clause-suits
-run_levels-made-requires-clause-suits g c =
+pub run_levels-requires-clause-suits : goal.run_levels-requires-clause-suits
+run_levels-requires-clause-suits g c =
     subst (λ (j : Job). Suits c.in_ok-flat.flat j.k) (sym c.job_of-job.ensures.value) c.in_ok-flat.ensures.suits
 
 pub returns-in_err-made-clause-answer : goal.returns-in_err-made-clause-answer
@@ -43,8 +43,8 @@ returns-in_err-made-clause-answer g c =
       unwritten = refl;
     })))
 
-pub deliver-requires-clause-reportable : goal.deliver-requires-clause-reportable
-deliver-requires-clause-reportable g c = reportable _ c.job_of-job.result c.in_ok-flat.flat c.in_ok-made.made c.job_of-job.ensures.bounds
+pub deliver-requires : goal.deliver-requires
+deliver-requires g c = reportable _ c.job_of-job.result c.in_ok-flat.flat c.in_ok-made.made c.job_of-job.ensures.bounds
     c.in_ok-made.ensures.answer
 
 pub returns-in_err-deliver-clause-answer : goal.returns-in_err-deliver-clause-answer
@@ -61,7 +61,7 @@ returns-in_err-deliver-clause-answer g c =
       hypergraph = c.in_ok-flat.flat;
       outcome = made.outcome;
       accepted = c.in_ok-flat.ensures.answer;
-      made = subst (λ (j : Job). IsOutcome _ j c.in_ok-flat.flat made.outcome) c.job_of-job.ensures.value c.in_ok-made.ensures.answer.outcome;
+      made = outcome_over c.job_of-job.ensures.value refl c.in_ok-made.ensures.answer.outcome;
       cause =
           subst (λ (j : Job). IsWriteRefusal old new (part_text made.outcome.blocks) (report_for j c.in_ok-flat.flat made.outcome) s) c.job_of-job.ensures.value
           (subst (λ (h : Hyper). IsWriteRefusal old new (part_text made.outcome.blocks) (report_for c.job_of-job.result h made.outcome) s)
@@ -78,7 +78,7 @@ returns-clause-answer g c =
     record {
       hypergraph = c.in_ok-flat.flat;
       accepted = c.in_ok-flat.ensures.answer;
-      made = subst (λ (j : Job). IsOutcome _ j c.in_ok-flat.flat made.outcome) c.job_of-job.ensures.value c.in_ok-made.ensures.answer.outcome;
+      made = outcome_over c.job_of-job.ensures.value refl c.in_ok-made.ensures.answer.outcome;
       written =
           subst (λ (j : Job). IsWritten old new (part_text made.outcome.blocks) (report_for j c.in_ok-flat.flat made.outcome)) c.job_of-job.ensures.value
           (subst (λ (h : Hyper). IsWritten old new (part_text made.outcome.blocks) (report_for c.job_of-job.result h made.outcome))

@@ -1,4 +1,4 @@
-use Rattle.std.proofs.Common.{◌≡◌, ℕ, ◌≤◌, map, drop, string_bytes, sym, arith}
+use Rattle.std.proofs.Common.{◌≡◌, ℕ, ◌≤◌, ◌-◌, length, map, take, drop, string_bytes, sym, arith}
 use Rattle.std.specs.Prelude.{unwrap_or}
 use Rattle.part_run.specs.Spelled.{settings_of}
 use Rattle.part_run.proofs.TooFew.{partition_words-short}
@@ -13,5 +13,5 @@ invariant_of-result-2 c =
     let s = c.in_ok-settings.settings in
     let count : c.unwrap_or-2.result ≡ unwrap_or s.workers 4 = c.unwrap_or-2.ensures in
     let within : (1 ≤ unwrap_or s.workers 4) × (unwrap_or s.workers 4 ≤ 64) =
-    workers_within (map string_bytes (drop 3 c.args.words.now)) (settings_of s) (sym c.in_ok-settings.ensures) in
+    workers_within (map string_bytes (take (length c.args.words.now - 3) (drop 3 c.args.words.now))) (settings_of s) (sym c.in_ok-settings.ensures) in
     record { some = (let least = within.0 in omega arith); few = (let most = within.1 in omega arith) }
