@@ -1,12 +1,11 @@
 -- Laws of the descent from level to level.
-use Rattle.std.proofs.Common.{◌≡◌, ℕ, zero, suc, ◌+◌, ◌-◌, ◌<◌, ◌≤◌, ◌⊎◌, inl, inr, List, [], ◌∷◌, ◌++◌}
+use Rattle.std.proofs.Common.{◌≡◌, ℕ, zero, suc, ◌+◌, ◌-◌, ◌<◌, ◌≤◌, ◌⊎◌, inl, inr, List, [], ◌++◌}
 use Rattle.std.proofs.Common.{length, All, Some, None, refl, sym, ap, subst, ◌∙◌, arith}
 use Rattle.std.proofs.lemmas.Bool.{cases_lt}
 use Rattle.std.proofs.lemmas.List.{append_assoc, append-nil}
 use Rattle.hg_defs.specs.Hypergraph.{Hyper, vertex_count, total_weight, IsHypergraph, IsFixedWithin}
-use Rattle.hg_defs.specs.Partition.{IsPartition, Fits, Obeys, load}
+use Rattle.hg_defs.specs.Partition.{IsPartition, Fits, Obeys}
 use Rattle.hg_defs.specs.Contraction.{IsFull, contract, after}
-use Rattle.hg_defs.specs.ContractionLaws.{IsContractible}
 use Rattle.hg_defs.specs.Clustering.{cluster_count, cluster_cap, IsClustering}
 use Rattle.hg_defs.specs.Levels.{level, coarsest, map_of}
 use Rattle.hg_defs.specs.Placement.{named, named_best}

@@ -1,8 +1,8 @@
 -- Laws of wishes that are granted, one after the other.
 use Rattle.std.proofs.Common.{◌≡◌, ◌≢◌, ℕ, zero, suc, ◌+◌, ◌<◌, ◌≤◌, Bool, true, false, if◌then◌else◌, nat_eq, nat_le}
-use Rattle.std.proofs.Common.{List, [], ◌∷◌, ◌++◌, map, drop, length, get_or, All, AllPairs, Contains, Option, Some, None}
+use Rattle.std.proofs.Common.{List, [], ◌∷◌, ◌++◌, map, drop, length, get_or, All, AllPairs, Contains, Option, Some}
 use Rattle.std.proofs.Common.{not, ◌&&◌, inl, inr, ℤ, pos, ◌-ℤ◌, ap₂, ◌^◌, FitsSigned, to_z, of_z}
-use Rattle.std.proofs.Common.{refl, sym, ap, subst, ◌∙◌, arith, true≢false, get_or-set_other}
+use Rattle.std.proofs.Common.{refl, sym, ap, subst, ◌∙◌, arith, get_or-set_other}
 use Rattle.std.proofs.lemmas.List.{append_assoc, append-nil, drop_more, length-map, get_or-map}
 use Rattle.std.proofs.lemmas.List.Elements.{All-head, All-tail}
 use Rattle.std.specs.Int.{w64}

@@ -1,21 +1,19 @@
 -- Laws of the synchronous rounds of a level, one after the other.
-use Rattle.std.proofs.Common.{◌≡◌, ◌≢◌, ◌⊎◌, inl, inr, ℕ, zero, suc, ◌+◌, ◌<◌, ◌≤◌, Bool, true, false, List, [], ◌∷◌, ◌++◌, map, length, get_or, All}
-use Rattle.std.proofs.Common.{Contains, Option, Some, None, pos, refl, sym, ap, subst, ◌∙◌, arith}
+use Rattle.std.proofs.Common.{◌≡◌, ◌⊎◌, inl, inr, ℕ, ◌+◌, ◌<◌, true, false, List, [], ◌∷◌, ◌++◌, map, length, All}
+use Rattle.std.proofs.Common.{Contains, Option, Some, None, refl, sym, ap, subst, ◌∙◌, arith}
 use Rattle.std.proofs.lemmas.List.{append_assoc, append-nil, length_push}
 use Rattle.std.proofs.lemmas.List.Elements.{All-push}
 use Rattle.hg_defs.specs.Hypergraph.{Hyper, vertex_count}
-use Rattle.hg_defs.specs.Partition.{Fits}
 use Rattle.hg_defs.specs.Cost.{cost}
 use Rattle.hg_defs.specs.Moves.{IsSettled, moved}
 use Rattle.hg_defs.specs.MoveLaws.{IsBestBlock}
-use Rattle.hg_defs.specs.Replay.{replay_first, best_prefix}
-use Rattle.hg_defs.specs.Synchronous.{wish, wishing, sync_moves, sync}
+use Rattle.hg_defs.specs.Synchronous.{wish, wishing, sync}
 use Rattle.hg_defs.proofs.MoveLaws.{best_block_is, no_best_block, none_gain, above_gain}
 use Rattle.hg_defs.proofs.SynchronousLaws.{wishes_are_best}
 use Rattle.pin_plain.specs.Parted.{Parted}
 use Rattle.round_log.specs.declared.record.LoggedRound.{LoggedRound}
 use Rattle.round_log.specs.Rounds.{after_round, after_rounds}
-use Rattle.round_log.specs.Deterministic.{IsSyncRound, AreSyncRounds, IsSynced}
+use Rattle.round_log.specs.Deterministic.{IsSyncRound, AreSyncRounds}
 use Rattle.round_log.proofs.SyncLaws.{sync-to}
 use Rattle.det_sync.specs.Wishes.{Wish, AreWishes}
 use Rattle.det_sync.specs.Rounds.{LogsSync, LogsSynced}

@@ -1,17 +1,16 @@
 -- Laws of the moves of a synchronous round: what they save, and that they may be rolled back.
-use Rattle.std.proofs.Common.{◌≡◌, ◌≢◌, ℕ, zero, suc, ◌+◌, ◌-◌, ◌<◌, ◌≤◌, ◌^◌, List, [], ◌∷◌, length, take, get_or, set, replicate}
-use Rattle.std.proofs.Common.{All, AllPairs, ℤ, pos, ◌+ℤ◌, ◌-ℤ◌, ◌≤ℤ◌, ◌<ℤ◌, refl, sym, ap, subst, ◌∙◌, arith}
+use Rattle.std.proofs.Common.{◌≡◌, ℕ, zero, suc, ◌+◌, ◌<◌, ◌≤◌, ◌^◌, List, length, take, get_or, set}
+use Rattle.std.proofs.Common.{All, ℤ, pos, ◌+ℤ◌, ◌-ℤ◌, sym, ap, subst, ◌∙◌, arith}
 use Rattle.std.proofs.Common.{FitsSigned, to_z, of_z}
 use Rattle.std.specs.Int.{w64}
 use Rattle.std.proofs.lemmas.Int.{ints, to_z-of_z}
-use Rattle.std.proofs.lemmas.List.{take_all, take-take, length-take-le, get_or_default}
+use Rattle.std.proofs.lemmas.List.{take_all, take-take, length-take-le}
 use Rattle.std.proofs.lemmas.List.Elements.{Contains-get_or}
 use Rattle.hg_defs.specs.declared.moves.Move.{Move}
 use Rattle.hg_defs.specs.Sums.{total_z}
-use Rattle.hg_defs.specs.Hypergraph.{Hyper, IsWithinLimits, vertex_count}
-use Rattle.hg_defs.specs.Partition.{IsPartition, Fits, block_of}
+use Rattle.hg_defs.specs.Hypergraph.{Hyper, IsWithinLimits}
+use Rattle.hg_defs.specs.Partition.{IsPartition, Fits}
 use Rattle.hg_defs.specs.Cost.{cost}
-use Rattle.hg_defs.specs.Moves.{gain}
 use Rattle.hg_defs.specs.Replay.{replay, replay_first, undone, best_prefix}
 use Rattle.hg_defs.specs.Synchronous.{sync_moves, sync}
 use Rattle.pin_plain.specs.Parted.{Parted}

@@ -13,7 +13,7 @@ use Rattle.hg_defs.specs.Sorting.{sorted}
 use Rattle.hg_defs.specs.Hypergraph.{Hyper, vertices}
 use Rattle.hg_defs.specs.LeastLoaded.{heavier_first}
 use Rattle.hg_defs.specs.Moves.{best_block}
-use Rattle.hg_defs.specs.Synchronous.{wish, saving, wishing}
+use Rattle.hg_defs.specs.Synchronous.{wish, saving}
 use Rattle.hg_defs.proofs.SortLaws.{sort_is, heavier_first_total, heavier_first_exact}
 use Rattle.pin_plain.specs.BestMoves.{ranked, best_moves}
 use Rattle.det_sync.specs.Wishes.{Wish, AreWishes}

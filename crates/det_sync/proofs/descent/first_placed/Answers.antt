@@ -1,7 +1,5 @@
-use Rattle.std.proofs.Common.{◌≡◌, ◌+◌, ℕ, length, subst, sym, ap, ◌∙◌, arith, Some, None, Err}
+use Rattle.std.proofs.Common.{◌≡◌, length, subst, ap, arith, Some, None, Err}
 use Rattle.hg_defs.specs.Hypergraph.{Hyper}
-use Rattle.hg_defs.specs.Partition.{IsPartition, Obeys}
-use Rattle.hg_defs.specs.Levels.{level}
 use Rattle.hg_defs.specs.Placement.{named_best}
 use Rattle.round_log.specs.TraceLaws.{IsSound}
 use Rattle.det_sync.specs.Descent.{NoneFitsAt}

@@ -1,12 +1,12 @@
 -- One level more, or the stop.
-use Rattle.std.proofs.Common.{◌≡◌, ℕ, ◌+◌, ◌-◌, ◌*◌, ◌<◌, ◌≤◌, List, [], ◌∷◌, ◌++◌, length, refl, sym, ap, ◌∙◌, subst, arith}
+use Rattle.std.proofs.Common.{◌≡◌, ℕ, ◌<◌, List, length, sym, ap, ◌∙◌, subst, arith}
 use Rattle.std.proofs.lemmas.List.{length_push}
 use Rattle.hg_defs.specs.Hypergraph.{Hyper, vertex_count, total_weight, IsWithinLimits}
 use Rattle.hg_defs.specs.Contraction.{IsFull}
 use Rattle.hg_defs.specs.Clustering.{cluster_count, cluster_cap, IsClustering, Shrinks}
 use Rattle.hg_defs.specs.Levels.{coarsest}
 use Rattle.hg_defs.specs.Pairing.{paired}
-use Rattle.round_log.specs.Trace.{AreContracted, IsLarge}
+use Rattle.round_log.specs.Trace.{AreContracted}
 use Rattle.round_log.specs.Deterministic.{IsPairing, level_pairing}
 use Rattle.round_log.proofs.DescentLaws.{contracted_more}
 use Rattle.level_stack.specs.Stack.{Stack}

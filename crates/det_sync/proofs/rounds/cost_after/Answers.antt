@@ -1,6 +1,4 @@
-use Rattle.std.proofs.Common.{arith}
-use Rattle.hg_defs.specs.declared.moves.Move.{Move}
-use Rattle.det_sync.proofs.RoundLaws.{no_move, fits_step, reads_step}
+use Rattle.det_sync.proofs.RoundLaws.{fits_step, reads_step}
 use Rattle.det_sync.proofs.rounds.cost_after.Goals as goal
 
 pub overflow_sub-cost : goal.overflow_sub-cost

@@ -1,11 +1,9 @@
-use Rattle.std.proofs.Common.{◌≡◌, ◌<◌, ◌+◌, ◌∙◌, ◌++◌, ◌∷◌, ℕ, List, [], length, get_or, Some, refl, sym, ap, subst, arith}
+use Rattle.std.proofs.Common.{◌≡◌, ◌<◌, ◌+◌, ◌∙◌, ◌++◌, ◌∷◌, ℕ, List, [], length, get_or, refl, sym, ap, subst, arith}
 use Rattle.std.proofs.lemmas.List.{get_or_default}
 use Rattle.hg_defs.specs.declared.moves.Move.{Move}
-use Rattle.hg_defs.specs.Hypergraph.{Hyper, vertex_count, weight_of, total_weight}
+use Rattle.hg_defs.specs.Hypergraph.{Hyper, vertex_count}
 use Rattle.hg_defs.specs.Partition.{load}
-use Rattle.hg_defs.specs.Moves.{moved, gain, move_of}
-use Rattle.hg_defs.specs.Replay.{replay}
-use Rattle.hg_defs.specs.Synchronous.{wish}
+use Rattle.hg_defs.specs.Moves.{moved, move_of}
 use Rattle.hg_defs.proofs.MoveLaws.{best_block_is}
 use Rattle.hg_defs.proofs.SumLaws.{weight_in-le}
 use Rattle.pin_plain.specs.Parted.{Parted}

@@ -1,13 +1,11 @@
-use Rattle.std.proofs.Common.{◌≡◌, ◌<◌, ◌∙◌, inl, inr, ℕ, List, [], length, sym, ap, subst, arith}
+use Rattle.std.proofs.Common.{◌≡◌, ◌∙◌, inl, inr, [], length, sym, ap, subst, arith}
 use Rattle.std.proofs.lemmas.Bool.{eqb-true, eqb-false}
-use Rattle.hg_defs.specs.Hypergraph.{Hyper}
 use Rattle.hg_defs.specs.Partition.{Fits}
-use Rattle.hg_defs.specs.Moves.{IsSettled}
 use Rattle.hg_defs.specs.Synchronous.{sync}
 use Rattle.hg_defs.proofs.SynchronousLaws.{sync-fits}
 use Rattle.pin_plain.specs.Parted.{Parted}
 use Rattle.pin_plain.proofs.SweepLaws.{same_step}
-use Rattle.det_sync.specs.Wishes.{Wish, AreWishes}
+use Rattle.det_sync.specs.Wishes.{AreWishes}
 use Rattle.det_sync.specs.Rounds.{LogsSync}
 use Rattle.det_sync.proofs.LevelLaws.{settled_without, unsettled_with, logs_more, logs_whole, empty_list, by_first, by_first_too}
 use Rattle.det_sync.proofs.rounds.sync_level.Goals as goal

@@ -1,8 +1,7 @@
-use Rattle.std.proofs.Common.{◌≡◌, ℕ, ◌<◌, ◌*◌, ◌-◌, ◌∙◌, Ok, IfOk, vec_len, min, List, get_or, sym, ap, subst, arith}
+use Rattle.std.proofs.Common.{◌≡◌, ◌<◌, ◌*◌, ◌-◌, ◌∙◌, Ok, IfOk, vec_len, min, get_or, sym, ap, subst, arith}
 use Rattle.std.specs.List.{range_with_len}
 use Rattle.hg_defs.specs.Hypergraph.{vertex_count}
 use Rattle.pin_plain.specs.BestMoves.{best_moves}
-use Rattle.det_sync.specs.Wishes.{Wish}
 use Rattle.det_sync.proofs.WishLaws.{parts_more, parts_all}
 use Rattle.det_sync.proofs.wishes.all_wishes.Goals as goal
 
