@@ -1,9 +1,8 @@
 -- Laws of a pass between two steps of its worker.
-use Rattle.std.proofs.Common.{◌≡◌, ℕ, List, length, sym, ap, subst, ◌∙◌}
-use Rattle.move_core.specs.declared.account.Stage.TheVariants.{Idle}
-use Rattle.move_core.specs.declared.events.Event.TheVariants.{Peek, Claim, Unclaim}
+use Rattle.std.proofs.Common.{◌≡◌, ℕ, sym, subst}
+use Rattle.move_core.specs.declared.events.Event.TheVariants.{Peek}
 use Rattle.move_core.specs.declared.events.Word.{Word}
-use Rattle.move_table.specs.Calls.{RacedRound, RacedPass, IsPassOf, stepped}
+use Rattle.move_table.specs.Calls.{RacedRound, RacedPass, stepped}
 use Rattle.label_prop.specs.Workers.{IsIdlePass}
 
 -- a peek leaves the pass as it was, but for its count of steps

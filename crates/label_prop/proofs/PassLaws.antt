@@ -1,7 +1,7 @@
 -- Laws of a pass of label propagation that is under way.
-use Rattle.std.proofs.Common.{◌≡◌, ℕ, ◌+◌, ◌-◌, ◌<◌, ◌≤◌, ◌^◌, ◌⊎◌, inl, inr, Bool, true, false, None, List, []}
+use Rattle.std.proofs.Common.{◌≡◌, ℕ, ◌+◌, ◌<◌, ◌^◌, ◌⊎◌, inl, Bool, true, false, None, List, []}
 use Rattle.std.proofs.Common.{◌∷◌, ◌++◌, length, All, refl, sym, ap, subst, ◌∙◌, arith}
-use Rattle.std.specs.Prelude.{nat_lt, if◌then◌else◌}
+use Rattle.std.specs.Prelude.{if◌then◌else◌}
 use Rattle.std.proofs.lemmas.Bool.{lt-ltb}
 use Rattle.std.proofs.lemmas.List.{append_assoc, append-nil, length-append}
 use Rattle.std.proofs.lemmas.List.Elements.{All-nil, All-cons, All-append}
@@ -20,7 +20,7 @@ use Rattle.round_log.specs.declared.record.Kind.TheVariants.{Label}
 use Rattle.round_log.specs.declared.record.LoggedRound.{LoggedRound}
 use Rattle.round_log.specs.Rounds.{after_round, after_rounds, IsSwept}
 use Rattle.round_log.specs.Passes.{AreLabelRounds, IsLabelRound, is_lower, saved}
-use Rattle.round_log.proofs.PassLaws.{pass-fits, pass-partition, pass-saves, pass-few}
+use Rattle.round_log.proofs.PassLaws.{pass-fits, pass-saves, pass-few}
 use Rattle.round_log.proofs.RoundLaws.{swept_less, swept_to, unsettled as was_unsettled}
 use Rattle.refiner.specs.declared.pass.Task.{Task}
 use Rattle.refiner.specs.declared.pass.Tally.{Tally}

@@ -1,16 +1,16 @@
 -- Laws of a sweep that is logged as a round of label propagation.
-use Rattle.std.proofs.Common.{◌≡◌, ℕ, ◌+◌, ◌-◌, ◌<◌, ◌≤◌, ◌^◌, false, List, [], ◌∷◌, ◌++◌, length, ℤ, pos, ◌-ℤ◌, refl, sym, ap, subst, ◌∙◌, arith}
+use Rattle.std.proofs.Common.{◌≡◌, ℕ, ◌-◌, ◌<◌, false, List, [], ◌∷◌, ◌++◌, length, ℤ, pos, ◌-ℤ◌, refl, sym, ap, subst, ◌∙◌}
 use Rattle.hg_defs.specs.declared.moves.Move.{Move}
-use Rattle.hg_defs.specs.Hypergraph.{Hyper, IsWithinLimits}
+use Rattle.hg_defs.specs.Hypergraph.{Hyper}
 use Rattle.hg_defs.specs.Cost.{cost}
 use Rattle.hg_defs.specs.Replay.{replay}
 use Rattle.hg_defs.specs.Moves.{IsSettled, sweep}
 use Rattle.hg_defs.proofs.MoveLaws.{settled_sweep, sweep_saves}
 use Rattle.pin_plain.specs.Parted.{Parted}
-use Rattle.pin_plain.proofs.SettleLaws.{sweep_few, sweep_some, sweep_less}
+use Rattle.pin_plain.proofs.SettleLaws.{sweep_some, sweep_less}
 use Rattle.round_log.specs.declared.record.Kind.TheVariants.{Label}
 use Rattle.round_log.specs.declared.record.LoggedRound.{LoggedRound}
-use Rattle.round_log.specs.Rounds.{IsSwept, after_round}
+use Rattle.round_log.specs.Rounds.{IsSwept}
 use Rattle.round_log.specs.Passes.{saved}
 use Rattle.round_log.proofs.RoundLaws.{swept_to}
 use Rattle.refiner.specs.declared.pass.Task.{Task}

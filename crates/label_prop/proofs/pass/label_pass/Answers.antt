@@ -1,4 +1,4 @@
-use Rattle.std.proofs.Common.{◌≡◌, ◌<◌, true, false, Result, Ok, Err, Option, List, ℕ, ◌+◌, inl, inr, true≢false, sym, subst, ◌∙◌, arith}
+use Rattle.std.proofs.Common.{true, false, Result, Ok, Err, Option, List, ℕ, ◌+◌, inl, inr, true≢false, sym, subst, ◌∙◌, arith}
 use Rattle.std.specs.Result.{OnErr}
 use Rattle.hg_defs.specs.Hypergraph.{Hyper, IsWithinLimits}
 use Rattle.hg_defs.specs.Partition.{IsPartition}

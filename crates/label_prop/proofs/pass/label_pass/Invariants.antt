@@ -1,4 +1,4 @@
-use Rattle.std.proofs.Common.{◌≡◌, true}
+use Rattle.std.proofs.Common.{true}
 use Rattle.label_prop.proofs.PassLaws.{IsUnderway}
 use Rattle.label_prop.proofs.pass.label_pass.Given as goal
 
