@@ -1,5 +1,5 @@
 -- The way down the levels: what was done so far, and what is left.
-use Rattle.std.proofs.Common.{◌≡◌, ◌≢◌, ℕ, zero, suc, ◌+◌, ◌-◌, ◌*◌, ◌<◌, ◌≤◌, ◌^◌, List, [], ◌∷◌, ◌++◌}
+use Rattle.std.proofs.Common.{◌≡◌, ◌≢◌, ℕ, zero, suc, ◌+◌, ◌-◌, ◌*◌, ◌<◌, ◌≤◌, ◌^◌, List, [], ◌++◌}
 use Rattle.std.proofs.Common.{length, map, All, AllPairs, refl, sym, ap, subst, ◌∙◌, arith}
 use Rattle.std.proofs.lemmas.List.{append-nil, append_assoc, length-append}
 use Rattle.std.proofs.lemmas.List.Elements.{All-map}
@@ -23,7 +23,6 @@ use Rattle.round_log.specs.TraceLaws.{IsSound}
 use Rattle.round_log.proofs.PassLaws.{rounds-save}
 use Rattle.round_log.proofs.DescentLaws.{Leaves}
 use Rattle.level_stack.specs.Stack.{Stack, LeadsUp, ledger_of}
-use Rattle.refiner.specs.declared.pass.Task.{Task}
 use Rattle.refiner.specs.declared.pass.Tally.{Tally}
 use Rattle.uncoarsen.specs.Start.{level_of}
 use Rattle.uncoarsen.specs.Refined.{IsRefinedBy, rounds_of, tallies_with}

@@ -1,5 +1,5 @@
 -- The laws of whole descents by refiners of given kinds, and a run's trace put together.
-use Rattle.std.proofs.Common.{◌≡◌, ℕ, zero, suc, ◌<◌, ◌≤◌, List, [], ◌∷◌, ◌++◌, length, refl, sym, ap, subst, ◌∙◌, arith}
+use Rattle.std.proofs.Common.{◌≡◌, ℕ, zero, suc, List, [], ◌∷◌, ◌++◌, length, refl, sym, ap, subst, ◌∙◌}
 use Rattle.std.proofs.lemmas.List.{append-nil, append_assoc}
 use Rattle.hg_defs.specs.Hypergraph.{Hyper}
 use Rattle.hg_defs.specs.Contraction.{after}
@@ -9,19 +9,17 @@ use Rattle.hg_defs.proofs.NamedLaws.{none_is_cheapest}
 use Rattle.round_log.specs.declared.record.Kind.{Kind}
 use Rattle.round_log.specs.declared.record.Kind.TheVariants.{Label, Search, Flow}
 use Rattle.round_log.specs.declared.record.Stop.{Stop}
-use Rattle.round_log.specs.declared.record.Chosen.{Chosen}
 use Rattle.round_log.specs.declared.record.LoggedRound.{LoggedRound}
 use Rattle.round_log.specs.declared.record.Trace.{Trace}
-use Rattle.round_log.specs.Rounds.{after_rounds}
 use Rattle.round_log.specs.Passes.{IsPass}
-use Rattle.round_log.specs.Trace.{IsRefined, IsTraced, Refined, IsDescent, AreContracted, IsStop, IsStart, IsGoodClustering, limit_of}
+use Rattle.round_log.specs.Trace.{IsRefined, IsTraced, Refined, IsDescent, AreContracted, IsStop, IsGoodClustering, limit_of}
 use Rattle.round_log.specs.TraceLaws.{IsPlaceableWithin, IsSound}
 use Rattle.round_log.proofs.DescentLaws.{chosen_sound, swept_settled}
 use Rattle.round_log.proofs.TraceLaws.{last_sound, ends_settled, ends_below_last, ends_below_greedy}
 use Rattle.level_stack.specs.Stack.{Stack}
-use Rattle.uncoarsen.specs.Start.{IsStartAt, level_of}
+use Rattle.uncoarsen.specs.Start.{IsStartAt}
 use Rattle.uncoarsen.specs.Settled.{SettlesBest}
-use Rattle.uncoarsen.specs.Refined.{ArePasses, IsRefinedBy, IsRefinedDown}
+use Rattle.uncoarsen.specs.Refined.{IsRefinedBy, IsRefinedDown}
 use Rattle.uncoarsen.specs.RefinedLaws.{EndsSettled, RefinersRaiseNoCost, EndsBelowLast, EndsBelowGreedy, ThreeKindsRefine, ThreeKindsAreLegal}
 use Rattle.uncoarsen.proofs.PassesLaws.{refined_by_leaves, after-append}
 

@@ -1,5 +1,5 @@
 -- The laws of the passes on a level, for any list of kinds.
-use Rattle.std.proofs.Common.{◌≡◌, ◌≢◌, ◌⊎◌, inl, inr, ℕ, suc, ◌+◌, ◌*◌, ◌-◌, ◌<◌, ◌≤◌, ◌^◌, true, List, [], ◌∷◌, ◌++◌, length, All, AllPairs}
+use Rattle.std.proofs.Common.{◌≡◌, ◌≢◌, ◌⊎◌, inl, inr, ℕ, suc, ◌+◌, ◌*◌, ◌-◌, ◌≤◌, ◌^◌, true, List, [], ◌∷◌, ◌++◌, length, All, AllPairs}
 use Rattle.std.proofs.Common.{refl, sym, ap, subst, ◌∙◌, arith}
 use Rattle.std.proofs.lemmas.Nat.{mul-le}
 use Rattle.std.proofs.lemmas.List.{length-append}
@@ -9,7 +9,7 @@ use Rattle.round_log.specs.declared.record.Kind.{Kind}
 use Rattle.round_log.specs.declared.record.Kind.TheVariants.{Label, Search, Flow, Sweep}
 use Rattle.round_log.specs.declared.record.LoggedRound.{LoggedRound}
 use Rattle.round_log.specs.Rounds.{after_round, after_rounds}
-use Rattle.round_log.specs.Passes.{block_pairs, most_rounds}
+use Rattle.round_log.specs.Passes.{most_rounds}
 use Rattle.round_log.proofs.PairLaws.{pairs_are_half}
 use Rattle.round_log.proofs.PassLaws.{AllKeep, pass_keeps, pass-few, pass-kind}
 use Rattle.round_log.proofs.DescentLaws.{keep_append, Leaves, leaves_by}

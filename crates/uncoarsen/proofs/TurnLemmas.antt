@@ -15,7 +15,7 @@ use Rattle.round_log.proofs.PassLaws.{pass-partition, pass-obeys, pass-fits, pas
 use Rattle.refiner.specs.declared.pass.Task.{Task}
 use Rattle.refiner.specs.declared.pass.Tally.{Tally}
 use Rattle.refiner.specs.Logging.{LogsPass}
-use Rattle.uncoarsen.specs.Refined.{ArePasses, IsRefinedBy, tally_with, tallies_with}
+use Rattle.uncoarsen.specs.Refined.{ArePasses, tally_with, tallies_with}
 use Rattle.uncoarsen.specs.Passing.{RefinesLevel}
 use Rattle.uncoarsen.proofs.PassesLaws.{after-append}
 use Rattle.uncoarsen.proofs.TallyLemmas.{tally_with-own, tallies_with-nil, tallies_with-append, tallies_with-one}

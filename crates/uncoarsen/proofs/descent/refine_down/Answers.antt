@@ -1,8 +1,7 @@
-use Rattle.std.proofs.Common.{◌≡◌, ◌≢◌, ℕ, ◌+◌, ◌-◌, ◌≤◌, ◌<◌, ◌^◌, suc, List, length, AllPairs, subst, sym, ap, ◌∙◌, arith, rules}
+use Rattle.std.proofs.Common.{◌≡◌, ◌≢◌, ◌+◌, ◌-◌, ◌≤◌, ◌^◌, AllPairs, subst, sym, ap, arith, rules}
 use Rattle.hg_defs.specs.Hypergraph.{Hyper, Suits, IsFixedWithin, IsWithinLimits}
 use Rattle.pin_plain.specs.Parted.{Parted}
 use Rattle.round_log.specs.declared.record.Kind.{Kind}
-use Rattle.uncoarsen.specs.Start.{level_of}
 use Rattle.uncoarsen.proofs.DownLemmas.{descending_at, descending_begin, descending_places, descending_ready, descending_more, tallies_low, down_end}
 use Rattle.uncoarsen.proofs.descent.refine_down.Goals as goal
 

@@ -1,4 +1,4 @@
-use Rattle.std.proofs.Common.{◌≡◌, List, [], refl, sym, inl}
+use Rattle.std.proofs.Common.{◌≡◌, [], refl, sym, inl}
 use Rattle.std.proofs.lemmas.List.{append-nil}
 use Rattle.std.proofs.lemmas.List.Elements.{All-nil}
 use Rattle.round_log.specs.declared.record.LoggedRound.{LoggedRound}
