@@ -123,7 +123,8 @@ order_of_moves t passes done out g laid =
       numbered = n ∙ sym m;
       all = laid.all;
       below = λ k l. below_at done h k (omega arith) m;
-      apart = λ j k l r o e. h.apart j k (blank_done) (omega arith) (omega arith) o (sym (number_is j blank_done (omega arith)) ∙ e ∙ number_is k blank_done (omega arith));
+      apart = λ j k l r o e. h.apart j k (blank_done) (omega arith) (omega arith) o (sym (number_is j blank_done (omega arith)) ∙ e ∙
+          number_is k blank_done (omega arith));
       places = λ k d l. laid.places k d l;
     }))
   where
