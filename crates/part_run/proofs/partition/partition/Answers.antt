@@ -25,11 +25,11 @@ returns-in_err-flat-clause-answer g c =
     }))
 
 pub run_levels-requires-clause-fixed : goal.run_levels-requires-clause-fixed
-run_levels-requires-clause-fixed g c =
+run_levels-requires-clause-fixed g c κs within =
     subst (λ (j : Job). IsFixedWithin c.in_ok-flat.flat j.k) (sym c.job_of-job.ensures.value) c.in_ok-flat.ensures.within
 
 pub run_levels-requires-clause-suits : goal.run_levels-requires-clause-suits
-run_levels-requires-clause-suits g c =
+run_levels-requires-clause-suits g c κs within =
     subst (λ (j : Job). Suits c.in_ok-flat.flat j.k) (sym c.job_of-job.ensures.value) c.in_ok-flat.ensures.suits
 
 pub returns-in_err-made-clause-answer : goal.returns-in_err-made-clause-answer
@@ -44,8 +44,9 @@ returns-in_err-made-clause-answer g c =
     })))
 
 pub deliver-requires : goal.deliver-requires
-deliver-requires g c = reportable _ c.job_of-job.result c.in_ok-flat.flat c.in_ok-made.made c.job_of-job.ensures.bounds
-    c.in_ok-made.ensures.answer
+deliver-requires g c = record {
+  reportable = reportable _ c.job_of-job.result c.in_ok-flat.flat c.in_ok-made.made c.job_of-job.ensures.bounds c.in_ok-made.ensures.answer;
+}
 
 pub returns-in_err-deliver-clause-answer : goal.returns-in_err-deliver-clause-answer
 returns-in_err-deliver-clause-answer g c =
