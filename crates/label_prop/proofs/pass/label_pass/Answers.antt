@@ -41,7 +41,7 @@ count-requires-clause-rounds g c =
     let bounds = subst IsWithinLimits c.requires.belongs c.blocks-blocks.ensures.parted.bounds in
     let room = raced_room c.args.h.now c.args.task.now c.args.p c.args.tally.now c.args.log.now c.requires.belongs whole c.requires.fits bounds
     c.requires.tallied.0 c.requires.tallied.1 c.turns.counter c.turns.part c.turns.tally c.turns.log c.turns.invariant.underway
-    (λ settled. true≢false (sym (c.settled.ensures.1 settled) ∙ c.if-settled.false)) c.turns-test.true
+    (λ settled. true≢false (sym (c.settled.ensures.1 settled) ∙ c.if-settled.false)) (let test = c.turns-test.true in omega arith)
     c.in_ok-raced.saved c.in_ok-raced.raced c.race_round.new.log c.in_ok-raced.ensures.ok in
     let a = room.0 in
     omega arith
@@ -52,7 +52,7 @@ count-requires-clause-gain g c =
     let bounds = subst IsWithinLimits c.requires.belongs c.blocks-blocks.ensures.parted.bounds in
     let room = raced_room c.args.h.now c.args.task.now c.args.p c.args.tally.now c.args.log.now c.requires.belongs whole c.requires.fits bounds
     c.requires.tallied.0 c.requires.tallied.1 c.turns.counter c.turns.part c.turns.tally c.turns.log c.turns.invariant.underway
-    (λ settled. true≢false (sym (c.settled.ensures.1 settled) ∙ c.if-settled.false)) c.turns-test.true
+    (λ settled. true≢false (sym (c.settled.ensures.1 settled) ∙ c.if-settled.false)) (let test = c.turns-test.true in omega arith)
     c.in_ok-raced.saved c.in_ok-raced.raced c.race_round.new.log c.in_ok-raced.ensures.ok in
     let a = room.1 in
     omega arith
@@ -68,7 +68,7 @@ returns-in_err-saved-clause-part g c =
     c.race_round.new.log
     (raced_same c.args.h.now c.args.task.now c.args.p c.args.tally.now c.args.log.now c.requires.belongs whole c.requires.fits bounds
     c.requires.tallied.0 c.requires.tallied.1 c.turns.counter c.turns.part c.turns.tally c.turns.log c.turns.invariant.underway
-    (λ settled. true≢false (sym (c.settled.ensures.1 settled) ∙ c.if-settled.false)) c.turns-test.true
+    (λ settled. true≢false (sym (c.settled.ensures.1 settled) ∙ c.if-settled.false)) (let test = c.turns-test.true in omega arith)
     c.in_ok-raced.saved c.in_ok-raced.raced c.race_round.new.log c.in_ok-raced.ensures.ok c.count.new.tally c.count.ensures c.if-saved-eq0.true)))
 
 pub returns-in_default-clause-pass : goal.returns-in_default-clause-pass
@@ -77,7 +77,7 @@ returns-in_default-clause-pass g c =
     let bounds = subst IsWithinLimits c.requires.belongs c.blocks-blocks.ensures.parted.bounds in
     rested_whole c.args.h.now c.args.task.now c.args.p c.args.tally.now c.args.log.now c.requires.belongs whole c.requires.fits bounds
     c.requires.tallied.0 c.requires.tallied.1 c.turns.counter c.turns.part c.turns.tally c.turns.log c.turns.invariant.underway
-    (λ settled. true≢false (sym (c.settled.ensures.1 settled) ∙ c.if-settled.false)) c.turns-test.true
+    (λ settled. true≢false (sym (c.settled.ensures.1 settled) ∙ c.if-settled.false)) (let test = c.turns-test.true in omega arith)
     c.in_ok-raced.saved c.in_ok-raced.raced c.race_round.new.log c.in_ok-raced.ensures.ok c.count.new.tally c.count.ensures c.if-saved-eq0.true
     c.sweep_round.new.log c.sweep_round.new.part
     (subst (λ (o : Option ℕ). SweepsOrRests c.args.h.now c.args.task.now c.in_ok-raced.raced c.race_round.new.log c.sweep_round.new.log o
@@ -90,7 +90,7 @@ count-requires-then-saved-eq0-clause-rounds g c =
     let bounds = subst IsWithinLimits c.requires.belongs c.blocks-blocks.ensures.parted.bounds in
     let room = swept_room c.args.h.now c.args.task.now c.args.p c.args.tally.now c.args.log.now c.requires.belongs whole c.requires.fits bounds
     c.requires.tallied.0 c.requires.tallied.1 c.turns.counter c.turns.part c.turns.tally c.turns.log c.turns.invariant.underway
-    (λ settled. true≢false (sym (c.settled.ensures.1 settled) ∙ c.if-settled.false)) c.turns-test.true
+    (λ settled. true≢false (sym (c.settled.ensures.1 settled) ∙ c.if-settled.false)) (let test = c.turns-test.true in omega arith)
     c.in_ok-raced.saved c.in_ok-raced.raced c.race_round.new.log c.in_ok-raced.ensures.ok c.count.new.tally c.count.ensures c.if-saved-eq0.true c.in-Some.saved
     c.sweep_round.new.log c.sweep_round.new.part
     (subst (λ (o : Option ℕ). SweepsOrRests c.args.h.now c.args.task.now c.in_ok-raced.raced c.race_round.new.log c.sweep_round.new.log o
@@ -104,7 +104,7 @@ count-requires-then-saved-eq0-clause-gain g c =
     let bounds = subst IsWithinLimits c.requires.belongs c.blocks-blocks.ensures.parted.bounds in
     let room = swept_room c.args.h.now c.args.task.now c.args.p c.args.tally.now c.args.log.now c.requires.belongs whole c.requires.fits bounds
     c.requires.tallied.0 c.requires.tallied.1 c.turns.counter c.turns.part c.turns.tally c.turns.log c.turns.invariant.underway
-    (λ settled. true≢false (sym (c.settled.ensures.1 settled) ∙ c.if-settled.false)) c.turns-test.true
+    (λ settled. true≢false (sym (c.settled.ensures.1 settled) ∙ c.if-settled.false)) (let test = c.turns-test.true in omega arith)
     c.in_ok-raced.saved c.in_ok-raced.raced c.race_round.new.log c.in_ok-raced.ensures.ok c.count.new.tally c.count.ensures c.if-saved-eq0.true c.in-Some.saved
     c.sweep_round.new.log c.sweep_round.new.part
     (subst (λ (o : Option ℕ). SweepsOrRests c.args.h.now c.args.task.now c.in_ok-raced.raced c.race_round.new.log c.sweep_round.new.log o
@@ -121,7 +121,7 @@ turns-preserved g c =
         underway = under_same_as c.args.h.now c.args.task.now c.args.p c.args.tally.now c.args.log.now (c.turns.counter + 1) w.part-is w.tally-is w.log-is
             (swept_lower c.args.h.now c.args.task.now c.args.p c.args.tally.now c.args.log.now c.requires.belongs whole c.requires.fits bounds
             c.requires.tallied.0 c.requires.tallied.1 c.turns.counter c.turns.part c.turns.tally c.turns.log c.turns.invariant.underway
-            (λ settled. true≢false (sym (c.settled.ensures.1 settled) ∙ c.if-settled.false)) c.turns-test.true
+            (λ settled. true≢false (sym (c.settled.ensures.1 settled) ∙ c.if-settled.false)) (let test = c.turns-test.true in omega arith)
             c.in_ok-raced.saved c.in_ok-raced.raced c.race_round.new.log c.in_ok-raced.ensures.ok c.count.new.tally c.count.ensures w.if-saved-eq0.true
             w.in-Some.saved w.sweep_round.new.log w.sweep_round.new.part
             (subst (λ (o : Option ℕ). SweepsOrRests c.args.h.now c.args.task.now c.in_ok-raced.raced c.race_round.new.log w.sweep_round.new.log o
@@ -132,7 +132,7 @@ turns-preserved g c =
         underway = under_same_as c.args.h.now c.args.task.now c.args.p c.args.tally.now c.args.log.now (c.turns.counter + 1) w.part-is w.tally-is w.log-is
             (raced_lower c.args.h.now c.args.task.now c.args.p c.args.tally.now c.args.log.now c.requires.belongs whole c.requires.fits bounds
             c.requires.tallied.0 c.requires.tallied.1 c.turns.counter c.turns.part c.turns.tally c.turns.log c.turns.invariant.underway
-            (λ settled. true≢false (sym (c.settled.ensures.1 settled) ∙ c.if-settled.false)) c.turns-test.true
+            (λ settled. true≢false (sym (c.settled.ensures.1 settled) ∙ c.if-settled.false)) (let test = c.turns-test.true in omega arith)
             c.in_ok-raced.saved c.in_ok-raced.raced c.race_round.new.log c.in_ok-raced.ensures.ok c.count.new.tally c.count.ensures
             (let some = w.if-saved-eq0.false in omega arith));
       }
