@@ -7,9 +7,8 @@ use Rattle.std.proofs.lemmas.List.{get_or_default}
 use Rattle.std.proofs.lemmas.Bool.Decides.{Decides-eqb}
 use Rattle.std.proofs.lemmas.Map.Made.{is_member-Decides}
 use Rattle.std.proofs.lemmas.List.Elements.{All-contains, Contains-get_or}
-use Rattle.hg_defs.specs.Sums.{sum_below}
-use Rattle.hg_defs.specs.Hypergraph.{Net, Hyper, IsHypergraph, vertex_count, net_count, net_of}
-use Rattle.hg_defs.specs.Partition.{IsPartition, block_of}
+use Rattle.hg_defs.specs.Hypergraph.{Net, Hyper, vertex_count, net_count, net_of}
+use Rattle.hg_defs.specs.Partition.{block_of}
 use Rattle.hg_defs.specs.Cost.{connectivity}
 use Rattle.hg_defs.specs.Pins.{pins_in, present}
 use Rattle.hg_defs.specs.Incidence.{is_on, nets_of}
@@ -20,9 +19,8 @@ use Rattle.hg_defs.proofs.PlacementLaws.{Contains_filter}
 use Rattle.pin_plain.specs.Parted.{IsParted}
 use Rattle.incidence.proofs.IndexLaws.{nets_of-below}
 use Rattle.pin_plain.proofs.GainLaws.{nets_of-hold}
-use Rattle.round_log.specs.Rounds.{has_pin}
 use Rattle.round_log.specs.Passes.{IsPossible, HasPossible}
-use Rattle.fm_search.specs.Possible.{Reaches, MayGo, IsLowest, IsFirst}
+use Rattle.fm_search.specs.Possible.{MayGo, IsLowest, IsFirst}
 
 -- a net has a pin in a block where it has more than none
 has_pin-count : (p pins : List ℕ) (b : ℕ) → list_any (λ v. nat_eq (block_of p v) b) pins ≡ nat_lt 0 (pins_in p pins b)

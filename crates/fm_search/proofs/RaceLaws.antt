@@ -4,12 +4,11 @@ use Rattle.std.proofs.lemmas.List.{length-map, get_or-map, append-nil, take_all,
 use Rattle.hg_defs.specs.Hypergraph.{Hyper, vertex_count, net_count}
 use Rattle.move_core.specs.declared.account.Account.{Account}
 use Rattle.move_core.specs.declared.account.Stage.TheVariants.{Idle}
-use Rattle.move_core.specs.State.{blank}
 use Rattle.move_table.specs.Calls.{RacedRound, RacedPass, AreFresh, IsPassOf}
 use Rattle.move_table.specs.Closing.{ArePassesOf}
 use Rattle.fm_search.specs.declared.worker.Worker.{Worker}
 use Rattle.fm_search.specs.Standing.{Standing, Size, standing_of, size_for, IsOf, IsFit}
-use Rattle.fm_search.specs.Workers.{IsWorkerAt, IsFreshAt, AreWorkers, AreFreshWorkers}
+use Rattle.fm_search.specs.Workers.{IsFreshAt, AreWorkers, AreFreshWorkers}
 
 fits : (r : RacedRound) (h : Hyper) (k : ℕ) (s : Standing) (d : Size) → IsOf r s → d ≡ size_for h k → IsFit r h k s d
 fits r h k s d belongs size = record {

@@ -1,7 +1,7 @@
 -- The plain round of one move.
-use Rattle.std.proofs.Common.{◌≡◌, ◌≢◌, ℕ, zero, suc, ◌<◌, ◌≤◌, false, nat_eq, if◌then◌else◌, List, [], ◌∷◌, length, All, ℤ, pos, ◌+ℤ◌, ◌-ℤ◌, to_z, of_z, ◌^◌}
+use Rattle.std.proofs.Common.{◌≡◌, ◌≢◌, ℕ, zero, suc, ◌<◌, false, nat_eq, if◌then◌else◌, List, [], ◌∷◌, length, ℤ, pos, ◌+ℤ◌, ◌-ℤ◌, to_z, of_z, ◌^◌}
 use mir.Syntax.{w64}
-use Rattle.std.proofs.Common.{refl, sym, ap, ap₂, subst, ◌∙◌, arith}
+use Rattle.std.proofs.Common.{sym, ap, ap₂, subst, ◌∙◌, arith}
 use Rattle.std.specs.Prelude.{AllPairs, slice_index_or}
 use Rattle.std.proofs.lemmas.Bool.{eq-eqb}
 use Rattle.std.proofs.lemmas.Int.{ints}
@@ -19,7 +19,7 @@ use Rattle.hg_defs.proofs.UndoLaws.{moves_are_undone}
 use Rattle.rollback_prefix.specs.Steps.{Ends, EndAt}
 use Rattle.pin_plain.specs.Parted.{Parted, IsParted}
 use Rattle.round_log.specs.declared.record.LoggedRound.{LoggedRound}
-use Rattle.round_log.specs.Rounds.{after_round, booked_by, IsMove, AreRacedMoves, HasNoPair, AreAllowed}
+use Rattle.round_log.specs.Rounds.{booked_by, IsMove, AreRacedMoves, HasNoPair, AreAllowed}
 use Rattle.round_log.specs.Passes.{IsSingleMove}
 use Rattle.fm_search.specs.Possible.{IsFirst}
 

@@ -1,5 +1,5 @@
 -- The round that is logged, raced or of a single move.
-use Rattle.std.proofs.Common.{◌≡◌, ◌∷◌, [], ◌++◌, List, ap, subst, sym, ◌∙◌}
+use Rattle.std.proofs.Common.{◌∷◌, [], ◌++◌, List, ap, subst, sym, ◌∙◌}
 use Rattle.std.proofs.lemmas.Result.{IfOk-weaker}
 use Rattle.hg_defs.specs.Hypergraph.{Hyper}
 use Rattle.pin_plain.specs.Parted.{IsParted}

@@ -1,5 +1,5 @@
 -- A pass that is under way goes on, or ends as it may.
-use Rattle.std.proofs.Common.{◌≡◌, ◌+◌, ◌<◌, true, false, Result, Ok, Err, List, All, inl, inr, refl, sym, ap, subst, ◌∙◌, arith}
+use Rattle.std.proofs.Common.{◌≡◌, ◌+◌, true, false, Result, Ok, Err, List, All, inl, inr, refl, sym, ap, subst, arith}
 use Rattle.std.specs.Prelude.{nat_lt}
 use Rattle.std.proofs.lemmas.Bool.{lt-ltb}
 use Rattle.std.specs.Result.{OnErr}
@@ -9,7 +9,7 @@ use Rattle.pin_plain.specs.Parted.{Parted}
 use Rattle.refiner.specs.declared.pass.Tally.{Tally}
 use Rattle.fm_search.specs.Standing.{size_for}
 use Rattle.refiner.specs.Logging.{LogsRounds}
-use Rattle.fm_search.proofs.PassLaws.{IsUnderway, begun, under_part, under_whole, under_belongs, under_room, under_more}
+use Rattle.fm_search.proofs.PassLaws.{IsUnderway, under_part, under_whole, under_belongs, under_room, under_more}
 use Rattle.fm_search.proofs.pass.search_pass.Goals as goal
 
 -- what holds whatever is answered holds of an error

@@ -1,5 +1,5 @@
 -- The last round of the log is the one that was made.
-use Rattle.std.proofs.Common.{◌≡◌, ◌∷◌, [], ◌++◌, ◌+◌, ap, ◌∙◌}
+use Rattle.std.proofs.Common.{◌+◌, ap, ◌∙◌}
 use Rattle.round_log.specs.declared.record.LoggedRound.{LoggedRound}
 use Rattle.round_log.specs.Passes.{saved}
 use Rattle.fm_search.proofs.LogLaws.{last_is}

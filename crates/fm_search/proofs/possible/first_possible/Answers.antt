@@ -1,5 +1,5 @@
 -- The first vertex that may go anywhere, to its lowest block.
-use Rattle.std.proofs.Common.{ap, subst, sym, arith}
+use Rattle.std.proofs.Common.{subst, arith}
 use Rattle.hg_defs.specs.Hypergraph.{Hyper}
 use Rattle.pin_plain.specs.Parted.{IsParted}
 use Rattle.fm_search.proofs.PossibleLaws.{first_from, none_possible}

@@ -2,8 +2,6 @@
 use Rattle.std.proofs.Common.{◌≡◌, length, map, All, ap, subst, sym, ◌∙◌, rules}
 use Rattle.std.proofs.lemmas.List.{length-map}
 use Rattle.move_table.specs.declared.view.Terms.{Terms}
-use Rattle.move_table.specs.Closing.{all_gains}
-use Rattle.fm_search.specs.declared.worker.Worker.{Worker}
 use Rattle.fm_search.specs.Standing.{size_for}
 use Rattle.fm_search.specs.Workers.{AreFreshWorkers}
 use Rattle.fm_search.proofs.RaceLaws.{fresh_workers, same_sizes, passes_again, written_back, as_many}
