@@ -46,7 +46,7 @@ module _ (h : Hyper) (p q : List ℕ) (c d : ℕ) (first : HasSame p q c) (secon
       e.pins
       (λ v. ap (λ t. not t && not (nat_eq (block_of q v) d)) (first v) ∙ ap (λ t. not (nat_eq (block_of p v) c) && not t) (second v))
 
-  pair_cost-same : pair_cost h q c d ≡ pair_cost h p c d
+  pub pair_cost-same : pair_cost h q c d ≡ pair_cost h p c d
   pair_cost-same =
       ap (total (λ e. pair_price h.objective (leaves q c d e) e.weight)) touching-same
       ∙ total-same_each (λ e. pair_price h.objective (leaves q c d e) e.weight) (λ e. pair_price h.objective (leaves p c d e) e.weight)

@@ -97,15 +97,6 @@ pub record IsAssigning (h : Hyper) (p vs blocks : List ℕ) (i : ℕ) (q : List 
   pub saved : total_z (λ m. m.booked) moves ≡ pos (cost h p) -ℤ pos (cost h q)
   pub few : length moves ≤ i
 
-pub assigning_first : (h : Hyper) (p vs blocks : List ℕ) → IsAssigning h p vs blocks 0 p []
-assigning_first h p vs blocks = record {
-  rest = refl;
-  made = refl;
-  replayed = refl;
-  saved = omega (arith, ints);
-  few = omega arith;
-}
-
 module _ (h : Hyper) (p : List ℕ) (v b : ℕ) where
   change-replayed : replay p (change h p v b) ≡ slice_set p v b
   change-replayed = by (nat_eq (block_of p v) b) refl
@@ -218,7 +209,7 @@ module _ (h : Hyper) (k l : ℕ) (p : List ℕ) (r : LoggedRound) (blocks : List
 
 -- ---- what the record says of its moves
 
-changes-within : (P : ℕ → Type 0) (h : Hyper) (p q vs : List ℕ) → All P vs → All (λ m. P m.vertex) (changes h p q vs)
+pub changes-within : (P : ℕ → Type 0) (h : Hyper) (p q vs : List ℕ) → All P vs → All (λ m. P m.vertex) (changes h p q vs)
 changes-within P h p q [] all = All-nil (λ (m : Move). P m.vertex)
 changes-within P h p q (v ∷ vs) all =
     by (nat_eq (block_of p v) (block_of q v)) (changes-within P h (slice_set p v (block_of q v)) q vs (All-tail P v vs all))

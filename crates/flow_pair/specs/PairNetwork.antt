@@ -84,8 +84,3 @@ pub record Extends (old new : FlowNetwork) (nodes : ℕ) (arcs : List Arc) : Typ
 -- no flow yet
 abbrev pub IsIdle : FlowNetwork → Type 0
 IsIdle network = network.flows ≡ replicate (length network.arcs) 0
-
--- a network after those of some nets were added that join it
-abbrev pub ExtendsByNets : Hyper → List ℕ → ℕ → ℕ → List ℕ → FlowNetwork → FlowNetwork → List Net → Type 0
-ExtendsByNets h p a b region old new nets =
-    Extends old new (2 * length (filter (joins p a b region) nets)) (nets_arcs h p a b region old.nodes (filter (joins p a b region) nets))

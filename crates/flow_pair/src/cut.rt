@@ -51,7 +51,7 @@ pub(crate) fn touching_nets_of(
 }
 
 /// The nets that touch both blocks of a pair, all of which are among some nets.
-pub(crate) fn nets_between(
+pub fn nets_between(
     alloc: Global,
     h: &Hypergraph,
     p: &Partition,
@@ -108,11 +108,7 @@ fn is_cut(blocks: &[u32], pins: &[u32]) -> bool
 }
 
 /// The nets that touch two blocks.
-pub(crate) fn cut_nets_of(
-    alloc: Global,
-    h: &Hypergraph,
-    p: &Partition,
-) -> Result<Vec<u32>, NoMemory>
+pub fn cut_nets_of(alloc: Global, h: &Hypergraph, p: &Partition) -> Result<Vec<u32>, NoMemory>
     requires { p.now.hyper ≡ h.now }
     ensures { IfOk result (λ cut. HoldsCut h.now p.now.blocks cut.items) }
 {
@@ -125,11 +121,7 @@ pub(crate) fn cut_nets_of(
 }
 
 /// Appends the nets of the vertices that moved.
-pub(crate) fn add_nets_of(
-    h: &Hypergraph,
-    moves: &[Move],
-    list: &mut Vec<u32>,
-) -> Result<(), NoMemory>
+pub fn add_nets_of(h: &Hypergraph, moves: &[Move], list: &mut Vec<u32>) -> Result<(), NoMemory>
     requires { All (λ m. m.vertex < vertex_count h.now) moves.now }
     ensures { OnOk result (list.new.items ≡ list.old.items ++ flat_map (λ m. nets_of h.now m.vertex) moves.now) }
 {

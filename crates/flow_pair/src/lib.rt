@@ -12,10 +12,12 @@ mod region;
 mod round;
 mod solve;
 
+pub use cut::{add_nets_of, cut_nets_of, nets_between};
 pub use flow_net::NoMemory;
 pub use network::region_network;
 pub use pass::flow_pass;
 pub use refine::FlowPair;
+pub use round::{assign_region, record_round};
 pub use solve::{PairEnd, PairSolver, solve_pair};
 
 #[cfg(test)]

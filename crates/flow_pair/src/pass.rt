@@ -61,7 +61,7 @@ impl Course {
         let Some(end) = found else {
             return Ok(());
         };
-        let round = record_round(alloc, h, self.level, &mut self.part, a, b, self.cost, end)?;
+        let round = record_round(alloc, h, self.level, &mut self.part, a, b, self.cost, &end)?;
         self.cost = round.after;
         add_nets_of(h, round.moves.slice(), &mut self.cut)?;
         add_nets_of(h, round.moves.slice(), row)?;

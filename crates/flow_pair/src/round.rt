@@ -51,7 +51,7 @@ fn reassign(
 
 /// Moves the vertices of a region, in rising order, to their blocks. Answers the moves of those whose
 /// blocks changed.
-fn assign(
+pub fn assign_region(
     alloc: Global,
     h: &Hypergraph,
     p: &mut Partition,
@@ -94,7 +94,7 @@ fn saved_by(moves: &[Move]) -> i128
 
 /// Assigns the region of a pair anew as its end says, and records that as a round. The cost before it
 /// is known.
-pub(crate) fn record_round(
+pub fn record_round(
     alloc: Global,
     h: &Hypergraph,
     level: u32,
@@ -102,24 +102,21 @@ pub(crate) fn record_round(
     a: u32,
     b: u32,
     before: u64,
-    end: PairEnd,
+    end: &PairEnd,
 ) -> Result<LoggedRound, NoMemory>
     requires belongs { p.old.hyper ≡ h.now }
     requires order { a < b }
     requires second { b < p.old.k }
     requires before { before ≡ cost h.now p.old.blocks }
     requires small { before < 2 ^ 57 }
-    requires end { IsPairEnd h.now p.old.k p.old.limit p.old.blocks a b end }
+    requires end { IsPairEnd h.now p.old.k p.old.limit p.old.blocks a b end.now }
     ensures round { IfOk result (RecordsFlow h.now p.old.k p.old.limit level p.old.blocks a b) }
     ensures partition { IfOk result (λ r. p.new ≡ record p.old { blocks = after_round p.old.blocks r }) }
+    ensures assigned { OnOk result (p.new.blocks ≡ reassigned p.old.blocks end.now.region end.now.blocks) }
 {
     let _parted = p.blocks();
-    let PairEnd {
-        region,
-        blocks,
-        value,
-    } = end;
-    let moves = assign(alloc, h, p, region.slice(), blocks.slice())?;
+    let region = end.region.copy()?;
+    let moves = assign_region(alloc, h, p, end.region.slice(), end.blocks.slice())?;
     let saved = saved_by(moves.slice());
     let mut gains = Gains::new(alloc);
     gains.push(saved as i64)?;
@@ -137,7 +134,7 @@ pub(crate) fn record_round(
         first: a,
         second: b,
         region,
-        value,
+        value: end.value,
         tabled: false,
     })
 }

@@ -1,6 +1,6 @@
 use Rattle.std.proofs.Common.{◌≡◌}
 use Rattle.flow_pair.proofs.ChangeLaws.{IsAssigning}
-use Rattle.flow_pair.proofs.round.assign.Given as goal
+use Rattle.flow_pair.proofs.round.assign_region.Given as goal
 
 abbrev pub invariant-loop-i : goal.invariant-loop-i
 invariant-loop-i l = record {

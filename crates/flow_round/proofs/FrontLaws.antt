@@ -1,0 +1,291 @@
+-- Turns of the pairs of a wave, and of waves, one after the other.
+use Rattle.std.proofs.Common.{◌≡◌, ◌≢◌, ◌⊎◌, inl, inr, ℕ, zero, suc, ◌+◌, ◌-◌, ◌<◌, ◌≤◌, Bool, true, false, List, [], ◌∷◌, ◌++◌, map, filter, All}
+use Rattle.std.proofs.Common.{Contains, Option, None, refl, sym, ap, subst, ◌∙◌, arith, if◌then◌else◌}
+use Rattle.std.specs.List.{range_with_len}
+use Rattle.std.proofs.lemmas.List.{append-nil, append_assoc}
+use Rattle.std.proofs.lemmas.List.Elements.{All-append, All-weaker, All-contains_itself}
+use Rattle.hg_defs.specs.Hypergraph.{Hyper, IsHypergraph}
+use Rattle.hg_defs.specs.Partition.{IsPartition, Fits}
+use Rattle.hg_defs.proofs.DistinctLaws.{Contains-from_map}
+use Rattle.hg_defs.proofs.NumberingLaws.{Contains-from_filter}
+use Rattle.pin_plain.specs.Parted.{Parted}
+use Rattle.flow_pair.specs.declared.solve.PairEnd.{PairEnd}
+use Rattle.flow_pair.proofs.MemberLaws.{Contains-from_range}
+use Rattle.flow_round.specs.PairTurns.{IsPairBelow, IsTurn, AreTurns, after_turn, after_turns, is_of_wave, wave}
+use Rattle.flow_round.specs.Waves.{end_at, GainsEnds}
+use Rattle.flow_round.specs.declared.front.Front.{Front}
+use Rattle.flow_round.specs.Fronts.{MayHaveEnd, KeepsOtherEnds, KeepsOtherWaves, TakesPairs}
+use Rattle.flow_round.proofs.SwapLaws.{turn_kept}
+use Rattle.flow_round.proofs.TableLaws.{after_turns-append, after_turns-same, turns_append, turns_same}
+use Rattle.flow_round.proofs.WaveLaws.{IsOfWave, wave_is, wave_of, wave_disjoint, waves_from, waves_from-suc}
+
+-- ---- a wave up to a block
+
+abbrev pub pair_in : ℕ → ℕ → ℕ × ℕ
+pair_in s a = (a, s - a)
+
+-- the pairs of a wave whose first block is below a
+abbrev pub wave_below : ℕ → ℕ → ℕ → List (ℕ × ℕ)
+wave_below k s a = map (pair_in s) (filter (is_of_wave k s) (range_with_len 0 a))
+
+below_of : (k s a : ℕ) → All (λ x. IsOfWave k s x × (x.0 < a)) (wave_below k s a)
+below_of k s a = All-weaker (Contains (wave_below k s a)) (λ x. IsOfWave k s x × (x.0 < a)) by (wave_below k s a) (All-contains_itself (wave_below k s a))
+  where
+    by : (x : ℕ × ℕ) → Contains (wave_below k s a) x → IsOfWave k s x × (x.0 < a)
+    by x c =
+        let m = Contains-from_map (pair_in s) (filter (is_of_wave k s) (range_with_len 0 a)) x c in
+        let f = Contains-from_filter (is_of_wave k s) (range_with_len 0 a) m.0 m.1 in
+        subst (λ y. IsOfWave k s y × (y.0 < a)) m.2 (wave_is k s m.0 f.1, Contains-from_range a m.0 f.0)
+
+range_more : (f n : ℕ) → range_with_len f (n + 1) ≡ range_with_len f n ++ (f + n) ∷ []
+range_more f zero = let e : f ≡ f + 0 = omega arith in ap (λ x. x ∷ []) e
+range_more f (suc n) =
+    let e : suc n + 1 ≡ suc (n + 1) = omega arith in
+    let g : f + 1 + n ≡ f + suc n = omega arith in
+    ap (range_with_len f) e ∙ ap (λ xs. f ∷ xs) (range_more (f + 1) n ∙ ap (λ x. range_with_len (f + 1) n ++ x ∷ []) g)
+
+filter_more : (test : ℕ → Bool) (xs : List ℕ) (x : ℕ) → filter test (xs ++ x ∷ []) ≡ filter test xs ++ (if test x then x ∷ [] else [])
+filter_more test [] x = refl
+filter_more test (y ∷ xs) x = by (test y) (filter_more test xs x)
+  where
+    by : (t : Bool) → filter test (xs ++ x ∷ []) ≡ filter test xs ++ (if test x then x ∷ [] else [])
+        → (if t then y ∷ filter test (xs ++ x ∷ []) else filter test (xs ++ x ∷ []))
+        ≡ (if t then y ∷ filter test xs else filter test xs) ++ (if test x then x ∷ [] else [])
+    by true e = ap (λ ys. y ∷ ys) e
+    by false e = e
+
+map_more : (s : ℕ) (xs ys : List ℕ) → map (pair_in s) (xs ++ ys) ≡ map (pair_in s) xs ++ map (pair_in s) ys
+map_more s [] ys = refl
+map_more s (x ∷ xs) ys = ap (λ zs. pair_in s x ∷ zs) (map_more s xs ys)
+
+wave_below-more : (k s a : ℕ) → wave_below k s (a + 1)
+    ≡ wave_below k s a ++ map (pair_in s) (if is_of_wave k s a then a ∷ [] else [])
+wave_below-more k s a =
+    let e : 0 + a ≡ a = omega arith in
+    ap (λ xs. map (pair_in s) (filter (is_of_wave k s) xs)) (range_more 0 a ∙ ap (λ x. range_with_len 0 a ++ x ∷ []) e)
+    ∙ ap (map (pair_in s)) (filter_more (is_of_wave k s) (range_with_len 0 a) a)
+    ∙ map_more s (filter (is_of_wave k s) (range_with_len 0 a)) (if is_of_wave k s a then a ∷ [] else [])
+
+pub wave_below-in : (k s a : ℕ) → is_of_wave k s a ≡ true → wave_below k s (a + 1) ≡ wave_below k s a ++ pair_in s a ∷ []
+wave_below-in k s a t = wave_below-more k s a ∙ ap (λ b. wave_below k s a ++ map (pair_in s) (if b then a ∷ [] else [])) t
+
+pub wave_below-out : (k s a : ℕ) → is_of_wave k s a ≡ false → wave_below k s (a + 1) ≡ wave_below k s a
+wave_below-out k s a t =
+    wave_below-more k s a ∙ ap (λ b. wave_below k s a ++ map (pair_in s) (if b then a ∷ [] else [])) t ∙ append-nil (wave_below k s a)
+
+-- ---- a pair of the wave more
+
+module _ (h : Hyper) (k l : ℕ) (sound : IsHypergraph h) (first q : List ℕ) (ends more : List (Option PairEnd)) (s a : ℕ) (t : is_of_wave k s a ≡ true)
+    (is : q ≡ after_turns (end_at k ends) (wave_below k s a) first) (turns : AreTurns h k l (end_at k ends) (wave_below k s a) first)
+    (turn : IsTurn h k l q (pair_in s a) (end_at k more (pair_in s a))) (others : KeepsOtherEnds k ends more (pair_in s a))
+  where
+    kept : All (λ x. end_at k more x ≡ end_at k ends x) (wave_below k s a)
+    kept = All-weaker (λ x. IsOfWave k s x × (x.0 < a)) (λ x. end_at k more x ≡ end_at k ends x)
+        (λ x w. others x w.0.0 (λ e. let f = ap (λ (z : ℕ × ℕ). z.0) e in let g = w.1 in absurd (omega arith))) (wave_below k s a) (below_of k s a)
+
+    pub more_turns : AreTurns h k l (end_at k more) (wave_below k s (a + 1)) first
+    more_turns =
+        subst (λ xs. AreTurns h k l (end_at k more) xs first) (sym (wave_below-in k s a t))
+        (turns_append h k l (end_at k more) (wave_below k s a) (pair_in s a ∷ []) first (turns_same h k l (end_at k ends) (end_at k more) (wave_below k s a)
+        first kept turns) (
+          subst (λ p. IsTurn h k l p (pair_in s a) (end_at k more (pair_in s a))) (is ∙ sym (after_turns-same (end_at k ends) (end_at k more)
+              (wave_below k s a) first kept)) turn,
+          tt,
+        ))
+
+    pub more_blocks : after_turn q (end_at k more (pair_in s a)) ≡ after_turns (end_at k more) (wave_below k s (a + 1)) first
+    more_blocks =
+        ap (λ p. after_turn p (end_at k more (pair_in s a))) (is ∙ sym (after_turns-same (end_at k ends) (end_at k more) (wave_below k s a) first kept))
+        ∙ sym (after_turns-append (end_at k more) (wave_below k s a) (pair_in s a ∷ []) first)
+        ∙ ap (λ xs. after_turns (end_at k more) xs first) (sym (wave_below-in k s a t))
+
+    -- the later pairs of the wave keep their ends
+    pub rest_may : IsPartition h k q → Fits h k l q → (x : ℕ × ℕ) → IsPairBelow k x → x.0 + x.1 ≡ s → a + 1 ≤ x.0
+        → (end_at k ends x ≡ None) ⊎ IsTurn h k l q x (end_at k ends x)
+        → (end_at k more x ≡ None) ⊎ IsTurn h k l (after_turn q (end_at k more (pair_in s a))) x (end_at k more x)
+    rest_may parted fits x bx sum low m =
+        by (others x bx (λ e. let f = ap (λ (z : ℕ × ℕ). z.0) e in absurd (omega arith))) m
+      where
+        by : end_at k more x ≡ end_at k ends x → (end_at k ends x ≡ None) ⊎ IsTurn h k l q x (end_at k ends x)
+            → (end_at k more x ≡ None) ⊎ IsTurn h k l (after_turn q (end_at k more (pair_in s a))) x (end_at k more x)
+        by e (inl n) = inl (e ∙ n)
+        by e (inr u) =
+            let w = wave_is k s a t in
+            inr (turn_kept h k l sound q (pair_in s a) x (end_at k more (pair_in s a)) (end_at k more x) w.0 bx
+            (wave_disjoint k s (pair_in s a) x (omega arith) w (bx, sum)) parted fits turn (subst (IsTurn h k l q x) (sym e) u))
+
+-- ---- a wave more
+
+waves_more : (k s n : ℕ) → waves_from k s (n + 1) ≡ waves_from k s n ++ wave k (s + n)
+waves_more k s zero =
+    let e : s ≡ s + 0 = omega arith in
+    waves_from-suc k s 0 ∙ append-nil (wave k s) ∙ ap (wave k) e
+waves_more k s (suc n) =
+    let e : suc n + 1 ≡ suc (n + 1) = omega arith in
+    let f : s + 1 + n ≡ s + suc n = omega arith in
+    ap (waves_from k s) e ∙ waves_from-suc k s (n + 1) ∙ ap (λ xs. wave k s ++ xs) (waves_more k (s + 1) n)
+    ∙ sym (append_assoc (wave k s) (waves_from k (s + 1) n) (wave k (s + 1 + n)))
+    ∙ ap (λ xs. xs ++ wave k (s + 1 + n)) (sym (waves_from-suc k s n)) ∙ ap (λ m. waves_from k s (suc n) ++ wave k m) f
+
+waves_low : (k s n : ℕ) → All (λ x. IsPairBelow k x × (x.0 + x.1 < s + n)) (waves_from k s n)
+waves_low k s zero = λ i d m. absurd (omega arith)
+waves_low k s (suc n) =
+    subst (All (λ x. IsPairBelow k x × (x.0 + x.1 < s + suc n))) (sym (waves_from-suc k s n))
+    (All-append (λ x. IsPairBelow k x × (x.0 + x.1 < s + suc n)) (wave k s) (waves_from k (s + 1) n)
+    (All-weaker (IsOfWave k s) (λ x. IsPairBelow k x × (x.0 + x.1 < s + suc n)) (λ x w. (w.0, (let e = w.1 in omega arith))) (wave k s) (wave_of k s))
+    (All-weaker (λ x. IsPairBelow k x × (x.0 + x.1 < s + 1 + n)) (λ x. IsPairBelow k x × (x.0 + x.1 < s + suc n))
+    (λ x w. (w.0, (let e = w.1 in omega arith))) (waves_from k (s + 1) n) (waves_low k (s + 1) n)))
+
+-- where some pairs of a wave were solved for the partition, those of earlier waves keep their ends, and its own may have one
+module _ (h : Hyper) (p : Parted) (s : ℕ) (ends mid : List (Option PairEnd)) (gained : GainsEnds h p s ends mid) where
+  pub gained_other : (x : ℕ × ℕ) → IsPairBelow p.k x → x.0 + x.1 ≢ s → end_at p.k mid x ≡ end_at p.k ends x
+  gained_other x b n = by (gained x b)
+    where
+      by : (end_at p.k mid x ≡ end_at p.k ends x) ⊎ ((x.0 + x.1 ≡ s) × IsTurn h p.k p.limit p.blocks x (end_at p.k mid x))
+          → end_at p.k mid x ≡ end_at p.k ends x
+      by (inl e) = e
+      by (inr e) = absurd (n e.0)
+
+  pub gained_may : (x : ℕ × ℕ) → IsPairBelow p.k x → end_at p.k ends x ≡ None → MayHaveEnd h p mid x
+  gained_may x b n = by (gained x b)
+    where
+      by : (end_at p.k mid x ≡ end_at p.k ends x) ⊎ ((x.0 + x.1 ≡ s) × IsTurn h p.k p.limit p.blocks x (end_at p.k mid x)) → MayHaveEnd h p mid x
+      by (inl e) = inl (e ∙ n)
+      by (inr e) = inr e.1
+
+module _ (h : Hyper) (k l : ℕ) (first q r : List ℕ) (ends more : List (Option PairEnd)) (n : ℕ)
+    (is : q ≡ after_turns (end_at k ends) (waves_from k 1 n) first) (turns : AreTurns h k l (end_at k ends) (waves_from k 1 n) first)
+    (others : (x : ℕ × ℕ) → IsPairBelow k x → x.0 + x.1 ≢ 1 + n → end_at k more x ≡ end_at k ends x)
+    (next : AreTurns h k l (end_at k more) (wave k (1 + n)) q) (after : r ≡ after_turns (end_at k more) (wave k (1 + n)) q)
+  where
+    same_ends : All (λ x. end_at k more x ≡ end_at k ends x) (waves_from k 1 n)
+    same_ends = All-weaker (λ x. IsPairBelow k x × (x.0 + x.1 < 1 + n)) (λ x. end_at k more x ≡ end_at k ends x)
+        (λ x w. others x w.0 (λ e. let low = w.1 in absurd (omega arith))) (waves_from k 1 n) (waves_low k 1 n)
+
+    before : q ≡ after_turns (end_at k more) (waves_from k 1 n) first
+    before = is ∙ sym (after_turns-same (end_at k ends) (end_at k more) (waves_from k 1 n) first same_ends)
+
+    pub wave_turns : AreTurns h k l (end_at k more) (waves_from k 1 (n + 1)) first
+    wave_turns =
+        subst (λ xs. AreTurns h k l (end_at k more) xs first) (sym (waves_more k 1 n))
+        (turns_append h k l (end_at k more) (waves_from k 1 n) (wave k (1 + n)) first
+        (turns_same h k l (end_at k ends) (end_at k more) (waves_from k 1 n) first same_ends turns)
+        (subst (AreTurns h k l (end_at k more) (wave k (1 + n))) before next))
+
+    pub wave_blocks : r ≡ after_turns (end_at k more) (waves_from k 1 (n + 1)) first
+    wave_blocks =
+        after ∙ ap (after_turns (end_at k more) (wave k (1 + n))) before
+        ∙ sym (after_turns-append (end_at k more) (waves_from k 1 n) (wave k (1 + n)) first)
+        ∙ ap (λ xs. after_turns (end_at k more) xs first) (sym (waves_more k 1 n))
+
+-- ---- a front after the pair of a wave
+
+-- the pair has its end in a table for the front, which leads to the next one
+pub record TakesPair (h : Hyper) (now next : Front) (a b : ℕ) : Type 0 where
+  pub turn : IsTurn h now.part.k now.part.limit now.part.blocks (a, b) (end_at now.part.k next.ends.items (a, b))
+  pub others : KeepsOtherEnds now.part.k now.ends.items next.ends.items (a, b)
+  pub part : next.part ≡ record now.part { blocks = after_turn now.part.blocks (end_at now.part.k next.ends.items (a, b)) }
+
+module _ (h : Hyper) (old now next : Front) (s a b : ℕ) (sound : IsHypergraph h) (t : is_of_wave old.part.k s a ≡ true) (second : b ≡ s - a)
+    (taken : TakesPairs h (wave_below old.part.k s a) old now) (pair : TakesPair h now next a b)
+  where
+    q : List ℕ
+    q = after_turns (end_at old.part.k now.ends.items) (wave_below old.part.k s a) old.part.blocks
+
+    turn_there : IsTurn h old.part.k old.part.limit q (pair_in s a) (end_at old.part.k next.ends.items (pair_in s a))
+    unfolding q
+    turn_there =
+        subst (λ c. IsTurn h old.part.k old.part.limit q (a, c) (end_at old.part.k next.ends.items (a, c))) second
+        (subst (λ (x : Parted). IsTurn h x.k x.limit x.blocks (a, b) (end_at x.k next.ends.items (a, b))) taken.same pair.turn)
+
+    others_there : KeepsOtherEnds old.part.k now.ends.items next.ends.items (pair_in s a)
+    others_there =
+        subst (λ c. KeepsOtherEnds old.part.k now.ends.items next.ends.items (a, c)) second
+        (subst (λ (x : Parted). KeepsOtherEnds x.k now.ends.items next.ends.items (a, b)) taken.same pair.others)
+
+    part_there : next.part ≡ record old.part { blocks = after_turn q (end_at old.part.k next.ends.items (pair_in s a)) }
+    unfolding q
+    part_there =
+        pair.part
+        ∙ ap (λ (x : Parted). record x { blocks = after_turn x.blocks (end_at x.k next.ends.items (a, b)) }) taken.same
+        ∙ ap (λ c. record old.part { blocks = after_turn q (end_at old.part.k next.ends.items (a, c)) }) second
+
+    pub taken_more : TakesPairs h (wave_below old.part.k s (a + 1)) old next
+    unfolding q
+    taken_more = record {
+      same = part_there ∙ ap (λ x. record old.part { blocks = x }) (more_blocks h old.part.k old.part.limit sound old.part.blocks q now.ends.items
+          next.ends.items s a t refl taken.turns turn_there others_there);
+      turns = more_turns h old.part.k old.part.limit sound old.part.blocks q now.ends.items next.ends.items s a t refl taken.turns turn_there others_there;
+    }
+
+    pub rest_more : IsPartition h now.part.k now.part.blocks → Fits h now.part.k now.part.limit now.part.blocks
+        → ((x : ℕ × ℕ) → IsPairBelow now.part.k x → x.0 + x.1 ≡ s → a ≤ x.0 → MayHaveEnd h now.part now.ends.items x)
+        → (x : ℕ × ℕ) → IsPairBelow next.part.k x → x.0 + x.1 ≡ s → a + 1 ≤ x.0 → MayHaveEnd h next.part next.ends.items x
+    unfolding q
+    rest_more parted fits rest x bx sum low =
+        subst (λ (y : Parted). MayHaveEnd h y next.ends.items x) (sym part_there)
+        (rest_may h old.part.k old.part.limit sound old.part.blocks q now.ends.items next.ends.items s a t refl taken.turns turn_there others_there
+        (subst (λ (y : Parted). IsPartition h y.k y.blocks) taken.same parted) (subst (λ (y : Parted). Fits h y.k y.limit y.blocks) taken.same fits) x
+        below sum low
+        (subst (λ (y : Parted). MayHaveEnd h y now.ends.items x) taken.same
+        (rest x (subst (λ (y : Parted). IsPairBelow y.k x) (sym taken.same) below) sum (omega arith))))
+      where
+        below : IsPairBelow old.part.k x
+        below = subst (λ (y : Parted). IsPairBelow y.k x) part_there bx
+
+    pub others_more : KeepsOtherWaves old.part.k old.ends.items now.ends.items s → KeepsOtherWaves old.part.k old.ends.items next.ends.items s
+    others_more kept x bx n =
+        others_there x bx (λ e. n (let f = ap (λ (z : ℕ × ℕ). z.0 + z.1) e in let w = wave_is old.part.k s a t in let g = w.1 in omega arith)) ∙ kept x bx n
+
+-- ---- a front after a wave
+
+module _ (h : Hyper) (old now next : Front) (mid : List (Option PairEnd)) (s : ℕ) (low : 1 ≤ s)
+    (taken : TakesPairs h (waves_from old.part.k 1 (s - 1)) old now) (gained : GainsEnds h now.part s now.ends.items mid)
+    (pairs : TakesPairs h (wave now.part.k s) now next) (others : KeepsOtherWaves now.part.k mid next.ends.items s)
+  where
+    one : 1 + (s - 1) ≡ s
+    one = omega arith
+
+    here : List ℕ
+    here = after_turns (end_at old.part.k now.ends.items) (waves_from old.part.k 1 (s - 1)) old.part.blocks
+
+    kept_there : (x : ℕ × ℕ) → IsPairBelow old.part.k x → x.0 + x.1 ≢ 1 + (s - 1) → end_at old.part.k next.ends.items x ≡ end_at old.part.k now.ends.items x
+    kept_there =
+        subst (λ (p : Parted). (x : ℕ × ℕ) → IsPairBelow p.k x → x.0 + x.1 ≢ 1 + (s - 1) → end_at p.k next.ends.items x ≡ end_at p.k now.ends.items x)
+        taken.same
+        (λ x b n. others x b (λ e. n (e ∙ sym one)) ∙ gained_other h now.part s now.ends.items mid gained x b (λ e. n (e ∙ sym one)))
+
+    next_turns : AreTurns h old.part.k old.part.limit (end_at old.part.k next.ends.items) (wave old.part.k (1 + (s - 1))) here
+    unfolding here
+    next_turns =
+        subst (λ n. AreTurns h old.part.k old.part.limit (end_at old.part.k next.ends.items) (wave old.part.k n) here) (sym one)
+        (subst (λ (p : Parted). AreTurns h p.k p.limit (end_at p.k next.ends.items) (wave p.k s) p.blocks) taken.same pairs.turns)
+
+    pub waves_taken : TakesPairs h (waves_from old.part.k 1 (s + 1 - 1)) old next
+    unfolding here
+    waves_taken =
+        let n : s - 1 + 1 ≡ s + 1 - 1 = omega arith in
+        let rest = after_turns (end_at old.part.k next.ends.items) (wave old.part.k (1 + (s - 1))) here in
+        record {
+          same =
+              pairs.same
+              ∙ ap (λ (p : Parted). record p { blocks = after_turns (end_at p.k next.ends.items) (wave p.k s) p.blocks }) taken.same
+              ∙ ap (λ m. record old.part { blocks = after_turns (end_at old.part.k next.ends.items) (wave old.part.k m) here }) (sym one)
+              ∙ ap (λ x. record old.part { blocks = x }) (wave_blocks h old.part.k old.part.limit old.part.blocks here rest now.ends.items next.ends.items
+              (s - 1) refl taken.turns kept_there next_turns refl)
+              ∙ ap (λ m. record old.part { blocks = after_turns (end_at old.part.k next.ends.items) (waves_from old.part.k 1 m) old.part.blocks }) n;
+          turns =
+              subst (λ m. AreTurns h old.part.k old.part.limit (end_at old.part.k next.ends.items) (waves_from old.part.k 1 m) old.part.blocks) n
+              (wave_turns h old.part.k old.part.limit old.part.blocks here rest now.ends.items next.ends.items (s - 1) refl taken.turns kept_there next_turns
+              refl);
+        }
+
+    pub none_later : ((x : ℕ × ℕ) → IsPairBelow now.part.k x → s ≤ x.0 + x.1 → end_at now.part.k now.ends.items x ≡ None)
+        → (x : ℕ × ℕ) → IsPairBelow next.part.k x → s + 1 ≤ x.0 + x.1 → end_at next.part.k next.ends.items x ≡ None
+    none_later none x bx later =
+        subst (λ (p : Parted). end_at p.k next.ends.items x ≡ None) (sym pairs.same)
+        (others x below (λ e. absurd (omega arith)) ∙ gained_other h now.part s now.ends.items mid gained x below (λ e. absurd (omega arith))
+        ∙ none x below (omega arith))
+      where
+        below : IsPairBelow now.part.k x
+        below = subst (λ (p : Parted). IsPairBelow p.k x) pairs.same bx

@@ -1,0 +1,6 @@
+pub mod KeptLaws
+pub mod SwapLaws
+pub mod OrderLaws
+pub mod WaveLaws
+pub mod TableLaws
+pub mod FrontLaws

@@ -1,0 +1,96 @@
+use Rattle.std.proofs.Common.{◌≡◌, ◌<◌, ◌+◌, ◌*◌, ◌∙◌, ◌++◌, List, ℕ, All, Option, Some, None, sym, ap, ap₂, subst, arith, slice_index_or}
+use Rattle.std.specs.List.{flat_map}
+use Rattle.std.specs.List.Sorted.{IsStrictlyIncreasing}
+use Rattle.hg_defs.specs.declared.moves.Move.{Move}
+use Rattle.hg_defs.specs.Hypergraph.{Hyper, IsHypergraph, vertex_count}
+use Rattle.hg_defs.specs.Incidence.{nets_of}
+use Rattle.hg_defs.specs.Partition.{IsPartition, Fits}
+use Rattle.hg_defs.specs.Replay.{replay}
+use Rattle.pin_plain.specs.Parted.{Parted}
+use Rattle.flow_pair.specs.declared.solve.PairEnd.{PairEnd}
+use Rattle.flow_pair.specs.CutNets.{HoldsCut}
+use Rattle.flow_pair.specs.PairEnds.{reassigned}
+use Rattle.flow_pair.proofs.ChangeLaws.{changes-within}
+use Rattle.flow_pair.proofs.CutNetLaws.{cut_after}
+use Rattle.flow_pair.proofs.EndLaws.{end_rises, end_vertices, end_blocks}
+use Rattle.flow_round.specs.PairTurns.{IsTurn}
+use Rattle.flow_round.specs.Waves.{end_at}
+use Rattle.flow_round.proofs.front.Front.apply.Goals as goal
+
+pub assign_region-requires-clause-rising : goal.assign_region-requires-clause-rising
+assign_region-requires-clause-rising c =
+    let h = c.args.h.now in
+    let s = c.args.self.now in
+    let p = s.part in
+    let at = c.place_of-place.ensures.value ∙ ap (λ k. c.args.a * k + c.args.b) c.k.ensures in
+    let is : end_at p.k s.ends.items (c.args.a, c.args.b) ≡ Some c.in-Some.end =
+    ap₂ (λ (xs : List (Option PairEnd)) (i : ℕ). slice_index_or xs i None) (sym c.as_slice.ensures.value) (sym at) ∙ sym c.end_of.ensures ∙ c.in-Some.is in
+    let end = (subst (IsTurn h p.k p.limit p.blocks (c.args.a, c.args.b)) is c.requires.turn).1 in
+    subst IsStrictlyIncreasing (sym c.slice.ensures) (end_rises h p.k p.limit p.blocks c.args.a c.args.b c.in-Some.end end)
+
+pub assign_region-requires-clause-vertices : goal.assign_region-requires-clause-vertices
+assign_region-requires-clause-vertices c =
+    let h = c.args.h.now in
+    let s = c.args.self.now in
+    let p = s.part in
+    let at = c.place_of-place.ensures.value ∙ ap (λ k. c.args.a * k + c.args.b) c.k.ensures in
+    let is : end_at p.k s.ends.items (c.args.a, c.args.b) ≡ Some c.in-Some.end =
+    ap₂ (λ (xs : List (Option PairEnd)) (i : ℕ). slice_index_or xs i None) (sym c.as_slice.ensures.value) (sym at) ∙ sym c.end_of.ensures ∙ c.in-Some.is in
+    let end = (subst (IsTurn h p.k p.limit p.blocks (c.args.a, c.args.b)) is c.requires.turn).1 in
+    let sound = subst IsHypergraph c.requires.front.belongs c.blocks-blocks.ensures.parted.sound in
+    subst (All (λ v. v < vertex_count h)) (sym c.slice.ensures) (end_vertices h p.k p.limit p.blocks c.args.a c.args.b c.in-Some.end end sound)
+
+pub assign_region-requires-clause-blocks : goal.assign_region-requires-clause-blocks
+assign_region-requires-clause-blocks c =
+    let h = c.args.h.now in
+    let s = c.args.self.now in
+    let p = s.part in
+    let at = c.place_of-place.ensures.value ∙ ap (λ k. c.args.a * k + c.args.b) c.k.ensures in
+    let is : end_at p.k s.ends.items (c.args.a, c.args.b) ≡ Some c.in-Some.end =
+    ap₂ (λ (xs : List (Option PairEnd)) (i : ℕ). slice_index_or xs i None) (sym c.as_slice.ensures.value) (sym at) ∙ sym c.end_of.ensures ∙ c.in-Some.is in
+    let end = (subst (IsTurn h p.k p.limit p.blocks (c.args.a, c.args.b)) is c.requires.turn).1 in
+    let parted = c.blocks-blocks.ensures.parted in
+    let sound = subst IsHypergraph c.requires.front.belongs parted.sound in
+    let whole = subst (λ (x : Hyper). IsPartition x p.k p.blocks) c.requires.front.belongs parted.partition in
+    let low : c.args.a < p.k = (let a = c.requires.below.order in let b = c.requires.below.below in omega arith) in
+    subst (All (λ b. b < p.k)) (sym c.slice-2.ensures)
+    (end_blocks h p.k p.limit p.blocks c.args.a c.args.b c.in-Some.end end sound whole low c.requires.below.below)
+
+pub add_nets_of-requires : goal.add_nets_of-requires
+add_nets_of-requires c =
+    let h = c.args.h.now in
+    let s = c.args.self.now in
+    let p = s.part in
+    let at = c.place_of-place.ensures.value ∙ ap (λ k. c.args.a * k + c.args.b) c.k.ensures in
+    let is : end_at p.k s.ends.items (c.args.a, c.args.b) ≡ Some c.in-Some.end =
+    ap₂ (λ (xs : List (Option PairEnd)) (i : ℕ). slice_index_or xs i None) (sym c.as_slice.ensures.value) (sym at) ∙ sym c.end_of.ensures ∙ c.in-Some.is in
+    let end = (subst (IsTurn h p.k p.limit p.blocks (c.args.a, c.args.b)) is c.requires.turn).1 in
+    let sound = subst IsHypergraph c.requires.front.belongs c.blocks-blocks.ensures.parted.sound in
+    let low = subst (All (λ v. v < vertex_count h)) (sym c.slice.ensures) (end_vertices h p.k p.limit p.blocks c.args.a c.args.b c.in-Some.end end sound) in
+    subst (All (λ (m : Move). m.vertex < vertex_count h)) (sym (c.slice-3.ensures ∙ c.in_ok-moves.ensures.moves))
+    (changes-within (λ v. v < vertex_count h) h p.blocks (reassigned p.blocks c.slice.result.now c.slice-2.result.now) c.slice.result.now low)
+
+pub returns-clause-front : goal.returns-clause-front
+returns-clause-front c =
+    let h = c.args.h.now in
+    let s = c.args.self.now in
+    let p = s.part in
+    let at = c.place_of-place.ensures.value ∙ ap (λ k. c.args.a * k + c.args.b) c.k.ensures in
+    let is : end_at p.k s.ends.items (c.args.a, c.args.b) ≡ Some c.in-Some.end =
+    ap₂ (λ (xs : List (Option PairEnd)) (i : ℕ). slice_index_or xs i None) (sym c.as_slice.ensures.value) (sym at) ∙ sym c.end_of.ensures ∙ c.in-Some.is in
+    let end = (subst (IsTurn h p.k p.limit p.blocks (c.args.a, c.args.b)) is c.requires.turn).1 in
+    let moves = c.in_ok-moves.moves in
+    let blocks : c.assign_region.new.p.blocks ≡ replay p.blocks moves =
+    ap (λ (x : Parted). x.blocks) c.in_ok-moves.ensures.partition ∙ sym c.in_ok-moves.ensures.replayed in
+    let landed = c.in_ok-moves.ensures.partition
+    ∙ ap₂ (λ xs bs. record p { blocks = reassigned p.blocks xs bs }) c.slice.ensures c.slice-2.ensures in
+    let cut = c.in_ok-add_nets_of.ensures
+    ∙ ap (λ (ms : List Move). s.cut.items ++ flat_map (λ (m : Move). nets_of h m.vertex) ms) c.slice-3.ensures in
+    record {
+      belongs = ap (λ (x : Parted). x.hyper) landed ∙ c.requires.front.belongs;
+      fits = subst (λ (x : Parted). Fits h x.k x.limit x.blocks) (sym landed) end.fits;
+      cut_is = subst (λ q. HoldsCut h q c.add_nets_of.new.list.items) (sym blocks)
+          (subst (HoldsCut h (replay p.blocks moves)) (sym cut) (cut_after h p.blocks moves s.cut.items c.requires.front.cut_is));
+      solver_is = c.requires.front.solver_is;
+      table_is = c.requires.front.table_is ∙ ap (λ (x : Parted). x.k * x.k) (sym landed);
+    }

@@ -1,0 +1,4 @@
+pub mod PairTurns
+pub mod Laws
+pub mod Waves
+pub mod Fronts

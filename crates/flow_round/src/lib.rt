@@ -1,0 +1,15 @@
+//! Flow refinement of disjoint pairs of blocks at once.
+#![tactic(auto)]
+
+mod front;
+pub mod laws;
+mod pass;
+mod refine;
+mod table;
+mod worker;
+
+pub use pass::wave_pass;
+pub use refine::FlowRound;
+
+#[cfg(test)]
+mod tests;
