@@ -5,7 +5,7 @@
 ghost use Rattle.std.specs.Prelude.{◌≡◌, ◌≢◌, ◌<◌, ◌^◌, All, AllPairs, map};
 
 use crew::OpenGate;
-use flow_pair::FlowPair;
+use flow_round::FlowRound;
 use fm_search::FmSearch;
 use hg_defs::NoMemory;
 use hg_io::{AnySink, AnySource, Place, StdSink};
@@ -83,7 +83,7 @@ fn main(rt: HostRuntime) -> ExitCode {
     let Ok(search) = Box::new(rt.alloc(), FmSearch::new(rt, OpenGate)) else {
         return end(rt, Status::NoMemory);
     };
-    let Ok(flow) = Box::new(rt.alloc(), FlowPair::new()) else {
+    let Ok(flow) = Box::new(rt.alloc(), FlowRound::new(rt, OpenGate)) else {
         return end(rt, Status::NoMemory);
     };
     let mut refiners: [Box<dyn Refiner>; 3] = [label, search, flow];

@@ -15,4 +15,4 @@ of_three P first second third (inr (inr (inr e))) v = absurd e
 pub carry_out-requires-clause-may_run : goal.carry_out-requires-clause-may_run
 carry_out-requires-clause-may_run g c κs =
     λ k d low. of_three (λ x v. ((own.own-1 g.bound-1-dict).entry x).1.may_run v) (λ v. record { shared = runtime.the_sync.shared })
-    (λ v. record { shared = runtime.the_sync.shared }) (λ v. tt) _ _
+    (λ v. record { shared = runtime.the_sync.shared }) (λ v. record { shared = runtime.the_sync.shared }) _ _
