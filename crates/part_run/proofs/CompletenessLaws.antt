@@ -1,5 +1,5 @@
 -- A run that is served and meets no fault comes to its end.
-use Rattle.std.proofs.Common.{◌≡◌, ℕ, ◌+◌, ◌*◌, ◌^◌, ◌<◌, ◌≤◌, List, [], ◌++◌, length, inl, inr, refl, sym, ap, ◌∙◌, subst, arith, append-nil}
+use Rattle.std.proofs.Common.{◌≡◌, ℕ, ◌+◌, ◌*◌, ◌^◌, ◌≤◌, List, ◌++◌, length, inl, inr, refl, sym, ap, ◌∙◌, subst, arith, append-nil}
 use Rattle.std.specs.Prelude.{Option, Some, None, Result, Ok, Err, ◌⊎◌}
 use Rattle.std.proofs.lemmas.List.{length-append}
 use Rattle.std.specs.Io.KnownBytes.{Consumes, IsAtEnd}
@@ -16,14 +16,16 @@ use Rattle.part_run.specs.declared.status.Status.{Status}
 use Rattle.part_run.specs.declared.status.Status.TheVariants.{Done, Usage, Malformed, TooLarge, Unplaced, ReadFault}
 use Rattle.part_run.specs.declared.status.Status.TheVariants.{WriteFault, NoMemory, BadPartition, BadFix}
 use Rattle.part_run.specs.declared.ended.Outcome.{Outcome}
-use Rattle.part_run.specs.declared.ended.Ended.{Ended}
-use Rattle.part_run.specs.Wanted.{Command, Partition, Evaluate, Generate, Partitioning, Evaluation}
-use Rattle.part_run.specs.Reads.{Feed, most_bytes, WasRead, Spells, GivesTooMuch, PassesLimit, IsTooMany, IsSuited, IsGraphRefusal}
+use Rattle.part_run.specs.Wanted.{Partition, Evaluate, Generate, SelfRun, Partitioning, Evaluation}
+use Rattle.part_run.specs.Reads.{Feed, most_bytes, WasRead, Spells, GivesTooMuch, PassesLimit, IsTooMany, IsGraphRefusal}
 use Rattle.part_run.specs.Reads.{IsFixRefusal, IsPartRefusal, IsExtraTooLarge, IsFixed, with_objective}
-use Rattle.part_run.specs.Answers.{Inputs, Outputs, IsEnd, IsPartitionEnd, IsEvaluationEnd, IsGenerationEnd, IsPartitionRefused, IsEvaluationRefused}
-use Rattle.part_run.specs.Answers.{IsGenerationRefused, IsGenerationRefusal, IsGraphRefused, IsInputRefused, IsPlaceRefused, IsWriteRefused}
+use Rattle.part_run.specs.Answers.{Inputs, Outputs, IsPartitionEnd, IsEvaluationEnd, IsGenerationEnd, IsPartitionRefused, IsEvaluationRefused}
+use Rattle.part_run.specs.Answers.{IsGenerationRefusal, IsGraphRefused, IsInputRefused, IsPlaceRefused}
 use Rattle.part_run.specs.Answers.{IsAccepted, IsFixRefused, IsPlaceRefusal, IsPartRefused, IsWriteRefusal, job_for, limit_for}
-use Rattle.part_run.specs.Completeness.{AreFaultless, Gives, GivesFixes, IsPartitionable, IsEvaluable, IsServed, RunsComeToTheirEnd}
+use Rattle.part_run.specs.Answers.{trial_job, IsTrialRefusal, IsTrialEnd}
+use Rattle.round_log.specs.Trace.{limit_of}
+use Rattle.hg_make.specs.Made.{made}
+use Rattle.part_run.specs.Completeness.{AreFaultless, Gives, GivesFixes, IsPartitionable, IsEvaluable, RunsComeToTheirEnd}
 
 -- what was read to its end is what the source told
 same_bytes : (old new : Option (List ℕ)) (xs bytes : List ℕ) → old ≡ Some xs → Consumes old new bytes → IsAtEnd new → bytes ≡ xs
@@ -317,7 +319,50 @@ module _ (n : ℕ) (i i' : Inputs) (o o' : Outputs) (f : AreFaultless i i' o o')
       no_outcome (BadPartition line kind) end = end
       no_outcome (BadFix line kind) end = end
 
+-- ---- `selfrun`
+
+module _ (kinds : List Kind) (n k : ℕ) (i i' : Inputs) (o o' : Outputs) (suits : Suits (made n) k)
+    (placed : overfills (made n) k (limit_of (made n) (trial_job k)) ≡ None) (f : AreFaultless i i' o o') where
+  trial_refused : (s : Status) → IsTrialRefusal n k o o' s → s ≡ NoMemory
+  trial_refused Done cause = absurd cause
+  trial_refused Usage cause = absurd cause
+  trial_refused (Malformed line kind) cause = absurd cause
+  trial_refused (TooLarge line what.Words) cause = let many = cause.1 in absurd (omega arith)
+  trial_refused (TooLarge line what.Bytes) cause = absurd cause
+  trial_refused (TooLarge line what.Nets) cause = absurd cause
+  trial_refused (TooLarge line what.Vertices) cause = absurd cause
+  trial_refused (TooLarge line what.Pins) cause = absurd cause
+  trial_refused (TooLarge line what.ExtraBytes) cause = absurd cause
+  trial_refused (Unplaced v) cause = absurd (none_some _ cause.0.0 placed cause.0.1)
+  trial_refused ReadFault cause = absurd cause
+  trial_refused WriteFault cause = absurd (f.report cause.report.fault)
+  trial_refused NoMemory cause = refl
+  trial_refused (BadPartition line kind) cause = absurd cause
+  trial_refused (BadFix line kind) cause = absurd cause
+
+  trial_ends : (s : Status) (made : Option Outcome) → IsTrialEnd kinds n k i i' o o' s made → (s ≡ Done) ⊎ (s ≡ NoMemory)
+  trial_ends Done made end = inl refl
+  trial_ends Usage None end = inr (trial_refused Usage end.cause)
+  trial_ends (Malformed line kind) None end = inr (trial_refused (Malformed line kind) end.cause)
+  trial_ends (TooLarge line w) None end = inr (trial_refused (TooLarge line w) end.cause)
+  trial_ends (Unplaced v) None end = inr (trial_refused (Unplaced v) end.cause)
+  trial_ends ReadFault None end = inr (trial_refused ReadFault end.cause)
+  trial_ends WriteFault None end = inr (trial_refused WriteFault end.cause)
+  trial_ends NoMemory None end = inr refl
+  trial_ends (BadPartition line kind) None end = inr (trial_refused (BadPartition line kind) end.cause)
+  trial_ends (BadFix line kind) None end = inr (trial_refused (BadFix line kind) end.cause)
+  trial_ends Usage (Some made) end = absurd end
+  trial_ends (Malformed line kind) (Some made) end = absurd end
+  trial_ends (TooLarge line w) (Some made) end = absurd end
+  trial_ends (Unplaced v) (Some made) end = absurd end
+  trial_ends ReadFault (Some made) end = absurd end
+  trial_ends WriteFault (Some made) end = absurd end
+  trial_ends NoMemory (Some made) end = absurd end
+  trial_ends (BadPartition line kind) (Some made) end = absurd end
+  trial_ends (BadFix line kind) (Some made) end = absurd end
+
 pub runs_end : RunsComeToTheirEnd
 runs_end kinds (Partition p) i i' o o' ended end g f = partition_ends kinds p i i' o o' g f ended.status ended.outcome end
 runs_end kinds (Evaluate e) i i' o o' ended end g f = evaluation_ends e i i' o o' g f ended.status ended.outcome end
 runs_end kinds (Generate n) i i' o o' ended end g f = generation_ends n i i' o o' f ended.status ended.outcome end
+runs_end kinds (SelfRun n k) i i' o o' ended end g f = trial_ends kinds n k i i' o o' g.0 g.1 f ended.status ended.outcome end

@@ -14,7 +14,7 @@ bound : {A B : Type 0} (P : B → Type 0) (r : Read A) (f : A → Read B) → ((
 bound P (Ok x) f k = k x
 bound P (Err e) f k = tt
 
-all_free : (n v : ℕ) → slice_index_or (replicate n FREE) v FREE ≡ FREE
+pub all_free : (n v : ℕ) → slice_index_or (replicate n FREE) v FREE ≡ FREE
 all_free zero v = refl
 all_free (suc n) zero = refl
 all_free (suc n) (suc v) = all_free n v

@@ -9,3 +9,4 @@ mod CompletenessLaws
 pub mod LevelLemmas
 pub mod WorkerLemmas
 pub mod Reportable
+pub mod TrialLemmas

@@ -10,6 +10,7 @@ use Rattle.hg_defs.specs.Cost.{cost}
 use Rattle.part_text.specs.Part.{part_text}
 use Rattle.trace_text.specs.Lines.{number_line, sizes_text, objective_text, loads_text, loads_of, fits_text}
 use Rattle.trace_text.specs.Evaluation.{evaluation_text}
+use Rattle.trace_text.specs.Summary.{summary_text, outcome_text}
 use Rattle.trace_text.specs.Report.{asked_text, descent_text, cycles_text, report_text}
 use Rattle.hg_defs.specs.LeastLoaded.{greedy}
 use Rattle.round_log.specs.declared.record.Job.{Job}
@@ -80,6 +81,20 @@ asked_text-some h job =
     front_some (sizes ++ seed ++ workers ++ objective) placed
     (front_some (sizes ++ seed ++ workers) objective
     (front_some (sizes ++ seed) workers (front_some sizes seed (sizes_text-some h job.k (limit_of h job)))))
+
+-- a summary has a line at least
+pub summary_text-some : (h : Hyper) (k l : ℕ) → summary_text h k l ≢ []
+summary_text-some h k l =
+    let first = number_line (codes "vertices ") (vertex_count h) in
+    let second = number_line (codes "nets ") (net_count h) in
+    let third = number_line (codes "blocks ") k in
+    let fourth = number_line (codes "limit ") l in
+    let fifth = number_line (codes "greedy ") (cost h (greedy h k)) in
+    front_some (first ++ second ++ third ++ fourth ++ fifth) outcome_text
+    (front_some (first ++ second ++ third ++ fourth) fifth
+    (front_some (first ++ second ++ third) fourth
+    (front_some (first ++ second) third
+    (front_some first second (line_some (codes "vertices ") (vertex_count h) (some_cons 118 (codes "ertices ")))))))
 
 -- a report has a line at least
 pub report_text-some : (h : Hyper) (job : Job) (trace : Trace) (cycles : List Trace) (blocks : List ℕ) → report_text h job trace cycles blocks ≢ []

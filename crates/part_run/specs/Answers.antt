@@ -1,7 +1,7 @@
 -- What a run may answer: for each way to end its cause, what was read, and what was written.
-use Rattle.std.specs.Prelude.{◌≡◌, ◌≢◌, ℕ, ◌+◌, ◌≤◌, List, [], Bool, false, Option, Some, None, Ok, ◌⊎◌}
+use Rattle.std.specs.Prelude.{◌≡◌, ◌≢◌, ℕ, ◌+◌, ◌*◌, ◌^◌, ◌<◌, ◌≤◌, List, [], Bool, false, Option, Some, None, Ok, ◌⊎◌}
 use Rattle.std.specs.Io.KnownBytes.{Appends}
-use Rattle.hg_defs.specs.Hypergraph.{Hyper, vertex_count, total_weight}
+use Rattle.hg_defs.specs.Hypergraph.{Hyper, vertex_count, net_count, total_weight, Suits}
 use Rattle.hg_defs.specs.Partition.{IsPartition, Obeys, Fits, limit}
 use Rattle.hg_defs.specs.Cost.{cost}
 use Rattle.hg_defs.specs.LeastLoaded.{greedy, overfills}
@@ -20,11 +20,13 @@ use Rattle.hg_make.specs.Made.{made}
 use Rattle.hg_make.specs.Text.{hypergraph_text}
 use Rattle.trace_text.specs.Evaluation.{evaluation_text}
 use Rattle.trace_text.specs.Report.{report_text}
+use Rattle.trace_text.specs.Summary.{summary_text}
+use Rattle.hmetis_read.specs.declared.fault.What.TheVariants.{Words}
 use Rattle.part_run.specs.declared.status.Status.{Status}
-use Rattle.part_run.specs.declared.status.Status.TheVariants.{Done, Usage, Unplaced, WriteFault, NoMemory}
+use Rattle.part_run.specs.declared.status.Status.TheVariants.{Done, Usage, TooLarge, Unplaced, WriteFault, NoMemory}
 use Rattle.part_run.specs.declared.ended.Outcome.{Outcome}
 use Rattle.part_run.specs.declared.ended.Ended.{Ended}
-use Rattle.part_run.specs.Wanted.{Command, Partition, Evaluate, Generate, Partitioning, Evaluation}
+use Rattle.part_run.specs.Wanted.{Command, Partition, Evaluate, Generate, SelfRun, Partitioning, Evaluation}
 use Rattle.part_run.specs.Reads.{Feed, IsSuited, Spells, with_objective, IsFixed, IsGraphRefusal, IsFixRefusal, IsPartRefusal}
 
 -- the sources of a run at one moment
@@ -229,6 +231,37 @@ pub record IsGenerationRefused (n : ℕ) (inputs inputs' : Inputs) (outputs outp
   pub unread : inputs' ≡ inputs
   pub cause : IsGenerationRefusal n outputs outputs' status
 
+-- what `selfrun` asks of its run into k blocks
+abbrev pub trial_job : ℕ → Job
+trial_job k = record { k = k; eps = 30; seed = 1; workers = 4 }
+
+abbrev pub summary_for : ℕ → ℕ → List ℕ
+summary_for n k = summary_text (made n) k (limit_of (made n) (trial_job k))
+
+-- what a run on the made hypergraph reached; the report got the whole summary
+pub record IsSummedUp (kinds : List Kind) (n k : ℕ) (outputs outputs' : Outputs) (outcome : Outcome) : Type 0 where
+  pub suits : Suits (made n) k
+  pub reached : IsOutcome kinds (trial_job k) (made n) outcome
+  pub written : IsWritten outputs outputs' [] (summary_for n k)
+
+-- `selfrun` reads nothing, and comes to that
+pub record IsTried (kinds : List Kind) (n k : ℕ) (inputs inputs' : Inputs) (outputs outputs' : Outputs) (outcome : Outcome) : Type 0 where
+  pub unread : inputs' ≡ inputs
+  pub trial : IsSummedUp kinds n k outputs outputs' outcome
+
+-- why `selfrun` wrote no whole summary: too many counts, no partition, or the report met a fault
+abbrev pub IsTrialRefusal : ℕ → ℕ → Outputs → Outputs → Status → Type 0
+IsTrialRefusal n k outputs outputs' (TooLarge line Words) =
+    (line ≡ 0) × (2 ^ 26 < (vertex_count (made n) + net_count (made n)) * k) × (outputs' ≡ outputs)
+IsTrialRefusal n k outputs outputs' (Unplaced vertex) = IsPlaceRefusal (trial_job k) (made n) (Unplaced vertex) × (outputs' ≡ outputs)
+IsTrialRefusal n k outputs outputs' NoMemory = outputs' ≡ outputs
+IsTrialRefusal n k outputs outputs' WriteFault = IsReportFault outputs outputs' [] (summary_for n k)
+IsTrialRefusal n k outputs outputs' _ = ⊥
+
+pub record IsTrialRefused (n k : ℕ) (inputs inputs' : Inputs) (outputs outputs' : Outputs) (status : Status) : Type 0 where
+  pub unread : inputs' ≡ inputs
+  pub cause : IsTrialRefusal n k outputs outputs' status
+
 -- how each command ends: done, with an outcome where it partitions, or refused
 abbrev pub IsPartitionEnd : List Kind → Partitioning → Inputs → Inputs → Outputs → Outputs → Status → Option Outcome → Type 0
 IsPartitionEnd kinds p inputs inputs' outputs outputs' Done (Some outcome) = IsPartitioned kinds p inputs inputs' outputs outputs' outcome
@@ -245,6 +278,11 @@ IsGenerationEnd n inputs inputs' outputs outputs' Done None = IsGenerated n inpu
 IsGenerationEnd n inputs inputs' outputs outputs' status None = IsGenerationRefused n inputs inputs' outputs outputs' status
 IsGenerationEnd n inputs inputs' outputs outputs' status (Some outcome) = ⊥
 
+abbrev pub IsTrialEnd : List Kind → ℕ → ℕ → Inputs → Inputs → Outputs → Outputs → Status → Option Outcome → Type 0
+IsTrialEnd kinds n k inputs inputs' outputs outputs' Done (Some outcome) = IsTried kinds n k inputs inputs' outputs outputs' outcome
+IsTrialEnd kinds n k inputs inputs' outputs outputs' status None = IsTrialRefused n k inputs inputs' outputs outputs' status
+IsTrialEnd kinds n k inputs inputs' outputs outputs' status (Some outcome) = ⊥
+
 -- words that spell no command are refused, and nothing is read or written
 pub record IsUsage (inputs inputs' : Inputs) (outputs outputs' : Outputs) (ended : Ended) : Type 0 where
   pub status : ended.status ≡ Usage
@@ -259,8 +297,11 @@ IsEnd kinds (Some (Partition p)) inputs inputs' outputs outputs' ended =
     IsPartitionEnd kinds p inputs inputs' outputs outputs' ended.status ended.outcome
 IsEnd kinds (Some (Evaluate e)) inputs inputs' outputs outputs' ended = IsEvaluationEnd e inputs inputs' outputs outputs' ended.status ended.outcome
 IsEnd kinds (Some (Generate n)) inputs inputs' outputs outputs' ended = IsGenerationEnd n inputs inputs' outputs outputs' ended.status ended.outcome
+IsEnd kinds (Some (SelfRun n k)) inputs inputs' outputs outputs' ended =
+    IsTrialEnd kinds n k inputs inputs' outputs outputs' ended.status ended.outcome
 
 -- a command that partitions nothing leaves the tallies of the refiners alone
 abbrev pub Spares : Option Command → List Tally → List Tally → Type 0
 Spares (Some (Partition p)) old new = Unit {0}
+Spares (Some (SelfRun n k)) old new = Unit {0}
 Spares _ old new = new ≡ old

@@ -4,14 +4,15 @@ use Rattle.hg_defs.specs.Hypergraph.{Hyper, vertex_count, Suits}
 use Rattle.hg_defs.specs.LeastLoaded.{overfills}
 use Rattle.hg_io.specs.Faults.{Rose}
 use Rattle.round_log.specs.declared.record.Kind.{Kind}
+use Rattle.round_log.specs.Trace.{limit_of}
+use Rattle.hg_make.specs.Made.{made}
 use Rattle.hmetis_read.specs.Graph.{graph}
 use Rattle.part_text.specs.Entries.{spelled_part, spelled_fixes}
-use Rattle.part_run.specs.declared.status.Status.{Status}
 use Rattle.part_run.specs.declared.status.Status.TheVariants.{Done, NoMemory}
 use Rattle.part_run.specs.declared.ended.Ended.{Ended}
-use Rattle.part_run.specs.Wanted.{Command, Partition, Evaluate, Generate, Partitioning, Evaluation}
+use Rattle.part_run.specs.Wanted.{Command, Partition, Evaluate, Generate, SelfRun, Partitioning, Evaluation}
 use Rattle.part_run.specs.Reads.{Feed, most_bytes, with_objective}
-use Rattle.part_run.specs.Answers.{Inputs, Outputs, IsEnd, limit_for}
+use Rattle.part_run.specs.Answers.{Inputs, Outputs, IsEnd, limit_for, trial_job}
 
 -- no count of faults rose
 pub record AreFaultless (inputs inputs' : Inputs) (outputs outputs' : Outputs) : Type 0 where
@@ -55,6 +56,7 @@ abbrev pub IsServed : Command → Inputs → Type 0
 IsServed (Partition p) inputs = IsPartitionable p inputs
 IsServed (Evaluate e) inputs = IsEvaluable e inputs
 IsServed (Generate n) inputs = Unit {0}
+IsServed (SelfRun n k) inputs = Suits (made n) k × (overfills (made n) k (limit_of (made n) (trial_job k)) ≡ None)
 
 -- a run whose sources give what its command asks of them, and which meets no fault, is done, or there was no memory
 abbrev pub RunsComeToTheirEnd : Type 0

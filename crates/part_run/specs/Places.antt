@@ -3,7 +3,7 @@ use Rattle.std.specs.Prelude.{ℕ, List, ◌++◌, Option, Some, None, codes, by
 use Rattle.hg_io.specs.declared.place.Place.{Place}
 use Rattle.hg_io.specs.declared.place.Place.TheVariants.{Nothing, Input, Output, Errors, File}
 use Rattle.part_run.specs.declared.places.Names.{Names}
-use Rattle.part_run.specs.Wanted.{Command, Partition, Evaluate, Generate, Partitioning, Evaluation}
+use Rattle.part_run.specs.Wanted.{Command, Partition, Evaluate, Generate, SelfRun, Partitioning, Evaluation}
 
 -- a name stands for a file, and a dash for a standard stream
 abbrev pub place_of : List ℕ → Place → Place
@@ -46,3 +46,4 @@ names_of None = record { graph = Nothing; extra = Nothing; out = Nothing; report
 names_of (Some (Partition p)) = partition_names p
 names_of (Some (Evaluate e)) = evaluation_names e
 names_of (Some (Generate n)) = record { graph = Nothing; extra = Nothing; out = Output; report = Nothing }
+names_of (Some (SelfRun n k)) = record { graph = Nothing; extra = Nothing; out = Nothing; report = Output }

@@ -30,9 +30,11 @@ abbrev pub command_of : command.Command → Command
 command_of (variants.Partition p) = wanted.Partition (partitioning_of p)
 command_of (variants.Evaluate e) = wanted.Evaluate (evaluation_of e)
 command_of (variants.Generate n) = wanted.Generate n
+command_of (variants.SelfRun t) = wanted.SelfRun t.vertices t.k
 
 -- the size of a hypergraph that is asked for is in its range
 abbrev pub IsWithinBounds : command.Command → Type 0
 IsWithinBounds (variants.Partition p) = Unit {0}
 IsWithinBounds (variants.Evaluate e) = Unit {0}
 IsWithinBounds (variants.Generate n) = (1 ≤ n) × (n ≤ 2 ^ 22)
+IsWithinBounds (variants.SelfRun t) = Unit {0}

@@ -58,6 +58,7 @@ usage_text =
     codes "usage: hgpart partition GRAPH K EPS [seed=N] [workers=N] [out=NAME] [cost=km1|cut|soed] [fix=NAME]\n"
     ++ codes "usage: hgpart evaluate GRAPH PART K EPS [cost=km1|cut|soed]\n"
     ++ codes "usage: hgpart generate N\n"
+    ++ codes "usage: hgpart selfrun N K\n"
 
 -- one line that says why a run failed, and nothing where it didn't
 abbrev pub status_text : Status → List ℕ

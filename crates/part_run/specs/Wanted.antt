@@ -30,6 +30,7 @@ pub data Command : Type 0 where
   Partition : Partitioning → Command
   Evaluate : Evaluation → Command
   Generate : ℕ → Command
+  SelfRun : ℕ → ℕ → Command
 
 -- the number that a word spells, where it is within bounds
 abbrev pub within : ℕ → ℕ → Result ℕ BadNumber → Option ℕ
@@ -160,10 +161,20 @@ abbrev pub generate_words : List (List ℕ) → Option ℕ
 generate_words (n ∷ []) = number_within 1 (2 ^ 22) n
 generate_words _ = None
 
+-- what the words behind `selfrun` ask for: the numbers of vertices and blocks
+abbrev pub selfrun_words : List (List ℕ) → Option (ℕ × ℕ)
+selfrun_words (n ∷ k ∷ []) = with_both (number_within 1 (2 ^ 22) n) (number_within 2 256 k)
+  where
+    with_both : Option ℕ → Option ℕ → Option (ℕ × ℕ)
+    with_both (Some vertices) (Some blocks) = Some (vertices, blocks)
+    with_both _ _ = None
+selfrun_words _ = None
+
 -- the command that the words spell, or none
 abbrev pub wanted : List (List ℕ) → Option Command
 wanted [] = None
 wanted (command ∷ words) =
     if bytes_eq command (codes "partition") then option_map Partition (partition_words words) else
     if bytes_eq command (codes "evaluate") then option_map Evaluate (evaluate_words words) else
-    if bytes_eq command (codes "generate") then option_map Generate (generate_words words) else None
+    if bytes_eq command (codes "generate") then option_map Generate (generate_words words) else
+    if bytes_eq command (codes "selfrun") then option_map (λ s. SelfRun s.0 s.1) (selfrun_words words) else None

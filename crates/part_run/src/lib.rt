@@ -11,6 +11,7 @@ mod naming;
 mod partition;
 mod places;
 mod reading;
+mod selfrun;
 mod status;
 #[cfg(test)]
 mod tests;

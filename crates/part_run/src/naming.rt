@@ -67,6 +67,12 @@ pub fn names(alloc: Global, words: &[String]) -> Result<Names, NoMemory>
             out: Place::Output,
             report: Place::Nothing,
         },
+        Some(Command::SelfRun(_)) => Names {
+            graph: Place::Nothing,
+            extra: Place::Nothing,
+            out: Place::Nothing,
+            report: Place::Output,
+        },
     })
 }
 

@@ -185,6 +185,7 @@ const USAGE: &[u8] =
     b"usage: hgpart partition GRAPH K EPS [seed=N] [workers=N] [out=NAME] [cost=km1|cut|soed] [fix=NAME]
 usage: hgpart evaluate GRAPH PART K EPS [cost=km1|cut|soed]
 usage: hgpart generate N
+usage: hgpart selfrun N K
 ";
 
 /// Writes why a run failed: one line, the forms of the commands where the words are at fault, and

@@ -172,6 +172,13 @@ fn partitions_and_evaluates(rt: HostRuntime) -> Result<(), Fail> {
             "vertices 7\nnets 4\nweight 7\nblocks 3\nlimit 3\nobjective soed\ncost 58\nload 0 3\nload 1 2\nload 2 2\nfits yes\n",
         ),
         (
+            "selfrun 4 2",
+            b"".as_slice(),
+            "",
+            "",
+            "vertices 4\nnets 4\nblocks 2\nlimit 2\ngreedy 4\nfits yes\nsettled yes\nabove greedy no\ngains exact yes\n",
+        ),
+        (
             "generate 4",
             b"".as_slice(),
             "",
@@ -314,6 +321,9 @@ fn refused_runs_write_nothing(rt: HostRuntime) -> Result<(), Fail> {
         ("partition g 2 0 fix=-", "", "", Status::Usage),
         ("evaluate g - 2 0", "", "", Status::Usage),
         ("generate 0", "", "", Status::Usage),
+        ("selfrun 4 1", "", "", Status::Usage),
+        ("selfrun 4", "", "", Status::Usage),
+        ("selfrun 131073 256", "", "", large(0, What::Words)),
         ("partition g 2 0", "", "", malformed(1, LineKind::NoHeader)),
         (
             "partition g 2 0",
@@ -550,7 +560,7 @@ fn texts_of_statuses(rt: HostRuntime) -> Result<(), Fail> {
         (
             Status::Usage,
             2,
-            "usage: hgpart partition GRAPH K EPS [seed=N] [workers=N] [out=NAME] [cost=km1|cut|soed] [fix=NAME]\nusage: hgpart evaluate GRAPH PART K EPS [cost=km1|cut|soed]\nusage: hgpart generate N\n",
+            "usage: hgpart partition GRAPH K EPS [seed=N] [workers=N] [out=NAME] [cost=km1|cut|soed] [fix=NAME]\nusage: hgpart evaluate GRAPH PART K EPS [cost=km1|cut|soed]\nusage: hgpart generate N\nusage: hgpart selfrun N K\n",
         ),
         (
             Status::Malformed {

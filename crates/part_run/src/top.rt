@@ -11,6 +11,7 @@ ghost use Rattle.part_run.specs.declared.status.Status.TheVariants.{Done};
 use crate::evaluate::evaluate;
 use crate::generate::generate;
 use crate::partition::partition;
+use crate::selfrun::self_run;
 use crate::words::{Command, parse};
 use crate::{Ended, Outcome, Status};
 use hg_io::{Sink, Source};
@@ -107,5 +108,8 @@ pub fn run<H: Threads + Sync, S: Source, X: Source, K: Sink, R: Sink>(
             alloc, &e, graph, extra, out, report,
         )),
         Some(Command::Generate(n)) => without_outcome(generate(alloc, n, out, report)),
+        Some(Command::SelfRun(trial)) => with_outcome(self_run(
+            rt, alloc, trial, out, report, refiners,
+        )),
     }
 }

@@ -4,10 +4,10 @@ ghost use Rattle.std.specs.Prelude.{◌≡◌, ◌≤◌, ◌^◌, option_map, o
 ghost use Rattle.std.specs.Prelude.{string_bytes, None, Some, IfSome, ◌<◌};
 ghost use Rattle.part_run.specs.Wanted.{number_within, fraction_of, imbalance, file_name, plain_name, objective_of};
 ghost use Rattle.part_run.specs.Wanted.{if_unset, with_word, with_words, no_settings, chosen_objective};
-ghost use Rattle.part_run.specs.Wanted.{partition_words, evaluate_words, generate_words, wanted};
+ghost use Rattle.part_run.specs.Wanted.{partition_words, evaluate_words, generate_words, selfrun_words, wanted};
 ghost use Rattle.part_run.specs.Spelled.{settings_of, partitioning_of, evaluation_of, command_of, IsWithinBounds};
 
-use crate::balance::{Balance, Workers};
+use crate::balance::{Balance, Trial, Workers};
 use hg_defs::Objective;
 use hg_text::number;
 
@@ -212,6 +212,7 @@ pub(crate) enum Command<'a> {
     Partition(Partitioning<'a>),
     Evaluate(Evaluation<'a>),
     Generate(u32),
+    SelfRun(Trial),
 }
 
 fn partition_words(words: &[String]) -> Option<Partitioning<'_>>
@@ -265,6 +266,17 @@ fn generate_words(words: &[String]) -> Option<u32>
     small_within(1, 1 << 22, n.as_str())
 }
 
+fn selfrun_words(words: &[String]) -> Option<Trial>
+    ensures value { option_map (λ t. (t.vertices, t.k)) result ≡ selfrun_words (map string_bytes words.now) }
+{
+    let [vertices, k] = words else {
+        return None;
+    };
+    let vertices = small_within(1, 1 << 22, vertices.as_str())?;
+    let k = small_within(2, 256, k.as_str())?;
+    Some(Trial { vertices, k })
+}
+
 /// The command that the words spell, or none.
 pub(crate) fn parse(words: &[String]) -> Option<Command<'_>>
     ensures bounds { IfSome result IsWithinBounds }
@@ -280,6 +292,8 @@ pub(crate) fn parse(words: &[String]) -> Option<Command<'_>>
         Some(Command::Evaluate(evaluate_words(rest)?))
     } else if command == "generate" {
         Some(Command::Generate(generate_words(rest)?))
+    } else if command == "selfrun" {
+        Some(Command::SelfRun(selfrun_words(rest)?))
     } else {
         None
     }

@@ -1,9 +1,8 @@
-use Rattle.std.proofs.Common.{◌≡◌, ◌∙◌, ℕ, List, length, Result, Ok, Err, refl, sym, ap, subst, arith}
+use Rattle.std.proofs.Common.{◌≡◌, ◌∙◌, ℕ, length, Result, Ok, Err, sym, ap, subst, arith}
 use Rattle.std.specs.Prelude.{MatchResult, IsErrAnd}
 use Rattle.hg_defs.specs.Hypergraph.{Hyper}
 use Rattle.hg_defs.specs.Partition.{limit}
 use Rattle.hg_defs.specs.Cost.{cost}
-use Rattle.hg_defs.specs.LeastLoaded.{greedy}
 use Rattle.hg_defs.specs.Levels.{coarsest}
 use Rattle.round_log.specs.Trace.{AreContracted, IsStop, IsGoodClustering, limit_of}
 use Rattle.round_log.specs.TraceLaws.{IsPlaceableFor}

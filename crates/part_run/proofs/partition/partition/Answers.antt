@@ -1,14 +1,12 @@
-use Rattle.std.proofs.Common.{◌≡◌, ◌∙◌, List, ℕ, Result, Ok, Err, inl, inr, refl, sym, subst}
+use Rattle.std.proofs.Common.{◌≡◌, Result, Ok, Err, inl, inr, refl, sym, subst}
 use Rattle.std.specs.Prelude.{MatchResult, IsErrAnd}
 use Rattle.hg_defs.specs.Hypergraph.{Hyper, IsFixedWithin, Suits}
 use Rattle.round_log.specs.declared.record.Job.{Job}
 use Rattle.part_text.specs.Part.{part_text}
 use Rattle.part_run.specs.declared.status.Status.{Status}
-use Rattle.part_run.specs.declared.multilevel.Made.{Made}
-use Rattle.part_run.specs.Answers.{IsPlaceRefusal, IsWritten, IsWriteRefusal, Outputs, outputs_of, port_of, job_for, report_for}
-use Rattle.part_run.specs.Made.{IsMade}
+use Rattle.part_run.specs.Answers.{IsPlaceRefusal, IsWritten, IsWriteRefusal, outputs_of, port_of, report_for}
 use Rattle.part_run.specs.Spelled.{partitioning_of}
-use Rattle.part_run.proofs.Reportable.{reportable, outcome_over}
+use Rattle.part_run.proofs.Reportable.{reportable as made_reportable, outcome_over}
 use Rattle.part_run.proofs.partition.partition.Goals as goal
 
 -- an answer that is passed on is the refusal that it was
@@ -45,7 +43,7 @@ returns-in_err-made-clause-answer g c =
 
 pub deliver-requires : goal.deliver-requires
 deliver-requires g c = record {
-  reportable = reportable _ c.job_of-job.result c.in_ok-flat.flat c.in_ok-made.made c.job_of-job.ensures.bounds c.in_ok-made.ensures.answer;
+  reportable = made_reportable _ c.job_of-job.result c.in_ok-flat.flat c.in_ok-made.made c.job_of-job.ensures.bounds c.in_ok-made.ensures.answer;
 }
 
 pub returns-in_err-deliver-clause-answer : goal.returns-in_err-deliver-clause-answer

@@ -1,4 +1,4 @@
-use Rattle.std.proofs.Common.{◌≡◌, ℕ, ◌≤◌, ◌-◌, length, map, take, drop, string_bytes, sym, arith}
+use Rattle.std.proofs.Common.{◌≡◌, ◌≤◌, ◌-◌, length, map, take, drop, string_bytes, sym, arith}
 use Rattle.std.specs.Prelude.{unwrap_or}
 use Rattle.part_run.specs.Spelled.{settings_of}
 use Rattle.part_run.proofs.TooFew.{partition_words-short}
