@@ -58,10 +58,10 @@ fn without_outcome(answer: Result<(), Status>) -> Ended
 /// Carries out the command that the words spell.
 ///
 /// `graph` gives the hypergraph file, and `extra` the partition file of `evaluate` or the fix file of
-/// `partition`. `out` gets the partition, or the hypergraph of `generate`, and `report` the
-/// report or the evaluation. A run that is refused for another cause than a fault in writing has
-/// written nothing. A partition is refined by the refiners, which are of different kinds and tally what
-/// they did; no other command calls them.
+/// `partition`. `out` gets the partition, or the hypergraph of `generate`, and `report` the report, the
+/// evaluation or the summary. A run that is refused for another cause than a fault in writing has
+/// written nothing. `partition` and `selfrun` refine by the refiners, which are of different kinds and
+/// tally what they did; the other commands leave them alone.
 pub fn run<H: Threads + Sync, S: Source, X: Source, K: Sink, R: Sink>(
     rt: &H,
     alloc: Global,
