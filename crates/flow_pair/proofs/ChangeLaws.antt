@@ -23,7 +23,9 @@ use Rattle.round_log.specs.declared.record.LoggedRound.{LoggedRound}
 use Rattle.round_log.specs.Rounds.{changes, IsAssignment, IsFlowRound, after_round, pair_cost}
 use Rattle.flow_pair.specs.PairEnds.{reassigned, IsPairEnd}
 use Rattle.flow_pair.specs.Turns.{change}
-use Rattle.flow_pair.proofs.PairLaws.{among}
+use Rattle.flow_pair.specs.PairNetwork.{AreOfPair}
+use Rattle.flow_pair.proofs.PairLaws.{among, IsRearranged, rearranged}
+use Rattle.flow_pair.proofs.EndLaws.{region_pair}
 use Rattle.flow_pair.proofs.MemberLaws.{member_true, member_of, Contains-from_range, rising_is_filter}
 use Rattle.flow_pair.proofs.NetLaws.{all_of}
 use Rattle.flow_pair.proofs.ReassignLaws.{reassigned-at, reassigned-first, drop_here, rising-later}
@@ -226,6 +228,11 @@ changes-within P h p q (v ∷ vs) all =
 module _ (h : Hyper) (k l : ℕ) (p : List ℕ) (r : LoggedRound) (s : IsFlowRound h k l p r) where
   pub flow_replayed : after_round p r ≡ replay p r.moves
   flow_replayed = ap (replay_first p r.moves) s.kept ∙ replay_first-all p r.moves
+
+  pub flow_rearranged : IsRearranged p (after_round p r) r.first r.second
+  flow_rearranged =
+      rearranged p (after_round p r) r.region r.first r.second
+      (subst (AreOfPair p r.first r.second) (sym s.region) (region_pair h l p r.first r.second)) s.assigned
 
   pub flow_vertices : All (λ m. m.vertex < vertex_count h) r.moves
   flow_vertices =

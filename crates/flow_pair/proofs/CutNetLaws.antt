@@ -1,11 +1,13 @@
 -- Lists of cut nets.
-use Rattle.std.proofs.Common.{◌≡◌, ◌≢◌, ◌⊎◌, inl, inr, ℕ, ◌<◌, Bool, true, false, ◌&&◌, not, nat_eq, List, [], ◌∷◌, ◌++◌, filter, length, All, Contains}
-use Rattle.std.proofs.Common.{refl, sym, ap, subst, ◌∙◌, arith, true≢false, slice_index}
+use Rattle.std.proofs.Common.{◌≡◌, ◌≢◌, ◌⊎◌, inl, inr, ℕ, zero, suc, ◌<◌, Bool, true, false, ◌&&◌, not, nat_eq, List, [], ◌∷◌, ◌++◌, filter, length, All}
+use Rattle.std.proofs.Common.{Contains}
+use Rattle.std.proofs.Common.{◌||◌, refl, sym, ap, subst, ◌∙◌, arith, true≢false, slice_index, slice_index_or, slice_set, replicate}
+use Rattle.std.proofs.Common.{length-set, get_or-set_same, get_or-set_other}
 use Rattle.std.specs.List.{list_any, flat_map, range_with_len}
 use Rattle.std.specs.Ordering.{nat_cmp}
-use Rattle.std.proofs.lemmas.Bool.{and_parts, eqb-true, cases_eq}
+use Rattle.std.proofs.lemmas.Bool.{and_parts, or_cases, eqb-true, eq-eqb, cases_eq}
 use Rattle.std.proofs.lemmas.Cmp.{nat_cmp_total}
-use Rattle.std.proofs.lemmas.List.Elements.{All-nil, All-cons, All-contains, Contains-append_left, Contains-append_right, Contains-append_cases}
+use Rattle.std.proofs.lemmas.List.Elements.{All-nil, All-cons, All-append, All-contains, Contains-append_left, Contains-append_right, Contains-append_cases}
 use Rattle.hg_defs.specs.declared.moves.Move.{Move}
 use Rattle.hg_defs.specs.Hypergraph.{Hyper, net_count, net_of}
 use Rattle.hg_defs.specs.Incidence.{nets_of, is_on}
@@ -18,9 +20,10 @@ use Rattle.hg_defs.proofs.ReplayLaws.{replay-apart}
 use Rattle.hg_defs.proofs.SortLaws.{nat_cmp_exact, Contains_head, Contains_later, increasing-set_of, Contains-set_of, Contains-from_set_of}
 use Rattle.round_log.specs.Rounds.{has_pin}
 use Rattle.flow_pair.specs.Sides.{touching_nets}
-use Rattle.flow_pair.specs.CutNets.{HoldsTouching, HoldsCutOf, HoldsCut}
+use Rattle.flow_pair.specs.CutNets.{HoldsTouching, HoldsCutOf, HoldsCut, AreCutLists, KeepNets, with_nets}
 use Rattle.flow_pair.proofs.MemberLaws.{any_is, any_from, member_true, Contains-flat_map, Contains-from_flat_map, Contains-from_range, rising_is_filter}
 use Rattle.flow_pair.proofs.NetLaws.{all_of}
+use Rattle.flow_pair.proofs.PairLaws.{in_pair, IsRearranged}
 
 -- ---- those that touch a pair
 
@@ -35,16 +38,6 @@ module _ (h : Hyper) (p : List ℕ) (a b : ℕ) (nets : List ℕ) where
       (λ e c. let x = Contains-from_filter touches nets e (Contains-from_set_of nat_cmp_total nat_cmp_exact (filter touches nets) e c) in
       (All-contains (λ i. i < net_count h) nets e below x.0, x.1))
       (λ e low t. Contains-set_of nat_cmp_total nat_cmp_exact (filter touches nets) e (Contains_filter touches nets e (all e low t) t))
-
--- ---- those that touch a block
-
-pub cut_of : (h : Hyper) (p : List ℕ) (a : ℕ) (cut : List ℕ) → HoldsCut h p cut → HoldsCutOf h p a (filter (λ e. has_pin p (net_of h e) a) cut)
-cut_of h p a cut s = record {
-  nets = all_of (λ e. e < net_count h) (filter (λ e. has_pin p (net_of h e) a) cut)
-      (λ e c. All-contains (λ i. i < net_count h) cut e s.nets (Contains-from_filter (λ i. has_pin p (net_of h i) a) cut e c).0);
-  all = λ b other e low t. Contains_filter (λ i. has_pin p (net_of h i) a) cut e (s.all a b other e low t)
-      (and_parts (has_pin p (net_of h e) a) (has_pin p (net_of h e) b) t).0;
-}
 
 -- ---- all of them
 
@@ -145,14 +138,172 @@ module _ (h : Hyper) (p : List ℕ) (moves : List Move) (list : List ℕ) where
           let x = Contains-from_flat_map (λ (m : Move). nets_of h m.vertex) moves e c in
           Contains-from_range (net_count h) e (Contains-from_filter (is_on h x.0.vertex) (range_with_len 0 (net_count h)) e x.2).0
 
-  pub cut_after : HoldsCut h p list → HoldsCut h (replay p moves) (list ++ flat_map (λ (m : Move). nets_of h m.vertex) moves)
-  cut_after s = record {
-    nets = more_nets s.nets;
-    all = λ a b other e low t. touching_after h p moves list e low a b t (s.all a b other e low);
-  }
-
   pub cut_of_after : (a : ℕ) → HoldsCutOf h p a list → HoldsCutOf h (replay p moves) a (list ++ flat_map (λ (m : Move). nets_of h m.vertex) moves)
   cut_of_after a s = record {
     nets = more_nets s.nets;
     all = λ b other e low t. touching_after h p moves list e low a b t (s.all b other e low);
   }
+
+-- ---- block by block
+
+-- nothing changed
+pub keep_none : (m : ℕ) (lists : List (List ℕ)) → KeepNets m lists lists
+keep_none m lists = record { count = refl; below = λ a all. all; kept = λ a e c. c }
+
+pub keep_more : (m : ℕ) (xs ys zs : List (List ℕ)) → KeepNets m xs ys → KeepNets m ys zs → KeepNets m xs zs
+keep_more m xs ys zs x y = record {
+  count = y.count ∙ x.count;
+  below = λ a all. y.below a (x.below a all);
+  kept = λ a e c. y.kept a e (x.kept a e c);
+}
+
+-- one net more for a block
+module _ (m e block : ℕ) (lists : List (List ℕ)) (low : e < m) (at : block < length lists) where
+  abbrev longer : List ℕ
+  longer = slice_index_or lists block [] ++ e ∷ []
+
+  pub here : slice_index_or (slice_set lists block longer) block [] ≡ longer
+  here = get_or-set_same lists block longer [] at
+
+  there : (a : ℕ) → a ≢ block → slice_index_or (slice_set lists block longer) a [] ≡ slice_index_or lists a []
+  there a n = get_or-set_other lists block a longer [] n
+
+  pub keep_one : KeepNets m lists (slice_set lists block longer)
+  keep_one = record {
+    count = length-set lists block longer;
+    below = λ a all. by_below a all (cases_eq a block);
+    kept = λ a f c. by_kept a f c (cases_eq a block);
+  }
+    where
+      by_below : (a : ℕ) → All (λ f. f < m) (slice_index_or lists a []) → (a ≡ block) ⊎ (a ≢ block)
+          → All (λ f. f < m) (slice_index_or (slice_set lists block longer) a [])
+      by_below a all (inl same) =
+          subst (All (λ f. f < m)) (sym (ap (λ x. slice_index_or (slice_set lists block longer) x []) same ∙ here))
+          (All-append (λ f. f < m) (slice_index_or lists block []) (e ∷ []) (subst (λ x. All (λ f. f < m) (slice_index_or lists x [])) same all)
+          (All-cons (λ f. f < m) e [] low (All-nil (λ f. f < m))))
+      by_below a all (inr n) = subst (All (λ f. f < m)) (sym (there a n)) all
+
+      by_kept : (a f : ℕ) → Contains (slice_index_or lists a []) f → (a ≡ block) ⊎ (a ≢ block)
+          → Contains (slice_index_or (slice_set lists block longer) a []) f
+      by_kept a f c (inl same) =
+          subst (λ xs. Contains xs f) (sym (ap (λ x. slice_index_or (slice_set lists block longer) x []) same ∙ here))
+          (Contains-append_left (slice_index_or lists block []) (e ∷ []) f (subst (λ x. Contains (slice_index_or lists x []) f) same c))
+      by_kept a f c (inr n) = subst (λ xs. Contains xs f) (sym (there a n)) c
+
+  pub noted_one : Contains (slice_index_or (slice_set lists block longer) block []) e
+  noted_one = subst (λ xs. Contains xs e) (sym here) (Contains-append_right (slice_index_or lists block []) (e ∷ []) e (Contains_head e []))
+
+pub empty_at : (k a : ℕ) (none : List ℕ) → slice_index_or (replicate k none) a none ≡ none
+empty_at zero a none = refl
+empty_at (suc k) zero none = refl
+empty_at (suc k) (suc a) none = empty_at k a none
+
+-- each cut net is in the lists of the blocks of its pins
+pub lists_found : (h : Hyper) (k : ℕ) (p : List ℕ) (cut : List ℕ) (lists : List (List ℕ)) → HoldsCut h p cut → length lists ≡ k
+    → ((a : ℕ) → All (λ e. e < net_count h) (slice_index_or lists a []))
+    → All (λ e. All (λ v. Contains (slice_index_or lists (block_of p v) []) e) (net_of h e).pins) cut → AreCutLists h k p lists
+lists_found h k p cut lists s long below noted = record {
+  count = long;
+  each = λ a l. record { nets = below a; all = λ b other e low t. found a b other e low t };
+}
+  where
+    found : (a b : ℕ) → b ≢ a → (e : ℕ) → e < net_count h → (has_pin p (net_of h e) a && has_pin p (net_of h e) b) ≡ true
+        → Contains (slice_index_or lists a []) e
+    found a b other e low t =
+        let both = and_parts (has_pin p (net_of h e) a) (has_pin p (net_of h e) b) t in
+        let u = any_is (λ v. nat_eq (block_of p v) a) (net_of h e).pins both.0 in
+        let all = All-contains (λ f. All (λ v. Contains (slice_index_or lists (block_of p v) []) f) (net_of h f).pins) cut e noted
+        (s.all a b other e low t) in
+        subst (λ x. Contains (slice_index_or lists x []) e) (eqb-true (block_of p u.0) a u.2)
+        (All-contains (λ v. Contains (slice_index_or lists (block_of p v) []) e) (net_of h e).pins u.0 all u.1)
+
+-- a pair's nets are in the list of its second block, too
+pub second_holds : (h : Hyper) (p : List ℕ) (a b : ℕ) (list : List ℕ) → a ≢ b → HoldsCutOf h p b list → HoldsTouching h p a b list
+second_holds h p a b list other s =
+    λ e low t.
+    let both = and_parts (has_pin p (net_of h e) a) (has_pin p (net_of h e) b) t in
+    s.all a other e low (ap (λ x. x && has_pin p (net_of h e) a) both.1 ∙ both.0)
+
+or_second : (x y : Bool) → y ≡ true → (x || y) ≡ true
+or_second true y f = refl
+or_second false y f = f
+
+-- moves between two blocks leave the list of another one
+module _ (h : Hyper) (p q : List ℕ) (a b c : ℕ) (list : List ℕ) (r : IsRearranged p q a b) (first : c ≢ a) (second : c ≢ b) where
+  had_pin : (e d : ℕ) → d ≢ a → d ≢ b → has_pin q (net_of h e) d ≡ true → has_pin p (net_of h e) d ≡ true
+  had_pin e d x y t =
+      let v = any_is (λ v. nat_eq (block_of q v) d) (net_of h e).pins t in
+      any_from (λ v. nat_eq (block_of p v) d) (net_of h e).pins v.0 v.1 (sym (r.others v.0 d x y) ∙ v.2)
+
+  held : (e d : ℕ) → e < net_count h → HoldsCutOf h p c list → d ≢ c → has_pin p (net_of h e) c ≡ true → has_pin p (net_of h e) d ≡ true
+      → Contains list e
+  held e d low s n x y = s.all d n e low (ap (λ t. t && has_pin p (net_of h e) d) x ∙ y)
+
+  -- a pin in one of the two blocks was in one of them before
+  held_pair : (e v : ℕ) → e < net_count h → HoldsCutOf h p c list → has_pin p (net_of h e) c ≡ true → Contains (net_of h e).pins v
+      → in_pair q a b v ≡ true → Contains list e
+  held_pair e v low s x pin t = by (or_cases (nat_eq (block_of p v) a) (nat_eq (block_of p v) b) (sym (r.pair v) ∙ t))
+    where
+      by : (nat_eq (block_of p v) a ≡ true) ⊎ (nat_eq (block_of p v) b ≡ true) → Contains list e
+      by (inl y) = held e a low s (λ z. first (sym z)) x (any_from (λ u. nat_eq (block_of p u) a) (net_of h e).pins v pin y)
+      by (inr y) = held e b low s (λ z. second (sym z)) x (any_from (λ u. nat_eq (block_of p u) b) (net_of h e).pins v pin y)
+
+  held_at : (e d v : ℕ) → d ≢ c → e < net_count h → HoldsCutOf h p c list → has_pin p (net_of h e) c ≡ true → Contains (net_of h e).pins v
+      → block_of q v ≡ d → has_pin q (net_of h e) d ≡ true → (d ≡ a) ⊎ (d ≢ a) → (d ≡ b) ⊎ (d ≢ b) → Contains list e
+  held_at e d v n low s x pin is has (inl f) g = held_pair e v low s x pin (ap (λ z. z || nat_eq (block_of q v) b) (eq-eqb (block_of q v) a (is ∙ f)))
+  held_at e d v n low s x pin is has (inr f) (inl g) =
+      held_pair e v low s x pin (or_second (nat_eq (block_of q v) a) (nat_eq (block_of q v) b) (eq-eqb (block_of q v) b (is ∙ g)))
+  held_at e d v n low s x pin is has (inr f) (inr g) = held e d low s n x (had_pin e d f g has)
+
+  pub cut_of_other : HoldsCutOf h p c list → HoldsCutOf h q c list
+  cut_of_other s = record {
+    nets = s.nets;
+    all = λ d n e low t.
+        let both = and_parts (has_pin q (net_of h e) c) (has_pin q (net_of h e) d) t in
+        let v = any_is (λ u. nat_eq (block_of q u) d) (net_of h e).pins both.1 in
+        held_at e d v.0 n low s (had_pin e c first second both.0) v.1 (eqb-true (block_of q v.0) d v.2) both.1 (cases_eq d a) (cases_eq d b);
+  }
+
+-- the lists after moves between two blocks
+module _ (h : Hyper) (k : ℕ) (p q : List ℕ) (a b : ℕ) (moves : List Move) (lists : List (List ℕ)) (s : AreCutLists h k p lists)
+    (first : a < k) (second : b < k) (apart : a ≢ b) (r : IsRearranged p q a b) (same : q ≡ replay p moves) where
+  abbrev once : List (List ℕ)
+  once = with_nets h moves lists a
+
+  abbrev more_of : List ℕ → List ℕ
+  more_of list = list ++ flat_map (λ (m : Move). nets_of h m.vertex) moves
+
+  long_once : length once ≡ k
+  long_once = length-set lists a (more_of (slice_index_or lists a [])) ∙ s.count
+
+  at_first : slice_index_or (with_nets h moves once b) a [] ≡ more_of (slice_index_or lists a [])
+  at_first =
+      get_or-set_other once b a (more_of (slice_index_or once b [])) [] apart
+      ∙ get_or-set_same lists a (more_of (slice_index_or lists a [])) [] (let l = s.count in omega (arith, l, first))
+
+  at_second : slice_index_or (with_nets h moves once b) b [] ≡ more_of (slice_index_or lists b [])
+  at_second =
+      get_or-set_same once b (more_of (slice_index_or once b [])) [] (let l = long_once in omega (arith, l, second))
+      ∙ ap more_of (get_or-set_other lists a b (more_of (slice_index_or lists a [])) [] (λ x. apart (sym x)))
+
+  at_other : (c : ℕ) → c ≢ a → c ≢ b → slice_index_or (with_nets h moves once b) c [] ≡ slice_index_or lists c []
+  at_other c x y =
+      get_or-set_other once b c (more_of (slice_index_or once b [])) [] y
+      ∙ get_or-set_other lists a c (more_of (slice_index_or lists a [])) [] x
+
+  pub lists_after : AreCutLists h k q (with_nets h moves once b)
+  lists_after = record {
+    count = length-set once b (more_of (slice_index_or once b [])) ∙ long_once;
+    each = λ c l. by c l (cases_eq c a) (cases_eq c b);
+  }
+    where
+      by : (c : ℕ) → c < k → (c ≡ a) ⊎ (c ≢ a) → (c ≡ b) ⊎ (c ≢ b) → HoldsCutOf h q c (slice_index_or (with_nets h moves once b) c [])
+      by c l (inl x) y =
+          subst (λ z. HoldsCutOf h q z (slice_index_or (with_nets h moves once b) z [])) (sym x)
+          (subst (HoldsCutOf h q a) (sym at_first) (subst (λ z. HoldsCutOf h z a (more_of (slice_index_or lists a []))) (sym same)
+          (cut_of_after h p moves (slice_index_or lists a []) a (s.each a first))))
+      by c l (inr x) (inl y) =
+          subst (λ z. HoldsCutOf h q z (slice_index_or (with_nets h moves once b) z [])) (sym y)
+          (subst (HoldsCutOf h q b) (sym at_second) (subst (λ z. HoldsCutOf h z b (more_of (slice_index_or lists b []))) (sym same)
+          (cut_of_after h p moves (slice_index_or lists b []) b (s.each b second))))
+      by c l (inr x) (inr y) = subst (HoldsCutOf h q c) (sym (at_other c x y)) (cut_of_other h p q a b c (slice_index_or lists c []) r x y (s.each c l))

@@ -18,6 +18,7 @@ use Rattle.round_log.proofs.AssignmentLaws.{assignment-fits}
 use Rattle.flow_pair.specs.declared.solve.PairEnd.{PairEnd}
 use Rattle.flow_pair.specs.PairNetwork.{source_node, sink_node, pair_network, AreOfPair}
 use Rattle.flow_pair.specs.PairEnds.{reassigned, IsPairEnd}
+use Rattle.flow_pair.proofs.PairLaws.{IsRearranged, rearranged}
 use Rattle.flow_pair.proofs.ReassignLaws.{length-reassigned, reassigned-other, reassigned-at}
 use Rattle.flow_pair.proofs.AssignmentLaws.{value-is, value-bound, cheapest}
 
@@ -123,6 +124,9 @@ module _ (h : Hyper) (k l : ℕ) (p : List ℕ) (a b : ℕ) (end : PairEnd) (s :
 
   pub end_pair : AreOfPair p a b end.region
   end_pair = subst (AreOfPair p a b) (sym s.vertices_of) (region_pair h l p a b)
+
+  pub end_rearranged : IsRearranged p (reassigned p end.region end.blocks) a b
+  end_rearranged = rearranged p (reassigned p end.region end.blocks) end.region a b end_pair s.assigned
 
   -- each block is one of the two
   pub end_blocks : IsHypergraph h → IsPartition h k p → a < k → b < k → All (λ x. x < k) end.blocks

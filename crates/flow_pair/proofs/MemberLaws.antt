@@ -73,7 +73,8 @@ filter-map f test [] = refl
 filter-map f test (x ∷ xs) = by (test (f x)) (filter-map f test xs)
   where
     by : (t : Bool) → filter test (map f xs) ≡ map f (filter (λ y. test (f y)) xs)
-        → (if t then f x ∷ filter test (map f xs) else filter test (map f xs)) ≡ map f (if t then x ∷ filter (λ y. test (f y)) xs else filter (λ y. test (f y)) xs)
+        → (if t then f x ∷ filter test (map f xs) else filter test (map f xs))
+        ≡ map f (if t then x ∷ filter (λ y. test (f y)) xs else filter (λ y. test (f y)) xs)
     by true e = ap (λ ys. f x ∷ ys) e
     by false e = e
 

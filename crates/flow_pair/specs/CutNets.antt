@@ -1,6 +1,9 @@
 -- Lists that hold the cut nets of a partition, and maybe others.
-use Rattle.std.specs.Prelude.{◌≡◌, ◌≢◌, ℕ, ◌<◌, List, All, Contains, true, ◌&&◌}
+use Rattle.std.specs.Prelude.{◌≡◌, ◌≢◌, ℕ, ◌<◌, List, [], ◌++◌, All, Contains, true, ◌&&◌, length, slice_index_or, slice_set}
+use Rattle.std.specs.List.{flat_map}
+use Rattle.hg_defs.specs.declared.moves.Move.{Move}
 use Rattle.hg_defs.specs.Hypergraph.{Hyper, net_count, net_of}
+use Rattle.hg_defs.specs.Incidence.{nets_of}
 use Rattle.round_log.specs.Rounds.{has_pin}
 
 -- each net with pins in both blocks is in the list
@@ -16,3 +19,18 @@ pub record HoldsCutOf (h : Hyper) (p : List ℕ) (a : ℕ) (list : List ℕ) : T
 pub record HoldsCut (h : Hyper) (p : List ℕ) (list : List ℕ) : Type 0 where
   pub nets : All (λ e. e < net_count h) list
   pub all : (a b : ℕ) → b ≢ a → HoldsTouching h p a b list
+
+-- for each of k blocks such a list
+pub record AreCutLists (h : Hyper) (k : ℕ) (p : List ℕ) (lists : List (List ℕ)) : Type 0 where
+  pub count : length lists ≡ k
+  pub each : (a : ℕ) → a < k → HoldsCutOf h p a (slice_index_or lists a [])
+
+-- no list lost a number, and none got one that isn't below the bound
+pub record KeepNets (m : ℕ) (old new : List (List ℕ)) : Type 0 where
+  pub count : length new ≡ length old
+  pub below : (a : ℕ) → All (λ e. e < m) (slice_index_or old a []) → All (λ e. e < m) (slice_index_or new a [])
+  pub kept : (a e : ℕ) → Contains (slice_index_or old a []) e → Contains (slice_index_or new a []) e
+
+-- the lists after the nets of moved vertices were appended to that of a block
+abbrev pub with_nets : Hyper → List Move → List (List ℕ) → ℕ → List (List ℕ)
+with_nets h moves lists a = slice_set lists a (slice_index_or lists a [] ++ flat_map (λ (m : Move). nets_of h m.vertex) moves)

@@ -6,7 +6,7 @@ ghost use Rattle.hg_defs.specs.Hypergraph.{vertex_count, net_count, net_of};
 ghost use Rattle.hg_defs.specs.Incidence.{nets_of};
 ghost use Rattle.hg_defs.specs.Partition.{block_of};
 ghost use Rattle.round_log.specs.Rounds.{has_pin};
-ghost use Rattle.flow_pair.specs.CutNets.{HoldsTouching, HoldsCutOf, HoldsCut};
+ghost use Rattle.flow_pair.specs.CutNets.{HoldsTouching, HoldsCut};
 ghost use Rattle.flow_pair.specs.Sides.{touching_nets};
 
 use crate::region::{distinct, push_if};
@@ -51,7 +51,7 @@ pub(crate) fn touching_nets_of(
 }
 
 /// The nets that touch both blocks of a pair, all of which are among some nets.
-pub fn nets_between(
+pub(crate) fn nets_between(
     alloc: Global,
     h: &Hypergraph,
     p: &Partition,
@@ -73,26 +73,6 @@ pub fn nets_between(
     Ok(distinct(found))
 }
 
-/// Those of the cut nets that touch a block.
-pub(crate) fn nets_at(
-    alloc: Global,
-    h: &Hypergraph,
-    p: &Partition,
-    a: u32,
-    cut: &[u32],
-) -> Result<Vec<u32>, NoMemory>
-    requires belongs { p.now.hyper ≡ h.now }
-    requires block { a < p.now.k }
-    requires cut { HoldsCut h.now p.now.blocks cut.now }
-    ensures { IfOk result (λ found. HoldsCutOf h.now p.now.blocks a found.items) }
-{
-    let mut found = Vec::new(alloc);
-    for e in cut {
-        push_if(&mut found, p.count(*e, a) != 0, *e)?;
-    }
-    Ok(found)
-}
-
 /// Whether not all pins are in the block of the first one.
 fn is_cut(blocks: &[u32], pins: &[u32]) -> bool
     requires { All (λ v. v < length blocks.now) pins.now }
@@ -108,7 +88,11 @@ fn is_cut(blocks: &[u32], pins: &[u32]) -> bool
 }
 
 /// The nets that touch two blocks.
-pub fn cut_nets_of(alloc: Global, h: &Hypergraph, p: &Partition) -> Result<Vec<u32>, NoMemory>
+pub(crate) fn cut_nets_of(
+    alloc: Global,
+    h: &Hypergraph,
+    p: &Partition,
+) -> Result<Vec<u32>, NoMemory>
     requires { p.now.hyper ≡ h.now }
     ensures { IfOk result (λ cut. HoldsCut h.now p.now.blocks cut.items) }
 {
@@ -121,7 +105,11 @@ pub fn cut_nets_of(alloc: Global, h: &Hypergraph, p: &Partition) -> Result<Vec<u
 }
 
 /// Appends the nets of the vertices that moved.
-pub fn add_nets_of(h: &Hypergraph, moves: &[Move], list: &mut Vec<u32>) -> Result<(), NoMemory>
+pub(crate) fn add_nets_of(
+    h: &Hypergraph,
+    moves: &[Move],
+    list: &mut Vec<u32>,
+) -> Result<(), NoMemory>
     requires { All (λ m. m.vertex < vertex_count h.now) moves.now }
     ensures { OnOk result (list.new.items ≡ list.old.items ++ flat_map (λ m. nets_of h.now m.vertex) moves.now) }
 {

@@ -3,6 +3,7 @@
 #![tactic(auto)]
 
 mod cut;
+mod cut_nets;
 pub mod laws;
 mod network;
 mod pair;
@@ -12,7 +13,7 @@ mod region;
 mod round;
 mod solve;
 
-pub use cut::{add_nets_of, cut_nets_of, nets_between};
+pub use cut_nets::CutNets;
 pub use flow_net::NoMemory;
 pub use network::region_network;
 pub use pass::flow_pass;

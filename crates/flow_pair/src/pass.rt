@@ -7,10 +7,9 @@ ghost use Rattle.round_log.specs.Passes.{block_pairs};
 ghost use Rattle.round_log.specs.declared.record.Kind.TheVariants.{Flow};
 ghost use Rattle.refiner.specs.Logging.{LogsPass, LogsRounds};
 ghost use Rattle.flow_pair.specs.Courses.{IsOnCourse};
-ghost use Rattle.flow_pair.specs.CutNets.{HoldsCutOf};
 ghost use Rattle.flow_pair.specs.Turns.{TakesTurn, TakesTurns};
 
-use crate::cut::{add_nets_of, cut_nets_of, nets_at, nets_between};
+use crate::cut_nets::CutNets;
 use crate::round::record_round;
 use crate::solve::PairSolver;
 use flow_net::NoMemory;
@@ -29,42 +28,31 @@ struct Course {
     cost: u64,
     /// The rounds so far.
     rounds: Vec<LoggedRound>,
-    /// The cut nets, and maybe others.
-    cut: Vec<u32>,
+    cut: CutNets,
     solver: PairSolver,
 }
 
 impl Course {
-    /// Makes the round of a pair where a net touches it. The row has the cut nets of the first block.
-    fn take_turn(
-        &mut self,
-        alloc: Global,
-        h: &Hypergraph,
-        a: u32,
-        b: u32,
-        row: &mut Vec<u32>,
-    ) -> Result<(), NoMemory>
+    /// Makes the round of a pair where a net touches it.
+    fn take_turn(&mut self, alloc: Global, h: &Hypergraph, a: u32, b: u32) -> Result<(), NoMemory>
         requires course { IsOnCourse h.now self.old }
         requires order { a < b }
         requires second { b < self.old.part.k }
-        requires row { HoldsCutOf h.now self.old.part.blocks a row.old.items }
         ensures course { OnOk result (IsOnCourse h.now self.new) }
         ensures turn { OnOk result (TakesTurn h.now self.old.level a b self.old.part self.new.part
             self.old.rounds.items self.new.rounds.items) }
         ensures level { self.new.level ≡ self.old.level }
-        ensures row { OnOk result (HoldsCutOf h.now self.new.part.blocks a row.new.items) }
         ensures no_dearer { OnOk result (self.new.cost ≤ self.old.cost) }
     {
         let _blocks = self.part.blocks();
-        let nets = nets_between(alloc, h, &self.part, a, b, row.as_slice())?;
+        let nets = self.cut.between(alloc, h, &self.part, a, b)?;
         let found = self.solver.solve(h, &self.part, a, b, nets.as_slice())?;
         let Some(end) = found else {
             return Ok(());
         };
         let round = record_round(alloc, h, self.level, &mut self.part, a, b, self.cost, &end)?;
         self.cost = round.after;
-        add_nets_of(h, round.moves.slice(), &mut self.cut)?;
-        add_nets_of(h, round.moves.slice(), row)?;
+        self.cut.add_nets_of(alloc, h, round.moves.slice(), a, b)?;
         self.rounds.push(round)?;
         Ok(())
     }
@@ -79,9 +67,8 @@ impl Course {
     {
         let k = self.part.k();
         for a in 0..k {
-            let mut row = nets_at(alloc, h, &self.part, a, self.cut.as_slice())?;
             for b in a + 1..k {
-                self.take_turn(alloc, h, a, b, &mut row)?;
+                self.take_turn(alloc, h, a, b)?;
             }
         }
         Ok(())
@@ -110,7 +97,7 @@ pub fn flow_pass(
     let level = task.level;
     let _parted = p.blocks();
     let before = p.cost(h);
-    let cut = cut_nets_of(alloc, h, &p)?;
+    let cut = CutNets::of(alloc, h, &p)?;
     let mut course = Course {
         level,
         part: p,

@@ -4,7 +4,7 @@ use Rattle.hg_defs.specs.Hypergraph.{Hyper}
 use Rattle.hg_defs.specs.Partition.{Fits}
 use Rattle.pin_plain.specs.Parted.{Parted}
 use Rattle.flow_pair.specs.declared.solve.PairEnd.{PairEnd}
-use Rattle.flow_pair.specs.CutNets.{HoldsCut}
+use Rattle.flow_pair.specs.CutNets.{AreCutLists}
 use Rattle.flow_round.specs.declared.front.Front.{Front}
 use Rattle.flow_round.specs.PairTurns.{IsPairBelow, IsTurn, AreTurns, after_turns}
 use Rattle.flow_round.specs.Waves.{end_at}
@@ -13,7 +13,7 @@ use Rattle.flow_round.specs.Waves.{end_at}
 pub record IsFront (h : Hyper) (f : Front) : Type 0 where
   pub belongs : f.part.hyper ≡ h
   pub fits : Fits h f.part.k f.part.limit f.part.blocks
-  pub cut_is : HoldsCut h f.part.blocks f.cut.items
+  pub cut_is : AreCutLists h f.part.k f.part.blocks f.cut
   pub solver_is : f.solver ≡ h
   pub table_is : length f.ends.items ≡ f.part.k * f.part.k
 

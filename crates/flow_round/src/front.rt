@@ -8,7 +8,7 @@ ghost use Rattle.flow_round.specs.Waves.{AreWorkers, end_at};
 use crate::table::{end_of, place_of, put_end};
 use crate::worker::{Worker, partner_of, solve_wave};
 use crew::Gate;
-use flow_pair::{NoMemory, PairEnd, PairSolver, add_nets_of, assign_region, nets_between};
+use flow_pair::{CutNets, NoMemory, PairEnd, PairSolver, assign_region};
 use incidence::Hypergraph;
 use pin_plain::Partition;
 use std::alloc::Global;
@@ -18,8 +18,7 @@ use std::thread::Threads;
 #[derive(Drop)]
 pub(crate) struct Front {
     pub(crate) part: Partition,
-    /// The cut nets, and maybe others.
-    pub(crate) cut: Vec<u32>,
+    pub(crate) cut: CutNets,
     /// The end of each pair, at the first block times the number of blocks plus the second one.
     pub(crate) ends: Vec<Option<PairEnd>>,
     pub(crate) solver: PairSolver,
@@ -42,7 +41,7 @@ impl Front {
         if end_of(self.ends.as_slice(), place).is_some() {
             return Ok(());
         }
-        let nets = nets_between(alloc, h, &self.part, a, b, self.cut.as_slice())?;
+        let nets = self.cut.between(alloc, h, &self.part, a, b)?;
         let end = self.solver.solve(h, &self.part, a, b, nets.as_slice())?;
         put_end(self.ends.as_mut_slice(), place, end);
         Ok(())
@@ -73,7 +72,7 @@ impl Front {
             end.region.slice(),
             end.blocks.slice(),
         )?;
-        add_nets_of(h, moves.slice(), &mut self.cut)?;
+        self.cut.add_nets_of(alloc, h, moves.slice(), a, b)?;
         Ok(())
     }
 
@@ -107,7 +106,8 @@ impl Front {
         workers: &mut [Worker],
     ) -> Result<(), NoMemory>
         requires front { IsFront h.now self.old }
-        requires none { (x : ℕ × ℕ) → IsPairBelow self.old.part.k x → end_at self.old.part.k self.old.ends.items x ≡ None }
+        requires none { (x : ℕ × ℕ) → IsPairBelow self.old.part.k x → end_at self.old.part.k self.old.ends.items x
+            ≡ None }
         requires some { 0 < length workers.old }
         requires few { length workers.old ≤ 64 }
         requires workers { AreWorkers h.now workers.old }
@@ -123,7 +123,7 @@ impl Front {
                 alloc,
                 h,
                 &self.part,
-                self.cut.as_slice(),
+                &self.cut,
                 wave,
                 workers,
                 self.ends.as_mut_slice(),

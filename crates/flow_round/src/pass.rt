@@ -14,7 +14,7 @@ use crate::front::Front;
 use crate::table::{empty_table, end_of, place_of};
 use crate::worker::Worker;
 use crew::Gate;
-use flow_pair::{NoMemory, PairEnd, PairSolver, cut_nets_of, record_round};
+use flow_pair::{CutNets, NoMemory, PairEnd, PairSolver, record_round};
 use hg_base::Blocks;
 use incidence::Hypergraph;
 use pin_plain::Partition;
@@ -137,7 +137,7 @@ pub fn wave_pass<R: Threads + Sync, G: Gate>(
     let mut part = Partition::of(alloc, h, k, p.limit(), blocks)?;
     let mut workers = workers_of(alloc, h, task.workers)?;
     let mut front = Front {
-        cut: cut_nets_of(alloc, h, &p)?,
+        cut: CutNets::of(alloc, h, &p)?,
         ends: empty_table(alloc, k)?,
         solver: PairSolver::new(alloc, h),
         part: p,

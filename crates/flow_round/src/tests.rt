@@ -1,5 +1,4 @@
-ghost use Rattle.std.specs.Prelude.{◌≡◌, ◌<◌, ◌≤◌, IfOk};
-ghost use Rattle.hg_defs.specs.Hypergraph.{vertex_count};
+ghost use Rattle.std.specs.Prelude.{◌≡◌, IfOk};
 ghost use Rattle.hg_defs.specs.Partition.{Fits};
 
 use super::*;
@@ -9,17 +8,56 @@ use hg_base::{Blocks, FlatHyper, Objective};
 use incidence::Hypergraph;
 use pin_plain::Partition;
 use refiner::{Log, Refiner, Tally, Task};
-use round_log::LoggedRound;
 use std::alloc::Global;
 use std::process::Abort;
 use std::sync::atomic::AtomicBool;
 use std::sync::atomic::Ordering::SeqCst;
 use std::test::Fail;
 
+/// Two vertices and the net of both.
+fn one_net(alloc: Global) -> Result<Hypergraph, NoMemory> {
+    let mut flat = FlatHyper::start(alloc, 2)?;
+    flat.push_net(1, &[0, 1])?;
+    Hypergraph::build(alloc, flat)
+}
+
+/// Four vertices in a row, with nets of weights 1, 5 and 1 between neighbours.
+fn row_of_four(alloc: Global) -> Result<Hypergraph, NoMemory> {
+    let mut flat = FlatHyper::start(alloc, 4)?;
+    flat.push_net(1, &[0, 1])?;
+    flat.push_net(5, &[1, 2])?;
+    flat.push_net(1, &[2, 3])?;
+    Hypergraph::build(alloc, flat)
+}
+
+/// Three vertices with nets of weights 5 and 1, the second one without the last vertex.
+fn three_vertices(alloc: Global, objective: Objective) -> Result<Hypergraph, NoMemory> {
+    let mut flat = FlatHyper::start(alloc, 3)?;
+    flat.push_net(5, &[0, 1, 2])?;
+    flat.push_net(1, &[0, 1])?;
+    flat.set_objective(objective);
+    Hypergraph::build(alloc, flat)
+}
+
+/// Seven vertices with four nets, each vertex fixed to a block.
+fn seven_fixed(alloc: Global) -> Result<Hypergraph, NoMemory> {
+    let mut flat = FlatHyper::start(alloc, 7)?;
+    flat.push_net(2, &[0, 1])?;
+    flat.push_net(3, &[0, 6, 4, 5])?;
+    flat.push_net(8, &[4, 5, 3])?;
+    flat.push_net(7, &[1, 2, 3])?;
+    flat.set_fix(0, 0);
+    flat.set_fix(1, 0);
+    flat.set_fix(2, 0);
+    flat.set_fix(3, 1);
+    flat.set_fix(4, 1);
+    flat.set_fix(5, 1);
+    flat.set_fix(6, 0);
+    Hypergraph::build(alloc, flat)
+}
+
 /// Two rows of four vertices, with nets of weights 1, 5 and 1 between neighbours.
-fn two_rows(alloc: Global, objective: Objective) -> Result<Hypergraph, NoMemory>
-    ensures { IfOk result (λ h. vertex_count h ≡ 8) }
-{
+fn two_rows(alloc: Global, objective: Objective) -> Result<Hypergraph, NoMemory> {
     let mut flat = FlatHyper::start(alloc, 8)?;
     flat.push_net(1, &[0, 1])?;
     flat.push_net(5, &[1, 2])?;
@@ -32,15 +70,26 @@ fn two_rows(alloc: Global, objective: Objective) -> Result<Hypergraph, NoMemory>
 }
 
 /// The rows in the blocks 0 and 3, and 1 and 2.
-fn parted(rt: &impl Abort, alloc: Global, h: &Hypergraph) -> Result<Partition, Fail>
+const ROWS: [u32; 8] = [0, 0, 3, 3, 1, 1, 2, 2];
+
+/// The partition of these blocks.
+fn parted(
+    rt: &impl Abort,
+    alloc: Global,
+    h: &Hypergraph,
+    k: u32,
+    limit: u64,
+    blocks: &[u32],
+) -> Result<Partition, Fail>
     ensures belongs { IfOk result (λ p. p.hyper ≡ h.now) }
     ensures fits { IfOk result (λ p. Fits h.now p.k p.limit p.blocks) }
 {
-    assert_eq!(rt; h.vertices(), 8);
-    assert!(rt; h.suits(4));
-    assert!(rt; h.fixed_within(4));
-    let blocks = Blocks::from_vec([0u32, 0, 3, 3, 1, 1, 2, 2].to_vec(alloc)?);
-    let p = Partition::of(alloc, h, 4, 3, blocks)?;
+    assert!(rt; 2 <= k && k <= 256);
+    assert_eq!(rt; blocks.len(), h.vertices() as usize);
+    assert!(rt; blocks.iter().all(|b| *b < k));
+    assert!(rt; h.suits(k));
+    assert!(rt; h.fixed_within(k));
+    let p = Partition::of(alloc, h, k, limit, Blocks::from_vec(blocks.to_vec(alloc)?))?;
     assert!(rt; p.fits());
     Ok(p)
 }
@@ -52,35 +101,98 @@ const TASK: Task = Task {
     seed: 1,
 };
 
-/// The pair, the value, and the costs before and after.
-fn numbers(round: &LoggedRound) -> [u64; 5] {
-    [
-        u64::from(round.first),
-        u64::from(round.second),
-        round.value,
-        round.before,
-        round.after,
-    ]
+/// What is expected of a round: its pair, its value, the costs before and after it, and its region.
+type Expected<'a> = ([u64; 5], &'a [u32]);
+
+/// Compares the first rounds of a pass with what is expected.
+fn compare(rt: &impl Abort, log: &Log, tally: Tally, wanted: &[Expected<'_>], gain: u64) {
+    assert_eq!(rt;
+        (tally.rounds, tally.gain),
+        (log.rounds().len() as u64, gain)
+    );
+    assert!(rt; log.rounds().len() >= wanted.len());
+    for (round, (numbers, region)) in log.rounds().iter().zip(wanted) {
+        let pair = [u64::from(round.first), u64::from(round.second)];
+        assert_eq!(rt;
+            [pair[0], pair[1], round.value, round.before, round.after],
+            *numbers
+        );
+        assert_eq!(rt;
+            (round.region.slice(), round.level, round.tabled),
+            (*region, 1, false)
+        );
+    }
 }
 
 #[test]
 fn passes(rt: HostRuntime) -> Result<(), Fail> {
     let alloc = rt.alloc();
-    let h = two_rows(alloc, Objective::Connectivity)?;
-    let mut log = Log::new(alloc);
-    let mut refiner = FlowRound::new(rt, OpenGate);
-    refiner.refine(alloc, &h, &TASK, parted(&rt, alloc, &h)?, &mut log)?;
-    assert_eq!(rt; (refiner.tally().rounds, refiner.tally().gain), (2, 8));
-    assert_eq!(rt; log.rounds().len(), 2);
-    for (place, round) in log.rounds().iter().enumerate() {
-        let wanted = if place == 0 {
-            [0, 3, 1, 10, 6]
-        } else {
-            [1, 2, 1, 6, 2]
-        };
-        assert_eq!(rt; numbers(round), wanted);
-        let region = if place == 0 { [1u32, 2] } else { [5, 6] };
-        assert_eq!(rt; round.region.slice(), region.as_slice());
+    let one = one_net(alloc)?;
+    let seven = seven_fixed(alloc)?;
+    let four = row_of_four(alloc)?;
+    let rows: [(&Hypergraph, u32, u64, &[u32], Expected<'_>, u64); 3] = [
+        (&one, 4, 1, &[0, 1], ([0, 1, 1, 1, 1], &[]), 0),
+        (
+            &seven,
+            2,
+            4,
+            &[0, 0, 0, 1, 1, 1, 0],
+            ([0, 1, 10, 10, 10], &[]),
+            0,
+        ),
+        (&four, 2, 3, &[0, 0, 1, 1], ([0, 1, 1, 5, 1], &[1, 2]), 4),
+    ];
+    for (h, k, limit, blocks, wanted, gain) in rows {
+        let mut log = Log::new(alloc);
+        let mut refiner = FlowRound::new(rt, OpenGate);
+        let p = parted(&rt, alloc, h, k, limit, blocks)?;
+        refiner.refine(alloc, h, &TASK, p, &mut log)?;
+        compare(&rt, &log, refiner.tally(), &[wanted], gain);
+        assert_eq!(rt; log.rounds().len(), 1);
+    }
+    Ok(())
+}
+
+#[test]
+fn objectives(rt: HostRuntime) -> Result<(), Fail> {
+    let alloc = rt.alloc();
+    for (objective, three, first, second, gains) in [
+        (
+            Objective::Connectivity,
+            [0, 1, 0, 11, 5],
+            [0, 3, 1, 10, 6],
+            [1, 2, 1, 6, 2],
+            (6, 8),
+        ),
+        (
+            Objective::CutNet,
+            [0, 1, 0, 6, 5],
+            [0, 3, 1, 10, 6],
+            [1, 2, 1, 6, 2],
+            (1, 8),
+        ),
+        (
+            Objective::ExternalDegree,
+            [0, 1, 0, 17, 10],
+            [0, 3, 2, 20, 12],
+            [1, 2, 2, 12, 4],
+            (7, 16),
+        ),
+    ] {
+        let h = three_vertices(alloc, objective)?;
+        let mut log = Log::new(alloc);
+        let mut refiner = FlowRound::new(rt, OpenGate);
+        let p = parted(&rt, alloc, &h, 3, 2, &[0, 1, 2])?;
+        refiner.refine(alloc, &h, &TASK, p, &mut log)?;
+        compare(&rt, &log, refiner.tally(), &[(three, &[0, 1])], gains.0);
+        let h = two_rows(alloc, objective)?;
+        let mut log = Log::new(alloc);
+        let mut refiner = FlowRound::new(rt, OpenGate);
+        let p = parted(&rt, alloc, &h, 4, 3, &ROWS)?;
+        refiner.refine(alloc, &h, &TASK, p, &mut log)?;
+        let wanted: [Expected<'_>; 2] = [(first, &[1, 2]), (second, &[5, 6])];
+        compare(&rt, &log, refiner.tally(), &wanted, gains.1);
+        assert_eq!(rt; log.rounds().len(), 2);
     }
     Ok(())
 }
@@ -125,7 +237,7 @@ fn workers_meet(rt: HostRuntime) -> Result<(), Fail> {
         alloc,
         &h,
         &TASK,
-        parted(&rt, alloc, &h)?,
+        parted(&rt, alloc, &h, 4, 3, &ROWS)?,
         &mut log,
     )?;
     assert_eq!(rt; (tally.rounds, tally.gain), (2, 16));

@@ -3,14 +3,14 @@
 ghost use Rattle.std.specs.Prelude.{◌≡◌, ◌≢◌, ◌⊎◌, ℕ, ◌<◌, ◌≤◌, ◌+◌, ◌*◌, ◌-◌};
 ghost use Rattle.std.specs.Prelude.{All, IfOk, OnOk, length, true, false, MatchOption};
 ghost use Rattle.hg_defs.specs.Partition.{Fits};
-ghost use Rattle.flow_pair.specs.CutNets.{HoldsCut};
+ghost use Rattle.flow_pair.specs.CutNets.{AreCutLists};
 ghost use Rattle.flow_round.specs.PairTurns.{IsPairBelow, is_of_wave};
 ghost use Rattle.flow_round.specs.Waves.{IsTask, IsFound, IsDone, AreTasksOf, AreFoundOf, AreWorkers};
 ghost use Rattle.flow_round.specs.Waves.{HasEnd, GainsEnds, end_at};
 
 use crate::table::{place_of, put_end};
 use crew::{Gate, Span, each, span_of};
-use flow_pair::{NoMemory, PairEnd, PairSolver, nets_between};
+use flow_pair::{CutNets, NoMemory, PairEnd, PairSolver};
 use incidence::Hypergraph;
 use pin_plain::Partition;
 use std::alloc::Global;
@@ -66,10 +66,10 @@ fn tasks_of(
     h: &Hypergraph,
     p: &Partition,
     wave: u32,
-    cut: &[u32],
+    cut: &CutNets,
 ) -> Result<Vec<Task>, NoMemory>
     requires belongs { p.now.hyper ≡ h.now }
-    requires cut { HoldsCut h.now p.now.blocks cut.now }
+    requires cut { AreCutLists h.now p.now.k p.now.blocks cut.now }
     ensures tasks { IfOk result (λ tasks. All (IsTask h.now p.now) tasks.items) }
     ensures wave { IfOk result (λ tasks. AreTasksOf wave tasks.items) }
     ensures few { IfOk result (λ tasks. length tasks.items ≤ p.now.k) }
@@ -80,7 +80,7 @@ fn tasks_of(
         let Some(second) = partner_of(k, wave, first) else {
             continue;
         };
-        let nets = nets_between(alloc, h, p, first, second, cut)?;
+        let nets = cut.between(alloc, h, p, first, second)?;
         if !nets.is_empty() {
             tasks.push(Task {
                 first,
@@ -200,14 +200,14 @@ pub(crate) fn solve_wave<R: Threads + Sync, G: Gate>(
     alloc: Global,
     h: &Hypergraph,
     p: &Partition,
-    cut: &[u32],
+    cut: &CutNets,
     wave: u32,
     workers: &mut [Worker],
     ends: &mut [Option<PairEnd>],
 ) -> Result<(), NoMemory>
     requires belongs { p.now.hyper ≡ h.now }
     requires fits { Fits p.now.hyper p.now.k p.now.limit p.now.blocks }
-    requires cut { HoldsCut h.now p.now.blocks cut.now }
+    requires cut { AreCutLists h.now p.now.k p.now.blocks cut.now }
     requires some { 0 < length workers.old }
     requires few { length workers.old ≤ 64 }
     requires workers { AreWorkers h.now workers.old }

@@ -13,7 +13,8 @@ use label_prop::LabelProp;
 use part_run::{Status, names, put_status, run};
 use refiner::Refiner;
 use std::env;
-use std::io::ErrorKind;
+use std::fs::File;
+use std::io::{self, ErrorKind};
 use std::process::ExitCode;
 use std::thread::Threads;
 
@@ -42,7 +43,7 @@ fn carry_out<H: Threads + Sync>(
 ) -> Status
     requires may_run { All (λ b. may_run b) refiners.old }
     requires kinds { AllPairs (λ a b. a ≢ b) (map (λ b. kind b) refiners.old) }
-    requires tallied { All (λ b. ((tally b).rounds < 2 ^ 61) × ((tally b).gain < 2 ^ 61)) refiners.old }
+    requires tallied { All (λ b. ((tally b).rounds < 2 ^ 59) × ((tally b).gain < 2 ^ 59)) refiners.old }
 {
     let names = match names(rt.alloc(), words) {
         Ok(names) => names,
@@ -72,7 +73,18 @@ fn end(rt: HostRuntime, status: Status) -> ExitCode {
     ExitCode::from(status.code())
 }
 
+/// Gives the numbers of standard streams that are closed to a folder, which can be neither read nor
+/// written. The next files that are opened would have them otherwise, and get what is meant for a stream.
+fn hold_closed(rt: &HostRuntime) -> [Result<File, io::Error>; 3] {
+    [
+        File::open(rt, "/"),
+        File::open(rt, "/"),
+        File::open(rt, "/"),
+    ]
+}
+
 fn main(rt: HostRuntime) -> ExitCode {
+    let _held = hold_closed(&rt);
     let words = match words(&rt) {
         Ok(words) => words,
         Err(status) => return end(rt, status),

@@ -1,6 +1,6 @@
 //! The search for a placement that is cheaper than the named ones.
 //!
-//! It tries candidates: growings, recursive bisections, and perturbations of the best one. What it
+//! It tries candidates: a growing, recursive bisections, and perturbations of the best one. What it
 //! keeps beside a candidate only leads it, so nothing is said of it but the sizes of its arrays. A
 //! candidate is taken by exact tests alone.
 
@@ -32,14 +32,10 @@ use std::thread::{Threads, map_indices};
 /// The most cells that the table of pulls may have.
 const MOST_CELLS: u64 = 1 << 23;
 
-/// How many perturbations are made of one partition, side by side.
-const SIDE_BY_SIDE: usize = 4;
-
-/// How many candidates of a kind are tried, and in how many rounds perturbations are made: fewer
-/// where they cost more.
-fn effort(h: &Hypergraph, k: u32) -> (u64, u64)
+/// How many bisections and how many perturbations are tried: fewer where they cost more.
+fn effort(h: &Hypergraph, k: u32) -> usize
     requires { k ≤ 256 }
-    ensures { result.0 ≤ 8 }
+    ensures { result ≤ 6 }
 {
     let mut pins: u64 = 0;
     for e in 0..h.nets() {
@@ -47,9 +43,7 @@ fn effort(h: &Hypergraph, k: u32) -> (u64, u64)
     }
     let cells = u64::from(h.vertices()) * u64::from(k) + u64::from(h.nets()) * u64::from(k) / 8;
     let unit = pins.saturating_add(cells).max(1);
-    let tries = (100_000 / unit).max(2).min(4);
-    let rounds = (100_000 / unit).max(2).min(4);
-    (tries, rounds)
+    (200_000 / unit).max(2).min(6) as usize
 }
 
 /// Looks for a partition that is cheaper than a given one, fits and obeys the fixes. The answer
@@ -76,12 +70,12 @@ pub(crate) fn searched<R: Threads + Sync>(
     }
     let frame = frame_of(alloc, h, k)?;
     let rest = Rest::of(alloc, h)?;
-    let (tries, rounds) = effort(h, k);
+    let tries = effort(h, k);
     let best = best_of_tries(rt, alloc, h, k, &frame, &rest, limit, seed, tries, best)?;
-    best_of_throws(rt, alloc, h, k, &frame, &rest, limit, seed, rounds, best)
+    best_of_throws(rt, alloc, h, k, &frame, &rest, limit, seed, tries, best)
 }
 
-/// The cheapest of growings, bisections and a given partition.
+/// The cheapest of a growing, some bisections and a given partition.
 fn best_of_tries<R: Threads + Sync>(
     rt: &R,
     alloc: Global,
@@ -91,7 +85,7 @@ fn best_of_tries<R: Threads + Sync>(
     rest: &Rest,
     limit: u64,
     seed: u64,
-    tries: u64,
+    tries: usize,
     best: Blocks,
 ) -> Result<Blocks, NoMemory>
     requires some { 2 ≤ k }
@@ -106,23 +100,22 @@ fn best_of_tries<R: Threads + Sync>(
       blocks = k;
     } }
     requires rest { rest.now ≡ vertex_count h.now }
-    requires tries { tries ≤ 8 }
+    requires tries { tries ≤ 6 }
     requires best { IsPartition h.now k best }
     ensures { IfOk result (IsNoWorse h.now k limit best) }
 {
-    let count = 2 * tries as usize;
     let candidates = map_indices(
         rt,
         alloc,
-        count,
+        tries + 1,
         &|i: usize| -> Result<Blocks, NoMemory> {
-            candidate(alloc, h, frame, rest, limit, seed, i as u64, tries)
+            candidate(alloc, h, frame, rest, limit, seed, i as u64)
         },
     )?;
     cheapest(alloc, h, k, limit, best, candidates)
 }
 
-/// The cheapest of perturbations and a given partition: in each round some of the best one so far.
+/// The cheapest of some perturbations of a given partition, and itself.
 fn best_of_throws<R: Threads + Sync>(
     rt: &R,
     alloc: Global,
@@ -132,42 +125,7 @@ fn best_of_throws<R: Threads + Sync>(
     rest: &Rest,
     limit: u64,
     seed: u64,
-    rounds: u64,
-    best: Blocks,
-) -> Result<Blocks, NoMemory>
-    requires some { 2 ≤ k }
-    requires few { k ≤ 256 }
-    requires suits { Suits h.now k }
-    requires fixed { IsFixedWithin h.now k }
-    requires vertices { 0 < vertex_count h.now }
-    requires frame { frame.now ≡ record {
-      vertices = vertex_count h.now;
-      whole = vertex_count h.now;
-      all = k;
-      blocks = k;
-    } }
-    requires rest { rest.now ≡ vertex_count h.now }
-    requires best { IsPartition h.now k best }
-    ensures { IfOk result (IsNoWorse h.now k limit best) }
-{
-    let mut best = best;
-    for round in 0..rounds {
-        best = best_of_round(rt, alloc, h, k, frame, rest, limit, seed, round, best)?;
-    }
-    Ok(best)
-}
-
-/// The cheapest of some perturbations of a given partition, and itself.
-fn best_of_round<R: Threads + Sync>(
-    rt: &R,
-    alloc: Global,
-    h: &Hypergraph,
-    k: u32,
-    frame: &Frame,
-    rest: &Rest,
-    limit: u64,
-    seed: u64,
-    round: u64,
+    tries: usize,
     best: Blocks,
 ) -> Result<Blocks, NoMemory>
     requires some { 2 ≤ k }
@@ -189,9 +147,9 @@ fn best_of_round<R: Threads + Sync>(
     let candidates = map_indices(
         rt,
         alloc,
-        SIDE_BY_SIDE,
+        tries,
         &|i: usize| -> Result<Blocks, NoMemory> {
-            thrown(alloc, h, frame, rest, &start, limit, seed, round, i as u64)
+            thrown(alloc, h, frame, rest, &start, limit, seed, i as u64)
         },
     )?;
     cheapest(alloc, h, k, limit, best, candidates)

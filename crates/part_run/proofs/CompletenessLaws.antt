@@ -28,7 +28,7 @@ use Rattle.hg_make.specs.Made.{made}
 use Rattle.part_run.specs.Completeness.{AreFaultless, Gives, GivesFixes, IsPartitionable, IsEvaluable, RunsComeToTheirEnd}
 
 -- what was read to its end is what the source told
-same_bytes : (old new : Option (List ℕ)) (xs bytes : List ℕ) → old ≡ Some xs → Consumes old new bytes → IsAtEnd new → bytes ≡ xs
+pub same_bytes : (old new : Option (List ℕ)) (xs bytes : List ℕ) → old ≡ Some xs → Consumes old new bytes → IsAtEnd new → bytes ≡ xs
 same_bytes None new xs bytes told consumed end = cc
 same_bytes (Some ys) None xs bytes told consumed end = absurd consumed
 same_bytes (Some ys) (Some zs) xs bytes told consumed end =

@@ -6,7 +6,11 @@ pub mod Unplaced
 pub mod Nonempty
 pub mod WordLaws
 mod CompletenessLaws
+mod ModeLaws
 pub mod LevelLemmas
-pub mod WorkerLemmas
+pub mod ModeLemmas
+mod GrowthLemmas
+pub mod SettingBounds
+pub mod NumberLaws
 pub mod Reportable
 pub mod TrialLemmas

@@ -1,5 +1,5 @@
 -- What a run may answer: for each way to end its cause, what was read, and what was written.
-use Rattle.std.specs.Prelude.{◌≡◌, ◌≢◌, ℕ, ◌+◌, ◌*◌, ◌^◌, ◌<◌, ◌≤◌, List, [], Bool, false, Option, Some, None, Ok, ◌⊎◌}
+use Rattle.std.specs.Prelude.{◌≡◌, ◌≢◌, ℕ, ◌+◌, ◌*◌, ◌^◌, ◌<◌, ◌≤◌, List, [], ◌++◌, length, Bool, false, Option, Some, None, Ok, ◌⊎◌}
 use Rattle.std.specs.Io.KnownBytes.{Appends}
 use Rattle.hg_defs.specs.Hypergraph.{Hyper, vertex_count, net_count, total_weight, Suits}
 use Rattle.hg_defs.specs.Partition.{IsPartition, Obeys, Fits, limit}
@@ -10,10 +10,13 @@ use Rattle.hg_io.specs.Faults.{Rose}
 use Rattle.hg_io.specs.Transfers.{AppendsPrefix}
 use Rattle.round_log.specs.declared.record.Kind.{Kind}
 use Rattle.round_log.specs.declared.record.Job.{Job}
+use Rattle.round_log.specs.declared.record.LoggedRound.{LoggedRound}
 use Rattle.round_log.specs.declared.record.Trace.{Trace}
 use Rattle.round_log.specs.Trace.{limit_of}
+use Rattle.round_log.specs.Deterministic.{det, IsDetTrace, IsLegalDet}
 use Rattle.refiner.specs.declared.pass.Tally.{Tally}
-use Rattle.uncoarsen.specs.Refined.{IsLegalBy}
+use Rattle.uncoarsen.specs.Refined.{IsLegalBy, tallies_with}
+use Rattle.vcycle.specs.Cycles.{AreCyclesBy, rounds_of_cycles}
 use Rattle.part_text.specs.Part.{part_text}
 use Rattle.part_text.specs.Entries.{spelled_part}
 use Rattle.hg_make.specs.Made.{made}
@@ -26,6 +29,8 @@ use Rattle.part_run.specs.declared.status.Status.{Status}
 use Rattle.part_run.specs.declared.status.Status.TheVariants.{Done, Usage, TooLarge, Unplaced, WriteFault, NoMemory}
 use Rattle.part_run.specs.declared.ended.Outcome.{Outcome}
 use Rattle.part_run.specs.declared.ended.Ended.{Ended}
+use Rattle.part_run.specs.declared.words.Mode.{Mode}
+use Rattle.part_run.specs.declared.words.Mode.TheVariants.{Raced, Deterministic}
 use Rattle.part_run.specs.Wanted.{Command, Partition, Evaluate, Generate, SelfRun, Partitioning, Evaluation}
 use Rattle.part_run.specs.Reads.{Feed, IsSuited, Spells, with_objective, IsFixed, IsGraphRefusal, IsFixRefusal, IsPartRefusal}
 
@@ -125,22 +130,53 @@ pub record IsPlaced (job : Job) (h : Hyper) (blocks : List ℕ) : Type 0 where
   pub obeys : Obeys h blocks
   pub fits : Fits h job.k (limit_of h job) blocks
 
--- the partition that is written: one block for each vertex, where it is fixed and within the limit, which no single allowed move makes cheaper.
--- The trace leads to it, legally for refiners of these kinds
-pub record IsResult (kinds : List Kind) (job : Job) (h : Hyper) (trace : Trace) (blocks : List ℕ) : Type 0 where
+-- the partition that is written, in whatever mode: one block for each vertex, where it is fixed and within the limit, which no single allowed move
+-- makes cheaper, and which is no dearer than greedy placement
+pub record IsGoodPartition (job : Job) (h : Hyper) (blocks : List ℕ) : Type 0 where
   pub placed : overfills h job.k (limit_of h job) ≡ None
-  pub legal : IsLegalBy kinds h job trace blocks
   pub partition : IsPartition h job.k blocks
   pub obeys : Obeys h blocks
   pub fits : Fits h job.k (limit_of h job) blocks
   pub settled : IsSettled h job.k (limit_of h job) blocks
   pub no_dearer : cost h blocks ≤ cost h (greedy h job.k)
 
--- what a run made: such a partition, its exact cost, and no cycles
-pub record IsOutcome (kinds : List Kind) (job : Job) (h : Hyper) (outcome : Outcome) : Type 0 where
-  pub result : IsResult kinds job h outcome.trace outcome.blocks
+-- how it is reached where refiners of these kinds race: the trace leads to a partition, legally, and so many cycles lead from there on
+pub record IsRacedRun (kinds : List Kind) (count : ℕ) (job : Job) (h : Hyper) (trace : Trace) (cycles : List Trace) (blocks : List ℕ) : Type 0 where
+  pub reached : List ℕ
+  pub legal : IsLegalBy kinds h job trace reached
+  pub led : AreCyclesBy kinds h job.k (limit_of h job) job.workers cycles reached blocks
+  pub counted : length cycles ≡ count
+
+-- how it is reached in the deterministic mode: it is that of the function, which names no workers; the trace is the mode's, and legal; no cycle follows
+pub record IsDeterminedRun (job : Job) (h : Hyper) (trace : Trace) (cycles : List Trace) (blocks : List ℕ) : Type 0 where
+  pub function : det h job.k (limit_of h job) job.seed ≡ Some blocks
+  pub recorded : IsDetTrace h job.k (limit_of h job) job.seed job.workers trace blocks
+  pub legal : IsLegalDet h job trace blocks
+  pub uncycled : cycles ≡ []
+
+abbrev pub IsReachedIn : Mode → List Kind → Job → Hyper → Trace → List Trace → List ℕ → Type 0
+IsReachedIn (Raced count) kinds job h trace cycles blocks = IsRacedRun kinds count job h trace cycles blocks
+IsReachedIn Deterministic kinds job h trace cycles blocks = IsDeterminedRun job h trace cycles blocks
+
+-- what a run in a mode made: such a partition, its exact cost, and the trace and the cycles by which it was reached
+pub record IsOutcomeIn (mode : Mode) (kinds : List Kind) (job : Job) (h : Hyper) (outcome : Outcome) : Type 0 where
+  pub good : IsGoodPartition job h outcome.blocks
   pub cost : outcome.cost ≡ cost h outcome.blocks
-  pub cycles : outcome.cycles ≡ []
+  pub reached : IsReachedIn mode kinds job h outcome.trace outcome.cycles outcome.blocks
+
+-- the rounds of the trace and of all cycles
+abbrev pub rounds_in : Outcome → List LoggedRound
+rounds_in outcome = outcome.trace.rounds ++ rounds_of_cycles outcome.cycles
+
+-- what refiners of these kinds tally of the rounds of a run: those that race their own ones; in the deterministic mode they aren't called
+abbrev pub TalliesIn : Mode → List Kind → List LoggedRound → List Tally → List Tally → Type 0
+TalliesIn (Raced count) kinds rounds old new = new ≡ tallies_with rounds kinds old
+TalliesIn Deterministic kinds rounds old new = new ≡ old
+
+-- the deterministic mode leaves the tallies alone, however it ends
+abbrev pub SparesIn : Mode → List Tally → List Tally → Type 0
+SparesIn (Raced count) old new = Unit {0}
+SparesIn Deterministic old new = new ≡ old
 
 -- why a hypergraph gets no partition: greedy placement passes the limit at a vertex, numbered from 1, or there was no memory
 abbrev pub IsPlaceRefusal : Job → Hyper → Status → Type 0
@@ -155,7 +191,7 @@ report_for job h outcome = report_text h job outcome.trace outcome.cycles outcom
 pub record IsPartitioned (kinds : List Kind) (p : Partitioning) (inputs inputs' : Inputs) (outputs outputs' : Outputs) (outcome : Outcome) : Type 0 where
   pub hypergraph : Hyper
   pub accepted : IsAccepted p inputs inputs' hypergraph
-  pub made : IsOutcome kinds (job_for p) hypergraph outcome
+  pub made : IsOutcomeIn p.mode kinds (job_for p) hypergraph outcome
   pub written : IsWritten outputs outputs' (part_text outcome.blocks) (report_for (job_for p) hypergraph outcome)
 
 -- `partition` refuses what it reads, and writes nothing
@@ -175,7 +211,7 @@ pub record IsWriteRefused (kinds : List Kind) (p : Partitioning) (inputs inputs'
   pub hypergraph : Hyper
   pub outcome : Outcome
   pub accepted : IsAccepted p inputs inputs' hypergraph
-  pub made : IsOutcome kinds (job_for p) hypergraph outcome
+  pub made : IsOutcomeIn p.mode kinds (job_for p) hypergraph outcome
   pub cause : IsWriteRefusal outputs outputs' (part_text outcome.blocks) (report_for (job_for p) hypergraph outcome) status
 
 -- the stages of `partition`, and at each of them its refusals
@@ -241,7 +277,7 @@ summary_for n k = summary_text (made n) k (limit_of (made n) (trial_job k))
 -- what a run on the made hypergraph reached; the report got the whole summary
 pub record IsSummedUp (kinds : List Kind) (n k : ℕ) (outputs outputs' : Outputs) (outcome : Outcome) : Type 0 where
   pub suits : Suits (made n) k
-  pub reached : IsOutcome kinds (trial_job k) (made n) outcome
+  pub reached : IsOutcomeIn (Raced 0) kinds (trial_job k) (made n) outcome
   pub written : IsWritten outputs outputs' [] (summary_for n k)
 
 -- `selfrun` reads nothing, and comes to that
@@ -300,8 +336,13 @@ IsEnd kinds (Some (Generate n)) inputs inputs' outputs outputs' ended = IsGenera
 IsEnd kinds (Some (SelfRun n k)) inputs inputs' outputs outputs' ended =
     IsTrialEnd kinds n k inputs inputs' outputs outputs' ended.status ended.outcome
 
--- a command that partitions nothing leaves the tallies of the refiners alone
+-- the mode of a command: only `partition` is asked for one
+abbrev pub mode_of : Option Command → Mode
+mode_of (Some (Partition p)) = p.mode
+mode_of _ = Raced 0
+
+-- a command that partitions nothing leaves the tallies of the refiners alone, and so does the deterministic mode
 abbrev pub Spares : Option Command → List Tally → List Tally → Type 0
-Spares (Some (Partition p)) old new = Unit {0}
+Spares (Some (Partition p)) old new = SparesIn p.mode old new
 Spares (Some (SelfRun n k)) old new = Unit {0}
 Spares _ old new = new ≡ old

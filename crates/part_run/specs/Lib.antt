@@ -6,4 +6,6 @@ pub mod Reads
 pub mod Answers
 pub mod Made
 pub mod WordLaws
+pub mod NumberLaws
 pub mod Completeness
+pub mod ModeLaws

@@ -5,11 +5,20 @@ use Rattle.part_run.specs.declared.words.Partitioning as partitioning
 use Rattle.part_run.specs.declared.words.Evaluation as evaluation
 use Rattle.part_run.specs.declared.words.Command as command
 use Rattle.part_run.specs.declared.words.Command.TheVariants as variants
+use Rattle.part_run.specs.declared.words.Mode.{Mode}
+use Rattle.part_run.specs.declared.words.Mode.TheVariants.{Raced, Deterministic}
 use Rattle.part_run.specs.Wanted.{Settings, Partitioning, Evaluation, Command}
 use Rattle.part_run.specs.Wanted as wanted
 
 abbrev pub settings_of : settings.Settings → Settings
-settings_of s = record { seed = s.seed; workers = s.workers; out = option_copied s.out; cost = s.cost; fix = option_copied s.fix }
+settings_of s = record {
+  seed = s.seed;
+  workers = s.workers;
+  out = option_copied s.out;
+  cost = s.cost;
+  fix = option_copied s.fix;
+  mode = s.mode;
+}
 
 abbrev pub partitioning_of : partitioning.Partitioning → Partitioning
 partitioning_of p = record {
@@ -21,6 +30,7 @@ partitioning_of p = record {
   out = option_copied p.out;
   objective = p.objective;
   fix = option_copied p.fix;
+  mode = p.mode;
 }
 
 abbrev pub evaluation_of : evaluation.Evaluation → Evaluation
@@ -32,9 +42,14 @@ command_of (variants.Evaluate e) = wanted.Evaluate (evaluation_of e)
 command_of (variants.Generate n) = wanted.Generate n
 command_of (variants.SelfRun t) = wanted.SelfRun t.vertices t.k
 
--- the size of a hypergraph that is asked for is in its range
+-- eight cycles at most
+abbrev pub HasFewCycles : Mode → Type 0
+HasFewCycles (Raced cycles) = cycles ≤ 8
+HasFewCycles Deterministic = Unit {0}
+
+-- the number of cycles and the size of a hypergraph that are asked for are in their ranges
 abbrev pub IsWithinBounds : command.Command → Type 0
-IsWithinBounds (variants.Partition p) = Unit {0}
+IsWithinBounds (variants.Partition p) = HasFewCycles p.mode
 IsWithinBounds (variants.Evaluate e) = Unit {0}
 IsWithinBounds (variants.Generate n) = (1 ≤ n) × (n ≤ 2 ^ 22)
 IsWithinBounds (variants.SelfRun t) = Unit {0}

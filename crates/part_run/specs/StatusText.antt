@@ -55,7 +55,7 @@ line_text label line said = label ++ decimal line ++ codes ": " ++ said ++ 10 âˆ
 -- the forms of the commands that are served
 abbrev pub usage_text : List â„•
 usage_text =
-    codes "usage: hgpart partition GRAPH K EPS [seed=N] [workers=N] [out=NAME] [cost=km1|cut|soed] [fix=NAME]\n"
+    codes "usage: hgpart partition GRAPH K EPS [seed=N] [workers=N] [out=NAME] [cost=km1|cut|soed] [fix=NAME] [mode=det] [cycles=N]\n"
     ++ codes "usage: hgpart evaluate GRAPH PART K EPS [cost=km1|cut|soed]\n"
     ++ codes "usage: hgpart generate N\n"
     ++ codes "usage: hgpart selfrun N K\n"

@@ -6,6 +6,8 @@ use Rattle.hg_defs.specs.declared.objective.Objective.{Objective}
 use Rattle.hg_defs.specs.declared.objective.Objective.TheVariants.{Connectivity, CutNet, ExternalDegree}
 use Rattle.hg_text.specs.declared.numeral.BadNumber.{BadNumber}
 use Rattle.hg_text.specs.Kept.{number_of, is_filled}
+use Rattle.part_run.specs.declared.words.Mode.{Mode}
+use Rattle.part_run.specs.declared.words.Mode.TheVariants.{Raced, Deterministic}
 
 -- what `partition` asks for: the graph's name, and the settings with their defaults filled in
 pub record Partitioning : Type 0 where
@@ -17,6 +19,7 @@ pub record Partitioning : Type 0 where
   pub out : Option (List ℕ)
   pub objective : Objective
   pub fix : Option (List ℕ)
+  pub mode : Mode
 
 -- what `evaluate` asks for
 pub record Evaluation : Type 0 where
@@ -82,6 +85,14 @@ objective_of word =
     if bytes_eq word (codes "cut") then Some CutNet else
     if bytes_eq word (codes "soed") then Some ExternalDegree else None
 
+-- the mode that has a name
+abbrev pub named_mode : List ℕ → Option Mode
+named_mode word = if bytes_eq word (codes "det") then Some Deterministic else None
+
+-- the mode in which so many cycles, eight at most, follow the first descent
+abbrev pub raced_mode : List ℕ → Option Mode
+raced_mode word = option_map Raced (number_within 0 8 word)
+
 -- what the words behind the imbalance set; nothing at first
 pub record Settings : Type 0 where
   pub seed : Option ℕ
@@ -89,16 +100,17 @@ pub record Settings : Type 0 where
   pub out : Option (List ℕ)
   pub cost : Option Objective
   pub fix : Option (List ℕ)
+  pub mode : Option Mode
 
 abbrev pub no_settings : Settings
-no_settings = record { seed = None; workers = None; out = None; cost = None; fix = None }
+no_settings = record { seed = None; workers = None; out = None; cost = None; fix = None; mode = None }
 
 -- a value for a setting that was not set before
 abbrev pub if_unset : {A B : Type 0} → Option A → Option B → Option B
 if_unset None value = value
 if_unset (Some old) value = None
 
--- the settings with that of one more word, `key=value`; each key stands once at most
+-- the settings with that of one more word, `key=value`; each key stands once at most, and one of the two that set the mode
 abbrev pub with_word : Settings → List ℕ → Option Settings
 with_word s word =
     let key = before_first is_equals word in
@@ -108,7 +120,9 @@ with_word s word =
     if bytes_eq key (codes "workers") then option_map (λ n. record s { workers = Some n }) (if_unset s.workers (number_within 1 64 value)) else
     if bytes_eq key (codes "out") then option_map (λ n. record s { out = Some n }) (if_unset s.out (file_name value)) else
     if bytes_eq key (codes "cost") then option_map (λ o. record s { cost = Some o }) (if_unset s.cost (objective_of value)) else
-    if bytes_eq key (codes "fix") then option_map (λ n. record s { fix = Some n }) (if_unset s.fix (plain_name value)) else None
+    if bytes_eq key (codes "fix") then option_map (λ n. record s { fix = Some n }) (if_unset s.fix (plain_name value)) else
+    if bytes_eq key (codes "mode") then option_map (λ m. record s { mode = Some m }) (if_unset s.mode (named_mode value)) else
+    if bytes_eq key (codes "cycles") then option_map (λ m. record s { mode = Some m }) (if_unset s.mode (raced_mode value)) else None
 
 abbrev pub with_words : Settings → List (List ℕ) → Option Settings
 with_words s [] = Some s
@@ -125,6 +139,7 @@ partitioning_of graph k eps s = record {
   out = s.out;
   objective = unwrap_or s.cost Connectivity;
   fix = s.fix;
+  mode = unwrap_or s.mode (Raced 0);
 }
 
 abbrev pub partition_words : List (List ℕ) → Option Partitioning

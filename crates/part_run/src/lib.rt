@@ -2,14 +2,17 @@
 #![tactic(auto)]
 
 mod balance;
+mod deterministic;
 mod ended;
 mod evaluate;
 mod generate;
 pub mod laws;
+mod making;
 mod multilevel;
 mod naming;
 mod partition;
 mod places;
+mod reached;
 mod reading;
 mod selfrun;
 mod status;

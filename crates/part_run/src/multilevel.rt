@@ -1,53 +1,30 @@
-//! A whole run over a hypergraph: greedy placement, the levels, the refiners, and the sweeps.
+//! Runs in which refiners race: the levels, the refiners on each of them, the sweeps, and the cycles.
 
-ghost use Rattle.std.specs.Prelude.{◌≡◌, ◌≢◌, ◌≤◌, ◌<◌, ◌^◌, MatchResult, None, IfOk, All, AllPairs, map};
-ghost use Rattle.hg_defs.specs.Hypergraph.{IsHypergraph, IsWithinLimits, IsFixedWithin, Suits};
-ghost use Rattle.hg_defs.specs.LeastLoaded.{overfills};
+ghost use Rattle.std.specs.Prelude.{◌≡◌, ◌≢◌, ◌≤◌, ◌<◌, ◌^◌, ◌++◌, None, IfOk, All, AllPairs, map};
+ghost use Rattle.hg_defs.specs.Hypergraph.{IsHypergraph, Suits};
+ghost use Rattle.hg_defs.specs.LeastLoaded as placement;
 ghost use Rattle.round_log.specs.Trace.{limit_of as limit_of_job};
+ghost use Rattle.round_log.specs.TraceLaws.{IsPlaceableFor};
 ghost use Rattle.uncoarsen.specs.Start.{ArePartable, IsStartAt};
-ghost use Rattle.uncoarsen.specs.Refined.{tallies_with};
-ghost use Rattle.part_run.specs.Answers.{IsPlaced, IsPlaceRefusal};
-ghost use Rattle.part_run.specs.Made.{IsJob, IsMade};
+ghost use Rattle.uncoarsen.specs.Refined.{IsLegalBy, tallies_with};
+ghost use Rattle.vcycle.specs.Cycles.{rounds_of_cycles};
+ghost use Rattle.part_run.specs.declared.words.Mode.TheVariants.{Raced};
+ghost use Rattle.part_run.specs.Made.{IsJob, IsReached};
 
-use crate::{Outcome, Status};
+use crate::reached::Reached;
 use coarsen::coarsen;
 use crew::OpenGate;
-use hg_base::{Blocks, FlatHyper, GreedyEnd, NoMemory, cost_of, greedy, limit_of};
+use hg_base::{Blocks, NoMemory};
 use incidence::Hypergraph;
 use initial_place::PlaceEnd;
 use level_stack::LevelStack;
+use pin_plain::Partition;
 use refiner::Refiner;
-use round_log::{Job, TraceList};
+use round_log::{Job, Trace};
 use std::alloc::Global;
 use std::thread::Threads;
 use uncoarsen::{Start, descend, settle_best, uncoarsen};
-
-/// What a run made of a hypergraph.
-#[derive(Drop)]
-pub(crate) struct Made {
-    /// The hypergraph.
-    pub h: Hypergraph,
-    /// The cost of greedy placement.
-    pub greedy: u64,
-    /// The partition, and how the run came to it.
-    pub outcome: Outcome,
-}
-
-/// Greedy placement, which is refused where it passes the limit.
-fn place(alloc: Global, job: &Job, h: &FlatHyper, limit: u64) -> Result<Blocks, Status>
-    requires job { IsJob job.now }
-    requires fixed { IsFixedWithin h.now job.now.k }
-    requires limit { limit ≡ limit_of_job h.now job.now }
-    requires sound { IsHypergraph h.now }
-    requires bounds { IsWithinLimits h.now }
-    ensures answer { MatchResult result (IsPlaced job.now h.now) (IsPlaceRefusal job.now h.now) }
-{
-    match greedy(alloc, h, job.k, limit) {
-        Ok(blocks) => Ok(blocks),
-        Err(GreedyEnd::Overfills { vertex }) => Err(Status::Unplaced { vertex: vertex + 1 }),
-        Err(GreedyEnd::NoMemory) => Err(Status::NoMemory),
-    }
-}
+use vcycle::cycles;
 
 /// Where the descent begins. Greedy placement fits on the file, and it is one of those that are tried.
 fn begin<H: Threads + Sync>(
@@ -62,7 +39,7 @@ fn begin<H: Threads + Sync>(
     requires few { k ≤ 256 }
     requires sound { IsHypergraph stack.now.base }
     requires levels { ArePartable stack.now k }
-    requires placed { overfills stack.now.base k limit ≡ None }
+    requires placed { placement.overfills stack.now.base k limit ≡ None }
     ensures { IfOk result (λ s. IsStartAt stack.now k limit seed s.level s.blocks) }
 {
     match descend(rt, alloc, stack, k, limit, seed) {
@@ -72,35 +49,41 @@ fn begin<H: Threads + Sync>(
     }
 }
 
-/// Partitions a hypergraph: places it greedily, coarsens it, places its coarsest level, refines level by
-/// level with the refiners, takes greedy placement where that is cheaper, and sweeps.
-///
-/// Where it is refused for want of memory, the refiners may have been changed.
-pub(crate) fn run_levels<H: Threads + Sync>(
+/// The descent: coarsens, places the coarsest level, refines level by level with the refiners, takes
+/// greedy placement where that is cheaper, and sweeps.
+fn run_descent<H: Threads + Sync>(
     rt: &H,
     alloc: Global,
     job: &Job,
-    flat: FlatHyper,
+    limit: u64,
+    h: Hypergraph,
+    placed: Blocks,
     refiners: &mut [Box<dyn Refiner>],
-) -> Result<Made, Status>
+) -> Result<(Hypergraph, Partition, Trace), NoMemory>
     requires job { IsJob job.now }
-    requires fixed { IsFixedWithin flat job.now.k }
-    requires suits { Suits flat job.now.k }
+    requires ready { IsPlaceableFor h job.now }
+    requires suits { Suits h job.now.k }
+    requires limit { limit ≡ limit_of_job h job.now }
+    requires placed { placed ≡ placement.greedy h job.now.k }
     requires may_run { All (λ b. may_run b) refiners.old }
     requires kinds { AllPairs (λ a b. a ≢ b) (map (λ b. kind b) refiners.old) }
-    requires tallied { All (λ b. ((tally b).rounds < 2 ^ 61) × ((tally b).gain < 2 ^ 61)) refiners.old }
-    ensures answer { MatchResult result (IsMade (map (λ b. kind b) refiners.old) job.now flat)
-        (IsPlaceRefusal job.now flat) }
+    requires tallied { All (λ b. ((tally b).rounds < 2 ^ 59) × ((tally b).gain < 2 ^ 59)) refiners.old }
+    ensures hypergraph { IfOk result (λ r. r.0 ≡ h) }
+    ensures partition { IfOk result (λ r. r.1 ≡ record {
+      hyper = r.0;
+      k = job.now.k;
+      limit = limit;
+      blocks = r.1.blocks;
+    }) }
+    ensures legal { IfOk result (λ r. IsLegalBy (map (λ b. kind b) refiners.old) h job.now r.2 r.1.blocks) }
     ensures may_run { All (λ b. may_run b) refiners.new }
     ensures kinds { map (λ b. kind b) refiners.new ≡ map (λ b. kind b) refiners.old }
-    ensures tallies { IfOk result (λ made. map (λ b. tally b) refiners.new ≡ tallies_with made.outcome.trace.rounds
+    ensures tallies { IfOk result (λ r. map (λ b. tally b) refiners.new ≡ tallies_with r.2.rounds
         (map (λ b. kind b) refiners.old) (map (λ b. tally b) refiners.old)) }
+    ensures tallied { IfOk result (λ _. All (λ b. ((tally b).rounds < 2 ^ 60) × ((tally b).gain < 2 ^ 60))
+        refiners.new) }
 {
-    let _vertices = flat.vertices();
-    let limit = limit_of(flat.total_weight(), job.k, job.eps);
-    let placed = place(alloc, job, &flat, limit)?;
-    let greedy = cost_of(&flat, placed.slice(), job.k);
-    let h = Hypergraph::build(alloc, flat)?;
+    let _vertices = h.vertices();
     let (stack, stop) = coarsen(rt, alloc, h, job.k, job.workers, job.seed, &OpenGate)?;
     let start = begin(rt, alloc, &stack, job.k, limit, job.seed)?;
     let (last, mut trace) = uncoarsen(
@@ -116,15 +99,56 @@ pub(crate) fn run_levels<H: Threads + Sync>(
     )?;
     let h = stack.base();
     let best = settle_best(alloc, &h, last, placed, &mut trace)?;
-    let cost = best.cost(&h);
-    Ok(Made {
+    Ok((h, best, trace))
+}
+
+/// Runs the descent, and so many cycles after it.
+///
+/// Where there is no memory, the refiners may have been changed.
+pub(crate) fn run_levels<H: Threads + Sync>(
+    rt: &H,
+    alloc: Global,
+    job: &Job,
+    limit: u64,
+    count: u32,
+    h: Hypergraph,
+    placed: Blocks,
+    refiners: &mut [Box<dyn Refiner>],
+) -> Result<Reached, NoMemory>
+    requires job { IsJob job.now }
+    requires count { count ≤ 8 }
+    requires ready { IsPlaceableFor h job.now }
+    requires suits { Suits h job.now.k }
+    requires limit { limit ≡ limit_of_job h job.now }
+    requires placed { placed ≡ placement.greedy h job.now.k }
+    requires may_run { All (λ b. may_run b) refiners.old }
+    requires kinds { AllPairs (λ a b. a ≢ b) (map (λ b. kind b) refiners.old) }
+    requires tallied { All (λ b. ((tally b).rounds < 2 ^ 59) × ((tally b).gain < 2 ^ 59)) refiners.old }
+    ensures reached { IfOk result (IsReached (Raced count) (map (λ b. kind b) refiners.old) job.now h) }
+    ensures may_run { All (λ b. may_run b) refiners.new }
+    ensures kinds { map (λ b. kind b) refiners.new ≡ map (λ b. kind b) refiners.old }
+    ensures tallies { IfOk result (λ r. map (λ b. tally b) refiners.new ≡ tallies_with
+        (r.trace.rounds ++ rounds_of_cycles r.cycles) (map (λ b. kind b) refiners.old)
+        (map (λ b. tally b) refiners.old)) }
+{
+    let (base, reached, trace) = run_descent(rt, alloc, job, limit, h, placed, refiners)?;
+    let (h, best, cycles) = cycles(
+        rt,
+        alloc,
+        base,
+        reached,
+        job.k,
+        limit,
+        job.workers,
+        job.seed,
+        count,
+        &OpenGate,
+        refiners,
+    )?;
+    Ok(Reached {
         h,
-        greedy,
-        outcome: Outcome {
-            blocks: best.into_blocks(),
-            cost,
-            trace,
-            cycles: TraceList::new(alloc),
-        },
+        best,
+        trace,
+        cycles,
     })
 }

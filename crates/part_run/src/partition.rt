@@ -4,16 +4,15 @@ ghost use Rattle.std.specs.Prelude.{◌≡◌, ◌≢◌, ◌≤◌, ◌<◌, �
 ghost use Rattle.hg_defs.specs.Hypergraph.{IsFixedWithin, IsHypergraph, Suits, vertex_count};
 ghost use Rattle.round_log.specs.declared.record.Kind.{Kind};
 ghost use Rattle.part_text.specs.Part.{part_text};
-ghost use Rattle.uncoarsen.specs.Refined.{tallies_with};
 ghost use Rattle.part_run.specs.Reads.{feed_of, IsFixedBy, IsFixRefusal};
 ghost use Rattle.part_run.specs.Answers.{inputs_of, outputs_of, port_of, IsSent, IsCutOff};
 ghost use Rattle.part_run.specs.Answers.{IsAccepted, IsInputRefusal, job_for};
 ghost use Rattle.part_run.specs.Answers.{IsWritten, IsWriteRefusal, IsPartitioned};
-ghost use Rattle.part_run.specs.Answers.{IsPartitionRefused, report_for};
+ghost use Rattle.part_run.specs.Answers.{IsPartitionRefused, report_for, TalliesIn, SparesIn, rounds_in};
 ghost use Rattle.part_run.specs.Made.{IsJob, IsMade, IsReportable};
-ghost use Rattle.part_run.specs.Spelled.{partitioning_of};
+ghost use Rattle.part_run.specs.Spelled.{partitioning_of, HasFewCycles};
 
-use crate::multilevel::{Made, run_levels};
+use crate::making::{Made, run_in};
 use crate::reading::{read_fixes, read_graph};
 use crate::words::Partitioning;
 use crate::{Outcome, Status};
@@ -163,7 +162,8 @@ fn job_of(p: &Partitioning<'_>) -> Job
     }
 }
 
-/// Partitions: reads what the words name, makes a partition with the refiners, and writes it and its report.
+/// Partitions: reads what the words name, makes a partition in the mode that they ask for, and writes it
+/// and its report.
 pub(crate) fn partition<H: Threads + Sync, S: Source, X: Source, K: Sink, R: Sink>(
     rt: &H,
     alloc: Global,
@@ -174,9 +174,10 @@ pub(crate) fn partition<H: Threads + Sync, S: Source, X: Source, K: Sink, R: Sin
     report: &mut R,
     refiners: &mut [Box<dyn Refiner>],
 ) -> Result<Outcome, Status>
+    requires cycles { HasFewCycles p.now.mode }
     requires may_run { All (λ b. may_run b) refiners.old }
     requires kinds { AllPairs (λ a b. a ≢ b) (map (λ b. kind b) refiners.old) }
-    requires tallied { All (λ b. ((tally b).rounds < 2 ^ 61) × ((tally b).gain < 2 ^ 61)) refiners.old }
+    requires tallied { All (λ b. ((tally b).rounds < 2 ^ 59) × ((tally b).gain < 2 ^ 59)) refiners.old }
     ensures answer { let inputs = inputs_of (feed_of (S.left graph.old) (S.faults graph.old))
         (feed_of (X.left extra.old) (X.faults extra.old)) in
         let inputs_after = inputs_of (feed_of (S.left graph.new) (S.faults graph.new))
@@ -195,13 +196,14 @@ pub(crate) fn partition<H: Threads + Sync, S: Source, X: Source, K: Sink, R: Sin
     ensures report_later { R.faults report.old ≤ R.faults report.new }
     ensures may_run { All (λ b. may_run b) refiners.new }
     ensures kinds { map (λ b. kind b) refiners.new ≡ map (λ b. kind b) refiners.old }
-    ensures tallies { IfOk result (λ outcome. map (λ b. tally b) refiners.new ≡ tallies_with outcome.trace.rounds
-        (map (λ b. kind b) refiners.old) (map (λ b. tally b) refiners.old)) }
+    ensures tallies { IfOk result (λ outcome. TalliesIn p.now.mode (map (λ b. kind b) refiners.old)
+        (rounds_in outcome) (map (λ b. tally b) refiners.old) (map (λ b. tally b) refiners.new)) }
+    ensures spared { SparesIn p.now.mode (map (λ b. tally b) refiners.old) (map (λ b. tally b) refiners.new) }
 {
     let flat = accept(alloc, p, graph, extra)?;
     let _vertices = flat.vertices();
     let job = job_of(p);
-    let made = run_levels(rt, alloc, &job, flat, refiners)?;
+    let made = run_in(rt, alloc, p.mode, &job, flat, refiners)?;
     deliver(&job, &made, out, report)?;
     Ok(made.outcome)
 }

@@ -3,15 +3,16 @@
 ghost use Rattle.std.specs.Prelude.{◌≡◌, ◌≢◌, ◌≤◌, ◌<◌, ◌^◌, MatchResult, IfOk, All, AllPairs, map};
 ghost use Rattle.hg_defs.specs.Cost.{cost};
 ghost use Rattle.hg_defs.specs.LeastLoaded.{greedy};
-ghost use Rattle.uncoarsen.specs.Refined.{tallies_with};
 ghost use Rattle.round_log.specs.Trace.{limit_of as limit_of_job};
 ghost use Rattle.trace_text.specs.Summary.{summary_text};
 ghost use Rattle.part_run.specs.Answers.{outputs_of, port_of, IsSent, IsCutOff, IsSummedUp};
-ghost use Rattle.part_run.specs.Answers.{trial_job, IsTrialRefusal};
+ghost use Rattle.part_run.specs.Answers.{trial_job, IsTrialRefusal, TalliesIn, rounds_in};
+ghost use Rattle.part_run.specs.declared.words.Mode.TheVariants.{Raced};
 ghost use Rattle.part_run.specs.Made.{IsJob};
 
 use crate::balance::Trial;
-use crate::multilevel::{Made, run_levels};
+use crate::making::{Made, run_in};
+use crate::words::Mode;
 use crate::{Outcome, Status};
 use hg_base::limit_of;
 use hg_io::{Failed, Sink};
@@ -47,7 +48,7 @@ pub(crate) fn self_run<H: Threads + Sync, K: Sink, R: Sink>(
 ) -> Result<Outcome, Status>
     requires may_run { All (λ b. may_run b) refiners.old }
     requires kinds { AllPairs (λ a b. a ≢ b) (map (λ b. kind b) refiners.old) }
-    requires tallied { All (λ b. ((tally b).rounds < 2 ^ 61) × ((tally b).gain < 2 ^ 61)) refiners.old }
+    requires tallied { All (λ b. ((tally b).rounds < 2 ^ 59) × ((tally b).gain < 2 ^ 59)) refiners.old }
     ensures answer { let outputs = outputs_of (port_of (K.got out.old) (K.faults out.old) (K.held out.old))
         (port_of (R.got report.old) (R.faults report.old) (R.held report.old)) in
         let outputs_after = outputs_of (port_of (K.got out.new) (K.faults out.new) (K.held out.new))
@@ -59,8 +60,8 @@ pub(crate) fn self_run<H: Threads + Sync, K: Sink, R: Sink>(
     ensures report_later { R.faults report.old ≤ R.faults report.new }
     ensures may_run { All (λ b. may_run b) refiners.new }
     ensures kinds { map (λ b. kind b) refiners.new ≡ map (λ b. kind b) refiners.old }
-    ensures tallies { IfOk result (λ outcome. map (λ b. tally b) refiners.new ≡ tallies_with outcome.trace.rounds
-        (map (λ b. kind b) refiners.old) (map (λ b. tally b) refiners.old)) }
+    ensures tallies { IfOk result (λ outcome. TalliesIn (Raced 0) (map (λ b. kind b) refiners.old)
+        (rounds_in outcome) (map (λ b. tally b) refiners.old) (map (λ b. tally b) refiners.new)) }
 {
     let h = make(alloc, trial.vertices)?;
     if !h.suits(trial.k) {
@@ -70,7 +71,8 @@ pub(crate) fn self_run<H: Threads + Sync, K: Sink, R: Sink>(
         });
     }
     let job = job_of(trial);
-    let made = run_levels(rt, alloc, &job, h, refiners)?;
+    let mode = Mode::Raced { cycles: 0 };
+    let made = run_in(rt, alloc, mode, &job, h, refiners)?;
     match write_summary(report, &job, &made) {
         Ok(()) => Ok(made.outcome),
         Err(Failed) => Err(Status::WriteFault),

@@ -182,7 +182,8 @@ fn write_unplaced<K: Sink>(pen: &mut Pen, sink: &mut K, vertex: u32) -> Result<(
 
 /// The forms of the commands.
 const USAGE: &[u8] =
-    b"usage: hgpart partition GRAPH K EPS [seed=N] [workers=N] [out=NAME] [cost=km1|cut|soed] [fix=NAME]
+    b"usage: hgpart partition GRAPH K EPS [seed=N] [workers=N] [out=NAME] [cost=km1|cut|soed] [fix=NAME] \
+[mode=det] [cycles=N]
 usage: hgpart evaluate GRAPH PART K EPS [cost=km1|cut|soed]
 usage: hgpart generate N
 usage: hgpart selfrun N K

@@ -1,3 +1,4 @@
+use crate::words::{Command, Mode, parse};
 use crate::{Ended, Names, Status, names, put_status, run};
 use hg_io::{AnySink, AnySource, MemSink, MemSource, Place};
 use hmetis_read::{LineKind, What};
@@ -7,6 +8,9 @@ use std::alloc::{AllocError, Global};
 use std::test::Fail;
 use std::thread::Threads;
 use std::{env, fs, io, process};
+
+mod faults;
+mod modes;
 
 /// Seven vertices, four nets of weights 2, 3, 8 and 7.
 const FIRST: &[u8] = b"4 7 1\n2 1 2\n3 1 7 5 6\n8 5 6 4\n7 2 3 4\n";
@@ -107,6 +111,34 @@ fn partitions_and_evaluates(rt: HostRuntime) -> Result<(), Fail> {
             "",
             "",
             "vertices 0\nnets 0\nweight 0\nblocks 2\nlimit 0\nseed 1\nworkers 4\ngreedy 0\nlevels 1\nstart 0\nfirst 0\nchosen levels\ncost 0\nload 0 0\nload 1 0\n",
+        ),
+        (
+            "partition - 2 0 cycles=2",
+            b"0 0\n".as_slice(),
+            "",
+            "",
+            "vertices 0\nnets 0\nweight 0\nblocks 2\nlimit 0\nseed 1\nworkers 4\ngreedy 0\nlevels 1\nstart 0\nfirst 0\nchosen levels\ncycle 1 levels 1 before 0 after 0\ncycle 2 levels 1 before 0 after 0\ncost 0\nload 0 0\nload 1 0\n",
+        ),
+        (
+            "partition - 2 0 mode=det",
+            b"0 0\n".as_slice(),
+            "",
+            "",
+            "vertices 0\nnets 0\nweight 0\nblocks 2\nlimit 0\nseed 1\nworkers 4\ngreedy 0\nlevels 1\nstart 0\nfirst 0\nchosen levels\ncost 0\nload 0 0\nload 1 0\n",
+        ),
+        (
+            "partition g 4 0 cycles=1",
+            pair.as_slice(),
+            "",
+            "0\n1\n",
+            "vertices 2\nnets 1\nweight 2\nblocks 4\nlimit 1\nseed 1\nworkers 4\ngreedy 1\nlevels 1\nstart 0\nfirst 1\nchosen levels\ncycle 1 levels 1 before 1 after 1\ncost 1\nload 0 1\nload 1 1\nload 2 0\nload 3 0\n",
+        ),
+        (
+            "partition g 2 0 fix=f workers=1 seed=7 cost=soed mode=det",
+            FIRST,
+            "0\n0\n0\n1\n1\n1\n0\n",
+            "0\n0\n0\n1\n1\n1\n0\n",
+            "vertices 7\nnets 4\nweight 7\nblocks 2\nlimit 4\nseed 7\nworkers 1\nobjective soed\ngreedy 20\nlevels 1\nstart 0\nfirst 20\nchosen levels\ncost 20\nload 0 4\nload 1 3\n",
         ),
         (
             "partition g 2 0 fix=f workers=1 seed=7 cost=soed",
@@ -312,6 +344,8 @@ fn refused_runs_write_nothing(rt: HostRuntime) -> Result<(), Fail> {
         ("partition g 2 0 cost=km2", "", "", Status::Usage),
         ("partition g 2 0 cost=cut cost=cut", "", "", Status::Usage),
         ("partition g 2 0 fix=-", "", "", Status::Usage),
+        ("partition g 2 0 cycles=9", "", "", Status::Usage),
+        ("partition g 2 0 cycles=1 mode=det", "", "", Status::Usage),
         ("evaluate g - 2 0", "", "", Status::Usage),
         ("generate 0", "", "", Status::Usage),
         ("partition g 2 0", "", "", malformed(1, LineKind::NoHeader)),
@@ -464,6 +498,49 @@ fn failing_ends(rt: HostRuntime) -> Result<(), Fail> {
     Ok(())
 }
 
+/// The mode that the words choose, or none where they don't spell `partition`.
+fn mode_in(words: &[String]) -> Option<Mode> {
+    match parse(words) {
+        Some(Command::Partition(partitioning)) => Some(partitioning.mode),
+        _ => None,
+    }
+}
+
+#[test]
+fn modes_of_words(rt: HostRuntime) -> Result<(), Fail> {
+    let raced = |cycles| Some(Mode::Raced { cycles });
+    for (words, mode) in [
+        ("partition g 2 0", raced(0)),
+        ("partition g 2 0 mode=det", Some(Mode::Deterministic)),
+        (
+            "partition g 2 0 seed=2 mode=det workers=3",
+            Some(Mode::Deterministic),
+        ),
+        ("partition g 2 0 cycles=0", raced(0)),
+        ("partition g 2 0 cycles=8", raced(8)),
+        ("partition g 2 0 cycles=08 cost=cut", raced(8)),
+        ("partition g 2 0 cycles=9", None),
+        ("partition g 2 0 cycles=-1", None),
+        ("partition g 2 0 cycles=", None),
+        ("partition g 2 0 cycles", None),
+        ("partition g 2 0 cycles=18446744073709551616", None),
+        ("partition g 2 0 mode=", None),
+        ("partition g 2 0 mode=x", None),
+        ("partition g 2 0 mode=det1", None),
+        ("partition g 2 0 mode=det mode=det", None),
+        ("partition g 2 0 cycles=1 cycles=1", None),
+        ("partition g 2 0 mode=det cycles=0", None),
+        ("partition g 2 0 cycles=0 mode=det", None),
+        ("partition g 2 0 cycles=1 seed=1 mode=det", None),
+        ("evaluate g p 2 0 mode=det", None),
+        ("selfrun 4 2 cycles=1", None),
+    ] {
+        let words = words_of(rt.alloc(), words)?;
+        assert_eq!(rt; mode_in(words.as_slice()), mode);
+    }
+    Ok(())
+}
+
 /// Whether the place is the file of this name.
 fn is_file(place: &Place, name: &str) -> bool {
     match place {
@@ -568,7 +645,7 @@ fn texts_of_statuses(rt: HostRuntime) -> Result<(), Fail> {
         (
             Status::Usage,
             2,
-            "usage: hgpart partition GRAPH K EPS [seed=N] [workers=N] [out=NAME] [cost=km1|cut|soed] [fix=NAME]\nusage: hgpart evaluate GRAPH PART K EPS [cost=km1|cut|soed]\nusage: hgpart generate N\nusage: hgpart selfrun N K\n",
+            "usage: hgpart partition GRAPH K EPS [seed=N] [workers=N] [out=NAME] [cost=km1|cut|soed] [fix=NAME] [mode=det] [cycles=N]\nusage: hgpart evaluate GRAPH PART K EPS [cost=km1|cut|soed]\nusage: hgpart generate N\nusage: hgpart selfrun N K\n",
         ),
         (
             Status::Malformed {

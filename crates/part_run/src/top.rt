@@ -2,10 +2,10 @@
 
 ghost use Rattle.std.specs.Prelude.{◌≡◌, ◌≢◌, ◌≤◌, ◌<◌, ◌^◌, map, string_bytes, MatchResult, Ok, Err, None, Some};
 ghost use Rattle.std.specs.Prelude.{All, AllPairs, IfSome};
-ghost use Rattle.uncoarsen.specs.Refined.{tallies_with};
 ghost use Rattle.part_run.specs.Wanted.{wanted};
 ghost use Rattle.part_run.specs.Reads.{feed_of};
-ghost use Rattle.part_run.specs.Answers.{inputs_of, outputs_of, port_of, IsEnd, Spares};
+ghost use Rattle.part_run.specs.Answers.{inputs_of, outputs_of, port_of, IsEnd};
+ghost use Rattle.part_run.specs.Answers.{TalliesIn, Spares, mode_of, rounds_in};
 ghost use Rattle.part_run.specs.declared.status.Status.TheVariants.{Done};
 
 use crate::evaluate::evaluate;
@@ -61,7 +61,7 @@ fn without_outcome(answer: Result<(), Status>) -> Ended
 /// `partition`. `out` gets the partition, or the hypergraph of `generate`, and `report` the report, the
 /// evaluation or the summary. A run that is refused for another cause than a fault in writing has
 /// written nothing. `partition` and `selfrun` refine by the refiners, which are of different kinds and
-/// tally what they did; the other commands leave them alone.
+/// tally what they did, in each cycle too; the deterministic mode and the other commands leave them alone.
 pub fn run<H: Threads + Sync, S: Source, X: Source, K: Sink, R: Sink>(
     rt: &H,
     alloc: Global,
@@ -74,7 +74,7 @@ pub fn run<H: Threads + Sync, S: Source, X: Source, K: Sink, R: Sink>(
 ) -> Ended
     requires may_run { All (λ b. may_run b) refiners.old }
     requires kinds { AllPairs (λ a b. a ≢ b) (map (λ b. kind b) refiners.old) }
-    requires tallied { All (λ b. ((tally b).rounds < 2 ^ 61) × ((tally b).gain < 2 ^ 61)) refiners.old }
+    requires tallied { All (λ b. ((tally b).rounds < 2 ^ 59) × ((tally b).gain < 2 ^ 59)) refiners.old }
     ensures end { let inputs = inputs_of (feed_of (S.left graph.old) (S.faults graph.old))
         (feed_of (X.left extra.old) (X.faults extra.old)) in
         let inputs_after = inputs_of (feed_of (S.left graph.new) (S.faults graph.new))
@@ -91,8 +91,9 @@ pub fn run<H: Threads + Sync, S: Source, X: Source, K: Sink, R: Sink>(
     ensures report_later { R.faults report.old ≤ R.faults report.new }
     ensures may_run { All (λ b. may_run b) refiners.new }
     ensures kinds { map (λ b. kind b) refiners.new ≡ map (λ b. kind b) refiners.old }
-    ensures tallies { IfSome result.outcome (λ outcome. map (λ b. tally b) refiners.new ≡ tallies_with
-        outcome.trace.rounds (map (λ b. kind b) refiners.old) (map (λ b. tally b) refiners.old)) }
+    ensures tallies { IfSome result.outcome (λ outcome. TalliesIn (mode_of (wanted (map string_bytes words.now)))
+        (map (λ b. kind b) refiners.old) (rounds_in outcome) (map (λ b. tally b) refiners.old)
+        (map (λ b. tally b) refiners.new)) }
     ensures spared { Spares (wanted (map string_bytes words.now)) (map (λ b. tally b) refiners.old)
         (map (λ b. tally b) refiners.new) }
 {

@@ -3,9 +3,11 @@
 ghost use Rattle.std.specs.Prelude.{◌≡◌, ◌≤◌, ◌^◌, option_map, option_copied, map};
 ghost use Rattle.std.specs.Prelude.{string_bytes, None, Some, IfSome, ◌<◌};
 ghost use Rattle.part_run.specs.Wanted.{number_within, fraction_of, imbalance, file_name, plain_name, objective_of};
+ghost use Rattle.part_run.specs.Wanted.{named_mode, raced_mode};
 ghost use Rattle.part_run.specs.Wanted.{if_unset, with_word, with_words, no_settings, chosen_objective};
 ghost use Rattle.part_run.specs.Wanted.{partition_words, evaluate_words, generate_words, selfrun_words, wanted};
-ghost use Rattle.part_run.specs.Spelled.{settings_of, partitioning_of, evaluation_of, command_of, IsWithinBounds};
+ghost use Rattle.part_run.specs.Spelled.{settings_of, partitioning_of, evaluation_of, command_of};
+ghost use Rattle.part_run.specs.Spelled.{HasFewCycles, IsWithinBounds};
 
 use crate::balance::{Balance, Trial, Workers};
 use hg_defs::Objective;
@@ -90,7 +92,35 @@ fn imbalance(word: &str) -> Option<u32>
     (value <= 100_000).then_some(value)
 }
 
-/// What the words behind the imbalance set.
+/// How a partition is made.
+#[derive(Clone, Copy, Debug, PartialEq, Eq)]
+pub(crate) enum Mode {
+    /// By refiners that race, and so many cycles after the first descent.
+    Raced { cycles: u32 },
+    /// By synchronous rounds, whose result names no number of workers.
+    Deterministic,
+}
+
+/// The mode that has a name.
+fn named_mode(word: &str) -> Option<Mode>
+    ensures { result ≡ named_mode word.now }
+{
+    if word == "det" {
+        Some(Mode::Deterministic)
+    } else {
+        None
+    }
+}
+
+/// The mode in which so many cycles follow the first descent.
+fn raced_mode(word: &str) -> Option<Mode>
+    ensures { result ≡ raced_mode word.now }
+{
+    let cycles = small_within(0, 8, word)?;
+    Some(Mode::Raced { cycles })
+}
+
+/// What the words behind the imbalance set. Two keys set the mode.
 #[derive(Clone, Copy)]
 struct Settings<'a> {
     seed: Option<u64>,
@@ -98,6 +128,7 @@ struct Settings<'a> {
     out: Option<&'a str>,
     cost: Option<Objective>,
     fix: Option<&'a str>,
+    mode: Option<Mode>,
 }
 
 /// The new value of a setting that has no value yet.
@@ -110,44 +141,29 @@ fn if_unset<T: Copy>(old: Option<T>, new: Option<T>) -> Option<T>
     }
 }
 
-/// The settings with that of one more word, `key=value`, where the key isn't set yet.
-fn with_word<'a>(settings: Settings<'a>, word: &'a str) -> Option<Settings<'a>>
+/// The settings with that of one more word, `key=value`, where what the key sets isn't set yet.
+fn with_word<'a>(mut settings: Settings<'a>, word: &'a str) -> Option<Settings<'a>>
     ensures { option_map settings_of result ≡ with_word (settings_of settings.entry) word.now }
 {
     let (key, value) = word.split_once('=')?;
     if key == "seed" {
-        let seed = if_unset(settings.seed, number_within(0, u64::MAX, value))?;
-        Some(Settings {
-            seed: Some(seed),
-            ..settings
-        })
+        settings.seed = Some(if_unset(settings.seed, number_within(0, u64::MAX, value))?);
     } else if key == "workers" {
-        let workers = if_unset(settings.workers, small_within(1, 64, value))?;
-        Some(Settings {
-            workers: Some(workers),
-            ..settings
-        })
+        settings.workers = Some(if_unset(settings.workers, small_within(1, 64, value))?);
     } else if key == "out" {
-        let out = if_unset(settings.out, file_name(value))?;
-        Some(Settings {
-            out: Some(out),
-            ..settings
-        })
+        settings.out = Some(if_unset(settings.out, file_name(value))?);
     } else if key == "cost" {
-        let cost = if_unset(settings.cost, objective_of(value))?;
-        Some(Settings {
-            cost: Some(cost),
-            ..settings
-        })
+        settings.cost = Some(if_unset(settings.cost, objective_of(value))?);
     } else if key == "fix" {
-        let fix = if_unset(settings.fix, plain_name(value))?;
-        Some(Settings {
-            fix: Some(fix),
-            ..settings
-        })
+        settings.fix = Some(if_unset(settings.fix, plain_name(value))?);
+    } else if key == "mode" {
+        settings.mode = Some(if_unset(settings.mode, named_mode(value))?);
+    } else if key == "cycles" {
+        settings.mode = Some(if_unset(settings.mode, raced_mode(value))?);
     } else {
-        None
+        return None;
     }
+    Some(settings)
 }
 
 /// The settings of all words.
@@ -160,6 +176,7 @@ fn with_words(words: &[String]) -> Option<Settings<'_>>
         out: None,
         cost: None,
         fix: None,
+        mode: None,
     };
     for word in words {
         settings = with_word(settings, word.as_str())?;
@@ -195,6 +212,7 @@ pub(crate) struct Partitioning<'a> {
     pub out: Option<&'a str>,
     pub objective: Objective,
     pub fix: Option<&'a str>,
+    pub mode: Mode,
 }
 
 /// What `evaluate` asks for, with defaults filled in.
@@ -216,6 +234,7 @@ pub(crate) enum Command<'a> {
 }
 
 fn partition_words(words: &[String]) -> Option<Partitioning<'_>>
+    ensures bounds { IfSome result (λ p. HasFewCycles p.mode) }
     ensures value { option_map partitioning_of result ≡ partition_words (map string_bytes words.now) }
 {
     let [graph, k, eps, rest @ ..] = words else {
@@ -235,6 +254,7 @@ fn partition_words(words: &[String]) -> Option<Partitioning<'_>>
         out: settings.out,
         objective: settings.cost.unwrap_or(Objective::Connectivity),
         fix: settings.fix,
+        mode: settings.mode.unwrap_or(Mode::Raced { cycles: 0 }),
     })
 }
 

@@ -105,7 +105,7 @@ three_kinds_refine k l workers number h p rounds q = (three_to k l workers numbe
 module _ (refined other : Refined)
     (turned : (number : ℕ) (h : Hyper) (p : List ℕ) (rounds : List LoggedRound) (q : List ℕ) → refined number h p rounds q → other number h p rounds q)
   where
-    descent_by : (h : Hyper) (maps : List (List ℕ)) (i : ℕ) (p : List ℕ) (rounds : List LoggedRound) (q : List ℕ) → IsDescent refined h maps i p rounds q
+    pub descent_by : (h : Hyper) (maps : List (List ℕ)) (i : ℕ) (p : List ℕ) (rounds : List LoggedRound) (q : List ℕ) → IsDescent refined h maps i p rounds q
         → IsDescent other h maps i p rounds q
     descent_by h maps zero p rounds q d = turned 0 h p rounds q d
     descent_by h maps (suc i) p rounds q d =

@@ -1,7 +1,8 @@
 mod SettlingLemmas
 mod StartLemmas
-mod TallyLemmas
+pub mod TallyLemmas
 pub mod PassesLaws
 mod TurnLemmas
 mod DownLemmas
 pub mod LegalLaws
+pub mod EndLemmas

@@ -43,7 +43,7 @@ pub(crate) fn frame_of(alloc: Global, h: &Hypergraph, k: u32) -> Result<Frame, N
     Ok(frame)
 }
 
-/// A candidate of a number: the first ones are grown, the others bisected.
+/// A candidate of this number: the first one is grown, the others are bisected.
 pub(crate) fn candidate(
     alloc: Global,
     h: &Hypergraph,
@@ -52,7 +52,6 @@ pub(crate) fn candidate(
     limit: u64,
     seed: u64,
     number: u64,
-    grown: u64,
 ) -> Result<Blocks, NoMemory>
     requires part { frame.now.vertices ≡ vertex_count h.now }
     requires whole { frame.now.whole ≡ vertex_count h.now }
@@ -63,7 +62,7 @@ pub(crate) fn candidate(
 {
     let stream = number.wrapping_add(1).wrapping_mul(STREAMS);
     let mut search = frame.search_all(alloc, h, limit, Draws::start(seed, stream))?;
-    if number < grown {
+    if number == 0 {
         let start = frame.last_block(alloc)?;
         search.reset(h, &start);
         search.grow_all(h, limit)?;
@@ -90,7 +89,7 @@ pub(crate) fn labels_of(
     Ok(labels)
 }
 
-/// A candidate that perturbs a partition, by a stream of this number of a round.
+/// A candidate of this number, which perturbs a partition.
 pub(crate) fn thrown(
     alloc: Global,
     h: &Hypergraph,
@@ -99,7 +98,6 @@ pub(crate) fn thrown(
     start: &Labels,
     limit: u64,
     seed: u64,
-    round: u64,
     number: u64,
 ) -> Result<Blocks, NoMemory>
     requires part { frame.now.vertices ≡ vertex_count h.now }
@@ -108,9 +106,7 @@ pub(crate) fn thrown(
     requires rest { rest.now ≡ vertex_count h.now }
     requires start { start.now ≡ record { count = frame.now.vertices; bound = frame.now.blocks } }
 {
-    let stream = u64::MAX
-        .wrapping_sub(round.wrapping_mul(STREAMS))
-        .wrapping_sub(number);
+    let stream = u64::MAX.wrapping_sub(number);
     let mut search = frame.search_all(alloc, h, limit, Draws::start(seed, stream))?;
     search.reset(h, start);
     search.scatter(h);

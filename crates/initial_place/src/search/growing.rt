@@ -102,7 +102,7 @@ impl Search {
         Ok(None)
     }
 
-    /// Puts the vertices of a block whose gains have changed into the queue.
+    /// Puts the vertices of a block of which a gain has risen into the queue.
     fn offer_touched_of(&mut self, block: u32, from: u32) -> Result<(), NoMemory>
         requires { block < self.old.blocks }
         ensures { self.new ≡ self.old }

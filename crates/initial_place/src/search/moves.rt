@@ -14,7 +14,7 @@ use std::alloc::Global;
 use std::marker::Model;
 
 /// How many moves are made without a better partition until a pass ends.
-const PATIENCE: u32 = 150;
+const PATIENCE: u32 = 20;
 
 /// How many times two passes are made at most.
 const ROUNDS: u32 = 10;
@@ -185,7 +185,7 @@ impl Search {
         Ok(())
     }
 
-    /// Puts the moves whose gains have changed into the queue.
+    /// Puts the moves of the vertices of which a gain has risen into the queue.
     fn offer_touched(&mut self, slack: u64) -> Result<(), NoMemory>
         ensures { self.new ≡ self.old }
     {
@@ -200,7 +200,7 @@ impl Search {
         Ok(())
     }
 
-    /// Takes a vertex whose gains have changed.
+    /// Takes a vertex of which a gain has risen.
     pub(crate) fn take_touched(&mut self) -> Option<u32>
         ensures same { self.new ≡ self.old }
         ensures vertex { IfSome result (λ v. v < self.old.vertices) }

@@ -237,7 +237,7 @@ impl Tables {
         }
     }
 
-    /// Takes a vertex whose gains have changed.
+    /// Takes a vertex of which a gain has risen.
     pub(crate) fn take_touched(&mut self) -> Option<u32>
         ensures same { self.new ≡ self.old }
         ensures vertex { IfSome result (λ v. v < self.old.vertices) }
@@ -410,7 +410,7 @@ impl Tables {
     {
         let pull = self.pulls.get(u, block).wrapping_add(weight);
         self.pulls.set(u, block, pull);
-        self.touched.add(u);
+        self.touch(u, weight);
     }
 
     /// Adds to what a vertex gains by leaving the nets in which it is alone.
@@ -420,7 +420,18 @@ impl Tables {
     {
         let alone = self.alone.get(u).wrapping_add(weight);
         self.alone.set(u, alone);
-        self.touched.add(u);
+        self.touch(u, weight);
+    }
+
+    /// Notes a vertex where a gain of it has changed by this weight and so risen. One that fell is seen
+    /// when its offer comes.
+    fn touch(&mut self, u: u32, weight: i64)
+        requires { u < self.old.vertices }
+        ensures { self.new ≡ self.old }
+    {
+        if weight > 0 {
+            self.touched.add(u);
+        }
     }
 
     /// Tells the pin of a block beside `v`, if there is one, that it is alone there, or no longer.

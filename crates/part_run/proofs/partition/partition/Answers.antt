@@ -6,6 +6,7 @@ use Rattle.part_text.specs.Part.{part_text}
 use Rattle.part_run.specs.declared.status.Status.{Status}
 use Rattle.part_run.specs.Answers.{IsPlaceRefusal, IsWritten, IsWriteRefusal, outputs_of, port_of, report_for}
 use Rattle.part_run.specs.Spelled.{partitioning_of}
+use Rattle.part_run.proofs.ModeLemmas.{spares_same}
 use Rattle.part_run.proofs.Reportable.{reportable as made_reportable, outcome_over}
 use Rattle.part_run.proofs.partition.partition.Goals as goal
 
@@ -22,12 +23,12 @@ returns-in_err-flat-clause-answer g c =
       unwritten = refl;
     }))
 
-pub run_levels-requires-clause-fixed : goal.run_levels-requires-clause-fixed
-run_levels-requires-clause-fixed g c κs within =
+pub run_in-requires-clause-fixed : goal.run_in-requires-clause-fixed
+run_in-requires-clause-fixed g c κs within =
     subst (λ (j : Job). IsFixedWithin c.in_ok-flat.flat j.k) (sym c.job_of-job.ensures.value) c.in_ok-flat.ensures.within
 
-pub run_levels-requires-clause-suits : goal.run_levels-requires-clause-suits
-run_levels-requires-clause-suits g c κs within =
+pub run_in-requires-clause-suits : goal.run_in-requires-clause-suits
+run_in-requires-clause-suits g c κs within =
     subst (λ (j : Job). Suits c.in_ok-flat.flat j.k) (sym c.job_of-job.ensures.value) c.in_ok-flat.ensures.suits
 
 pub returns-in_err-made-clause-answer : goal.returns-in_err-made-clause-answer
@@ -43,7 +44,9 @@ returns-in_err-made-clause-answer g c =
 
 pub deliver-requires : goal.deliver-requires
 deliver-requires g c = record {
-  reportable = made_reportable _ c.job_of-job.result c.in_ok-flat.flat c.in_ok-made.made c.job_of-job.ensures.bounds c.in_ok-made.ensures.answer;
+  reportable =
+      made_reportable c.args.p.now.mode _ c.job_of-job.result c.in_ok-flat.flat c.in_ok-made.made c.job_of-job.ensures.bounds
+      c.in_ok-made.ensures.answer;
 }
 
 pub returns-in_err-deliver-clause-answer : goal.returns-in_err-deliver-clause-answer
@@ -83,3 +86,6 @@ returns-clause-answer g c =
           (subst (λ (h : Hyper). IsWritten old new (part_text made.outcome.blocks) (report_for c.job_of-job.result h made.outcome))
           c.in_ok-made.ensures.answer.hypergraph c.in_ok-deliver.ensures.answer);
     }
+
+pub returns-in_err-flat-clause-spared : goal.returns-in_err-flat-clause-spared
+returns-in_err-flat-clause-spared g c = spares_same c.args.p.now.mode _

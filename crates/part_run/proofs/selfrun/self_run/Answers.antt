@@ -18,12 +18,12 @@ passed_on : {T : Type 0} (P : T → Type 0) (Q : Status → Type 0) (r : Result 
 passed_on P Q (Ok x) s h q = absurd h
 passed_on P Q (Err x) s h q = subst Q (sym h) q
 
-pub run_levels-requires-clause-fixed : goal.run_levels-requires-clause-fixed
-run_levels-requires-clause-fixed g c κs within =
+pub run_in-requires-clause-fixed : goal.run_in-requires-clause-fixed
+run_in-requires-clause-fixed g c κs within =
     made_unfixed c.args.trial.vertices c.job_of-job.result.k c.in_ok-h.h c.in_ok-h.ensures
 
-pub run_levels-requires-clause-suits : goal.run_levels-requires-clause-suits
-run_levels-requires-clause-suits g c κs within =
+pub run_in-requires-clause-suits : goal.run_in-requires-clause-suits
+run_in-requires-clause-suits g c κs within =
     subst (λ (j : Job). Suits c.in_ok-h.h j.k) (sym c.job_of-job.ensures.value) (c.suits.ensures.0 c.if-not-suits.false)
 
 pub returns-in_err-made-clause-answer : goal.returns-in_err-made-clause-answer

@@ -1,7 +1,6 @@
 use Rattle.std.proofs.Common.{◌<◌, ◌≤◌, ◌+◌, ◌∙◌, refl, sym, ap, subst, arith}
 use Rattle.pin_plain.specs.Parted.{Parted}
 use Rattle.round_log.specs.Passes.{block_pairs}
-use Rattle.flow_pair.specs.CutNets.{HoldsCut}
 use Rattle.flow_pair.specs.Turns.{TakesTurns}
 use Rattle.flow_pair.proofs.TurnLaws.{pairs_from, rows_from, rows_first, rows_last, rows_open, row_next, row_last, turns_none, turns_same, turns_more}
 use Rattle.flow_pair.proofs.pass.Course.take_turns.Goals as goal
@@ -17,16 +16,6 @@ loop-a-init c =
       low = omega arith;
     }
 
-pub nets_at-requires-clause-block : goal.nets_at-requires-clause-block
-nets_at-requires-clause-block c =
-    let same = ap (λ (x : Parted). x.k) c.loop-a.invariant.turns.same in
-    let k = c.k-k.ensures in
-    let test = c.loop-a-test.true in
-    omega arith
-
-pub nets_at-requires-clause-cut : goal.nets_at-requires-clause-cut
-nets_at-requires-clause-cut c = subst (HoldsCut c.args.h.now c.loop-a.self.part.blocks) (sym c.as_slice.ensures.value) c.loop-a.invariant.course.cut_is
-
 pub loop-b-init : goal.loop-b-init
 loop-b-init c =
     let s = c.args.self.now in
@@ -39,7 +28,6 @@ loop-b-init c =
       turns = turns_same c.args.h.now s.level (block_pairs k) (rows_from k c.loop-a.a) (pairs_from k c.loop-a.a (c.loop-a.a + 1)) s.part now.part
           s.rounds.items now.rounds.items (rows_open k c.loop-a.a low) c.loop-a.invariant.turns;
       low = c.loop-a.invariant.low;
-      row_is = c.in_ok-row.ensures;
     }
 
 pub take_turn-requires-clause-second : goal.take_turn-requires-clause-second
@@ -69,7 +57,6 @@ loop-b-preserved c =
       turns = turns_more h s.level (block_pairs k) (pairs_from k a b) (pairs_from k a (b + 1)) s.part now.part next.part s.rounds.items now.rounds.items
           next.rounds.items c.loop-b.invariant.turns turn;
       low = let less = c.in_ok-take_turn.ensures.no_dearer in let was = c.loop-b.invariant.low in omega arith;
-      row_is = c.in_ok-take_turn.ensures.row;
     }
 
 pub loop-a-preserved : goal.loop-a-preserved

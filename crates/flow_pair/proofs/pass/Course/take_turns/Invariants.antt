@@ -1,7 +1,6 @@
 use Rattle.std.proofs.Common.{◌≡◌, ◌≤◌}
 use Rattle.round_log.specs.Passes.{block_pairs}
 use Rattle.flow_pair.specs.Courses.{IsOnCourse}
-use Rattle.flow_pair.specs.CutNets.{HoldsCutOf}
 use Rattle.flow_pair.specs.Turns.{TakesTurns}
 use Rattle.flow_pair.proofs.TurnLaws.{pairs_from, rows_from}
 use Rattle.flow_pair.proofs.pass.Course.take_turns.Given as goal
@@ -22,5 +21,4 @@ invariant-loop-b l = record {
   turns : TakesTurns l.h l.fn.self.level (block_pairs l.fn.self.part.k) (pairs_from l.fn.self.part.k l.a l.b) l.fn.self.part l.self.part
       l.fn.self.rounds.items l.self.rounds.items;
   low : l.self.cost ≤ l.fn.self.cost;
-  row_is : HoldsCutOf l.h l.self.part.blocks l.a l.row.items;
 }

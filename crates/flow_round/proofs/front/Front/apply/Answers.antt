@@ -1,18 +1,17 @@
 use Rattle.std.proofs.Common.{◌≡◌, ◌<◌, ◌+◌, ◌*◌, ◌∙◌, ◌++◌, List, ℕ, All, Option, Some, None, sym, ap, ap₂, subst, arith, slice_index_or}
-use Rattle.std.specs.List.{flat_map}
 use Rattle.std.specs.List.Sorted.{IsStrictlyIncreasing}
 use Rattle.hg_defs.specs.declared.moves.Move.{Move}
 use Rattle.hg_defs.specs.Hypergraph.{Hyper, IsHypergraph, vertex_count}
-use Rattle.hg_defs.specs.Incidence.{nets_of}
 use Rattle.hg_defs.specs.Partition.{IsPartition, Fits}
 use Rattle.hg_defs.specs.Replay.{replay}
 use Rattle.pin_plain.specs.Parted.{Parted}
 use Rattle.flow_pair.specs.declared.solve.PairEnd.{PairEnd}
-use Rattle.flow_pair.specs.CutNets.{HoldsCut}
+use Rattle.flow_pair.specs.CutNets.{AreCutLists}
 use Rattle.flow_pair.specs.PairEnds.{reassigned}
 use Rattle.flow_pair.proofs.ChangeLaws.{changes-within}
-use Rattle.flow_pair.proofs.CutNetLaws.{cut_after}
-use Rattle.flow_pair.proofs.EndLaws.{end_rises, end_vertices, end_blocks}
+use Rattle.flow_pair.proofs.PairLaws.{IsRearranged}
+use Rattle.flow_pair.proofs.CutNetLaws.{lists_after}
+use Rattle.flow_pair.proofs.EndLaws.{end_rises, end_vertices, end_blocks, end_rearranged}
 use Rattle.flow_round.specs.PairTurns.{IsTurn}
 use Rattle.flow_round.specs.Waves.{end_at}
 use Rattle.flow_round.proofs.front.Front.apply.Goals as goal
@@ -56,8 +55,8 @@ assign_region-requires-clause-blocks c =
     subst (All (λ b. b < p.k)) (sym c.slice-2.ensures)
     (end_blocks h p.k p.limit p.blocks c.args.a c.args.b c.in-Some.end end sound whole low c.requires.below.below)
 
-pub add_nets_of-requires : goal.add_nets_of-requires
-add_nets_of-requires c =
+pub add_nets_of-requires-clause-moves : goal.add_nets_of-requires-clause-moves
+add_nets_of-requires-clause-moves c =
     let h = c.args.h.now in
     let s = c.args.self.now in
     let p = s.part in
@@ -69,6 +68,19 @@ add_nets_of-requires c =
     let low = subst (All (λ v. v < vertex_count h)) (sym c.slice.ensures) (end_vertices h p.k p.limit p.blocks c.args.a c.args.b c.in-Some.end end sound) in
     subst (All (λ (m : Move). m.vertex < vertex_count h)) (sym (c.slice-3.ensures ∙ c.in_ok-moves.ensures.moves))
     (changes-within (λ v. v < vertex_count h) h p.blocks (reassigned p.blocks c.slice.result.now c.slice-2.result.now) c.slice.result.now low)
+
+pub add_nets_of-requires-clause-first : goal.add_nets_of-requires-clause-first
+add_nets_of-requires-clause-first c =
+    let count = c.requires.front.cut_is.count in
+    let order = c.requires.below.order in
+    let second = c.requires.below.below in
+    omega arith
+
+pub add_nets_of-requires-clause-second : goal.add_nets_of-requires-clause-second
+add_nets_of-requires-clause-second c =
+    let count = c.requires.front.cut_is.count in
+    let second = c.requires.below.below in
+    omega arith
 
 pub returns-clause-front : goal.returns-clause-front
 returns-clause-front c =
@@ -84,13 +96,19 @@ returns-clause-front c =
     ap (λ (x : Parted). x.blocks) c.in_ok-moves.ensures.partition ∙ sym c.in_ok-moves.ensures.replayed in
     let landed = c.in_ok-moves.ensures.partition
     ∙ ap₂ (λ xs bs. record p { blocks = reassigned p.blocks xs bs }) c.slice.ensures c.slice-2.ensures in
-    let cut = c.in_ok-add_nets_of.ensures
-    ∙ ap (λ (ms : List Move). s.cut.items ++ flat_map (λ (m : Move). nets_of h m.vertex) ms) c.slice-3.ensures in
+    let rearranged = end_rearranged h p.k p.limit p.blocks c.args.a c.args.b c.in-Some.end end in
+    let now : c.assign_region.new.p.blocks ≡ reassigned p.blocks c.in-Some.end.region c.in-Some.end.blocks = ap (λ (x : Parted). x.blocks) landed in
+    let replayed = subst (λ (ms : List Move). c.assign_region.new.p.blocks ≡ replay p.blocks ms) (sym c.slice-3.ensures) blocks in
+    let order = c.requires.below.order in
+    let second = c.requires.below.below in
     record {
       belongs = ap (λ (x : Parted). x.hyper) landed ∙ c.requires.front.belongs;
       fits = subst (λ (x : Parted). Fits h x.k x.limit x.blocks) (sym landed) end.fits;
-      cut_is = subst (λ q. HoldsCut h q c.add_nets_of.new.list.items) (sym blocks)
-          (subst (HoldsCut h (replay p.blocks moves)) (sym cut) (cut_after h p.blocks moves s.cut.items c.requires.front.cut_is));
+      cut_is = subst (λ (x : Parted). AreCutLists h x.k c.assign_region.new.p.blocks c.add_nets_of.new.self) (sym landed)
+          (subst (AreCutLists h p.k c.assign_region.new.p.blocks) (sym c.in_ok-add_nets_of.ensures)
+          (lists_after h p.k p.blocks c.assign_region.new.p.blocks c.args.a c.args.b c.slice-3.result.now s.cut c.requires.front.cut_is
+          (omega (arith, order, second)) second (omega (arith, order))
+          (subst (λ q. IsRearranged p.blocks q c.args.a c.args.b) (sym now) rearranged) replayed));
       solver_is = c.requires.front.solver_is;
       table_is = c.requires.front.table_is ∙ ap (λ (x : Parted). x.k * x.k) (sym landed);
     }

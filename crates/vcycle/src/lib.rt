@@ -1,0 +1,10 @@
+//! Cycles: a partition is coarsened inside its blocks, refined from the coarsest level down, and swept.
+#![tactic(auto)]
+
+mod cycling;
+pub mod laws;
+
+pub use cycling::{cycle, cycles};
+
+#[cfg(test)]
+mod tests;
