@@ -1,8 +1,12 @@
-use super::{NONE, agree, number_behind, run_over, tells};
+//! Runs in the deterministic mode, and with cycles.
+
+use super::runs::{agree, number_behind, tells};
+use super::{Case, NONE, Ran, run_over};
 use crate::Status;
 use hg_text::number;
 use std::alloc::Global;
 use std::test::Fail;
+use std::thread::Threads;
 
 /// A fix file for 300 vertices, of which the first two and the last are fixed.
 fn some_fixes(alloc: Global) -> Result<String, Fail> {
@@ -12,6 +16,89 @@ fn some_fixes(alloc: Global) -> Result<String, Fail> {
     }
     text.push_str("2\n")?;
     Ok(text)
+}
+
+/// What a run makes of a graph and fixes.
+fn made_of<H: Threads + Sync>(
+    rt: &H,
+    alloc: Global,
+    words: &str,
+    graph: &[u8],
+    extra: &[u8],
+) -> Result<Ran, Fail> {
+    let case = Case {
+        words,
+        graph,
+        extra,
+        out: b"",
+        report: b"",
+    };
+    run_over(rt, alloc, &case, NONE)
+}
+
+/// Words of two runs that differ in workers, those that evaluate what they write, and the blocks that it begins with.
+#[derive(Clone, Copy)]
+struct Twice<'a> {
+    one: &'a str,
+    eight: &'a str,
+    evaluation: &'a str,
+    head: &'a [u8],
+}
+
+const TWICE: &[Twice<'static>] = &[
+    Twice {
+        one: "partition g 4 0.03 mode=det workers=1",
+        eight: "partition g 4 0.03 mode=det workers=8",
+        evaluation: "evaluate g p 4 0.03",
+        head: b"",
+    },
+    Twice {
+        one: "partition g 4 0.03 mode=det cost=cut workers=1",
+        eight: "partition g 4 0.03 workers=8 cost=cut mode=det",
+        evaluation: "evaluate g p 4 0.03 cost=cut",
+        head: b"",
+    },
+    Twice {
+        one: "partition g 4 0.03 fix=f mode=det cost=soed workers=1",
+        eight: "partition g 4 0.03 fix=f mode=det cost=soed workers=8",
+        evaluation: "evaluate g p 4 0.03 cost=soed",
+        head: b"0\n3\n",
+    },
+];
+
+/// Whether both runs write the same, and that is a partition that fits, at the cost that is reported.
+fn is_same<H: Threads + Sync>(
+    rt: &H,
+    alloc: Global,
+    graph: &[u8],
+    fixes: &[u8],
+    twice: &Twice<'_>,
+) -> Result<bool, Fail> {
+    let made = made_of(rt, alloc, twice.one, graph, fixes)?;
+    let again = made_of(rt, alloc, twice.eight, graph, fixes)?;
+    let told = made_of(rt, alloc, twice.evaluation, graph, made.out.as_slice())?;
+    Ok(
+        made.ended.status == Status::Done
+            && again.ended.status == Status::Done
+            && made.out.as_slice().starts_with(twice.head)
+            && again.out.as_slice() == made.out.as_slice()
+            && tells(told.report.as_slice(), "fits ", "yes")
+            && agree(made.report.as_slice(), told.report.as_slice(), "cost "),
+    )
+}
+
+#[test]
+fn workers_change_nothing_that_is_written(rt: HostRuntime) -> Result<(), Fail> {
+    let graph = made_of(&rt, rt.alloc(), "generate 300", b"", b"")?.out;
+    let fixes = some_fixes(rt.alloc())?;
+    for twice in TWICE {
+        assert!(rt;
+            is_same(&rt, rt.alloc(), graph.as_slice(), fixes.as_bytes(), twice)?,
+            "{}",
+            twice.one
+        );
+    }
+    Ok(())
 }
 
 /// The costs before and after a cycle, behind the label of its line.
@@ -26,79 +113,52 @@ fn costs_of_cycle(report: &[u8], label: &str) -> Option<(u64, u64)> {
     Some((before, after))
 }
 
-#[test]
-fn workers_change_nothing_that_is_written(rt: HostRuntime) -> Result<(), Fail> {
-    let alloc = rt.alloc();
-    let graph = run_over(&rt, alloc, "generate 300", b"", b"", NONE)?.out;
-    let fixes = some_fixes(alloc)?;
-    for (one, eight, evaluation, head) in [
-        (
-            "partition g 4 0.03 mode=det workers=1",
-            "partition g 4 0.03 mode=det workers=8",
-            "evaluate g p 4 0.03",
-            b"".as_slice(),
-        ),
-        (
-            "partition g 4 0.03 mode=det cost=cut workers=1",
-            "partition g 4 0.03 workers=8 cost=cut mode=det",
-            "evaluate g p 4 0.03 cost=cut",
-            b"".as_slice(),
-        ),
-        (
-            "partition g 4 0.03 fix=f mode=det cost=soed workers=1",
-            "partition g 4 0.03 fix=f mode=det cost=soed workers=8",
-            "evaluate g p 4 0.03 cost=soed",
-            b"0\n3\n".as_slice(),
-        ),
-    ] {
-        let made = run_over(&rt, alloc, one, graph.as_slice(), fixes.as_bytes(), NONE)?;
-        assert_eq!(rt; made.ended.status, Status::Done, "{one}");
-        assert!(rt; made.out.as_slice().starts_with(head), "{one}");
-        let again = run_over(&rt, alloc, eight, graph.as_slice(), fixes.as_bytes(), NONE)?;
-        assert_eq!(rt; again.ended.status, Status::Done, "{eight}");
-        assert_eq!(rt; again.out.as_slice(), made.out.as_slice(), "{one}");
-        let told = run_over(
-            &rt,
-            alloc,
-            evaluation,
-            graph.as_slice(),
-            made.out.as_slice(),
-            NONE,
-        )?;
-        assert!(rt; tells(told.report.as_slice(), "fits ", "yes"), "{one}");
-        assert!(rt;
-            agree(made.report.as_slice(), told.report.as_slice(), "cost "),
-            "{one}"
-        );
-    }
-    Ok(())
+/// Whether a run with two cycles tells both, none raises the cost, and the second begins where the first ended and
+/// ends at the cost of the run.
+fn cycles_fall<H: Threads + Sync>(
+    rt: &H,
+    alloc: Global,
+    graph: &[u8],
+    fixes: &[u8],
+    words: &str,
+) -> Result<bool, Fail> {
+    let made = made_of(rt, alloc, words, graph, fixes)?;
+    let Some(outcome) = &made.ended.outcome else {
+        return Ok(false);
+    };
+    let report = made.report.as_slice();
+    let Some((first, between)) = costs_of_cycle(report, "cycle 1 levels ") else {
+        return Ok(false);
+    };
+    let Some((again, last)) = costs_of_cycle(report, "cycle 2 levels ") else {
+        return Ok(false);
+    };
+    Ok(
+        made.ended.status == Status::Done
+            && outcome.cycles.len() == 2
+            && between <= first
+            && again == between
+            && last <= again
+            && last == outcome.cost,
+    )
 }
+
+const CYCLED: &[&str] = &[
+    "partition g 4 0.03 cycles=2",
+    "partition g 4 0.03 cost=cut cycles=2",
+    "partition g 4 0.03 cost=soed fix=f cycles=2",
+];
 
 #[test]
 fn cycles_raise_no_cost(rt: HostRuntime) -> Result<(), Fail> {
-    let alloc = rt.alloc();
-    let graph = run_over(&rt, alloc, "generate 300", b"", b"", NONE)?.out;
-    let fixes = some_fixes(alloc)?;
-    for words in [
-        "partition g 4 0.03 cycles=2",
-        "partition g 4 0.03 cost=cut cycles=2",
-        "partition g 4 0.03 cost=soed fix=f cycles=2",
-    ] {
-        let made = run_over(&rt, alloc, words, graph.as_slice(), fixes.as_bytes(), NONE)?;
-        assert_eq!(rt; made.ended.status, Status::Done, "{words}");
-        let Some(outcome) = &made.ended.outcome else {
-            return Err(Fail::from("no outcome"));
-        };
-        assert_eq!(rt; outcome.cycles.len(), 2, "{words}");
-        let report = made.report.as_slice();
-        let Some((first, between)) = costs_of_cycle(report, "cycle 1 levels ") else {
-            return Err(Fail::from("no first cycle"));
-        };
-        let Some((again, last)) = costs_of_cycle(report, "cycle 2 levels ") else {
-            return Err(Fail::from("no second cycle"));
-        };
-        assert!(rt; between <= first && last <= again, "{words}");
-        assert_eq!(rt; (again, last), (between, outcome.cost), "{words}");
+    let graph = made_of(&rt, rt.alloc(), "generate 300", b"", b"")?.out;
+    let fixes = some_fixes(rt.alloc())?;
+    for words in CYCLED {
+        assert!(rt;
+            cycles_fall(&rt, rt.alloc(), graph.as_slice(), fixes.as_bytes(), words)?,
+            "{}",
+            *words
+        );
     }
     Ok(())
 }
