@@ -18,7 +18,8 @@ pub(crate) fn put_fields<K: Sink>(
     sink: &mut K,
     fields: &[Field<'_>],
 ) -> Result<(), Failed>
-    ensures bytes { Writes (K.got sink.old) (K.got sink.new) pen.old pen.new result (fields_text (fields_of fields.now)) }
+    ensures bytes { Writes (K.got sink.old) (K.got sink.new) pen.old pen.new result (fields_text (fields_of
+        fields.now)) }
     ensures cause { HasCause (K.faults sink.old) (K.faults sink.new) result }
 {
     'fields: for field in fields {

@@ -57,14 +57,18 @@ fn evaluations(rt: HostRuntime) -> Result<(), Fail> {
             thirds,
             3,
             Objective::CutNet,
-            b"vertices 7\nnets 4\nweight 7\nblocks 3\nlimit 3\nobjective cut\ncost 20\nload 0 3\nload 1 2\nload 2 2\nfits yes\n".as_slice(),
+            b"vertices 7\nnets 4\nweight 7\nblocks 3\nlimit 3\n\
+objective cut\ncost 20\nload 0 3\nload 1 2\nload 2 2\nfits yes\n"
+                .as_slice(),
         ),
         (
             GRAPH.as_slice(),
             thirds,
             3,
             Objective::ExternalDegree,
-            b"vertices 7\nnets 4\nweight 7\nblocks 3\nlimit 3\nobjective soed\ncost 58\nload 0 3\nload 1 2\nload 2 2\nfits yes\n".as_slice(),
+            b"vertices 7\nnets 4\nweight 7\nblocks 3\nlimit 3\n\
+objective soed\ncost 58\nload 0 3\nload 1 2\nload 2 2\nfits yes\n"
+                .as_slice(),
         ),
         (
             b"1 2 1\n5\n".as_slice(),
@@ -114,7 +118,9 @@ fn summaries(rt: HostRuntime) -> Result<(), Fail> {
     put_summary(&mut sink, &h, 2, 2, cost_of(&h, blocks.slice(), 2))?;
     assert_eq!(rt;
         sink.got(),
-        b"vertices 4\nnets 4\nblocks 2\nlimit 2\ngreedy 4\nfits yes\nsettled yes\nabove greedy no\ngains exact yes\n".as_slice()
+        b"vertices 4\nnets 4\nblocks 2\nlimit 2\ngreedy 4\nfits yes\n\
+settled yes\nabove greedy no\ngains exact yes\n"
+            .as_slice()
     );
     Ok(())
 }
@@ -230,7 +236,8 @@ fn reports(rt: HostRuntime) -> Result<(), Fail> {
             2,
             none,
             none,
-            b"vertices 0\nnets 0\nweight 0\nblocks 2\nlimit 0\nseed 1\nworkers 4\ngreedy 0\nlevels 1\nstart 0\nfirst 0\n\
+            b"vertices 0\nnets 0\nweight 0\nblocks 2\nlimit 0\nseed 1\nworkers 4\ngreedy 0\nlevels 1\n\
+start 0\nfirst 0\n\
 chosen greedy\ncost 0\nload 0 0\nload 1 0\n"
                 .as_slice(),
         ),
@@ -240,7 +247,8 @@ chosen greedy\ncost 0\nload 0 0\nload 1 0\n"
             4,
             refined,
             swept,
-            b"vertices 2\nnets 1\nweight 2\nblocks 4\nlimit 1\nseed 1\nworkers 4\ngreedy 1\nlevels 1\nstart 0\nfirst 1\n\
+            b"vertices 2\nnets 1\nweight 2\nblocks 4\nlimit 1\nseed 1\nworkers 4\ngreedy 1\nlevels 1\n\
+start 0\nfirst 1\n\
 round 0 label moves 2 kept 1 before 9 made 8 after 6 gains 3 -2\n\
 round 0 search moves 2 kept 1 before 9 made 8 after 6 gains 3 -2\n\
 round 0 flow 0 1 region 0 value 1 before 9 after 6\n\

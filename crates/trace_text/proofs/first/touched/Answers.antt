@@ -1,5 +1,6 @@
 -- One pin more: its block is counted where it has no mark.
-use Rattle.std.proofs.Common.{◌≡◌, ℕ, ◌+◌, ◌<◌, Bool, true, false, not, if◌then◌else◌, List, [], ◌∷◌, ◌++◌, length, map, take, set, slice_index, slice_index_or, refl, sym, ap}
+use Rattle.std.proofs.Common.{◌≡◌, ℕ, ◌+◌, ◌<◌, Bool, true, false, not, if◌then◌else◌, List, []}
+use Rattle.std.proofs.Common.{◌∷◌, ◌++◌, length, map, take, set, slice_index, slice_index_or, refl, sym, ap}
 use Rattle.std.proofs.Common.{ap₂, ◌∙◌, subst, arith}
 use Rattle.std.proofs.lemmas.List.{map_more, get_or-replicate}
 use Rattle.hg_defs.specs.Hypergraph.{vertex_count, net_of}

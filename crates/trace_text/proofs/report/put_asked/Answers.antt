@@ -20,14 +20,18 @@ returns-in_err-put_sizes-clause-bytes g c =
     let h = c.args.h.now in
     let j = c.args.job.now in
     let bound = c.limit_of-limit.ensures.value ∙ ap (λ (w : ℕ). limit w j.k j.eps) c.total_weight.ensures in
-    exit c.from_residual.result c.from_residual.ensures.0 (cut (greedy_line (cost h (greedy h j.k))) (cut (objective_text h.objective) (cut (workers_line j.workers) (cut (seed_line j.seed) (spelt (ap (sizes_text h j.k) bound) c.in_err-put_sizes.ensures.bytes)))))
+    exit c.from_residual.result c.from_residual.ensures.0
+    (cut (greedy_line (cost h (greedy h j.k))) (cut (objective_text h.objective) (cut (workers_line j.workers) (cut (seed_line j.seed) (spelt (ap
+    (sizes_text h j.k) bound) c.in_err-put_sizes.ensures.bytes)))))
 
 pub returns-in_err-put_line-clause-bytes : goal.returns-in_err-put_line-clause-bytes
 returns-in_err-put_line-clause-bytes g c =
     let h = c.args.h.now in
     let j = c.args.job.now in
     let bound = c.limit_of-limit.ensures.value ∙ ap (λ (w : ℕ). limit w j.k j.eps) c.total_weight.ensures in
-    exit c.from_residual-in_err-put_line.result c.from_residual-in_err-put_line.ensures.0 (cut (greedy_line (cost h (greedy h j.k))) (cut (objective_text h.objective) (cut (workers_line j.workers) (wrote (spelt (ap (sizes_text h j.k) bound) c.in_ok-put_sizes.ensures.bytes)
+    exit c.from_residual-in_err-put_line.result c.from_residual-in_err-put_line.ensures.0
+    (cut (greedy_line (cost h (greedy h j.k))) (cut (objective_text h.objective) (cut (workers_line j.workers) (wrote (spelt (ap
+    (sizes_text h j.k) bound) c.in_ok-put_sizes.ensures.bytes)
     c.in_err-put_line.ensures.bytes))))
 
 pub returns-in_err-put_line-2-clause-bytes : goal.returns-in_err-put_line-2-clause-bytes
@@ -35,7 +39,9 @@ returns-in_err-put_line-2-clause-bytes g c =
     let h = c.args.h.now in
     let j = c.args.job.now in
     let bound = c.limit_of-limit.ensures.value ∙ ap (λ (w : ℕ). limit w j.k j.eps) c.total_weight.ensures in
-    exit c.from_residual-in_err-put_line-2.result c.from_residual-in_err-put_line-2.ensures.0 (cut (greedy_line (cost h (greedy h j.k))) (cut (objective_text h.objective) (wrote (wrote (spelt (ap (sizes_text h j.k) bound) c.in_ok-put_sizes.ensures.bytes)
+    exit c.from_residual-in_err-put_line-2.result c.from_residual-in_err-put_line-2.ensures.0
+    (cut (greedy_line (cost h (greedy h j.k))) (cut (objective_text h.objective) (wrote (wrote (spelt (ap
+    (sizes_text h j.k) bound) c.in_ok-put_sizes.ensures.bytes)
     c.in_ok-put_line.ensures.bytes)
     (spelt (ap workers_line c.from.ensures) c.in_err-put_line-2.ensures.bytes))))
 
@@ -44,7 +50,8 @@ returns-in_err-put_objective-clause-bytes g c =
     let h = c.args.h.now in
     let j = c.args.job.now in
     let bound = c.limit_of-limit.ensures.value ∙ ap (λ (w : ℕ). limit w j.k j.eps) c.total_weight.ensures in
-    exit c.from_residual-in_err-put_objective.result c.from_residual-in_err-put_objective.ensures.0 (cut (greedy_line (cost h (greedy h j.k))) (wrote (wrote (wrote (spelt (ap (sizes_text h j.k) bound) c.in_ok-put_sizes.ensures.bytes)
+    exit c.from_residual-in_err-put_objective.result c.from_residual-in_err-put_objective.ensures.0
+    (cut (greedy_line (cost h (greedy h j.k))) (wrote (wrote (wrote (spelt (ap (sizes_text h j.k) bound) c.in_ok-put_sizes.ensures.bytes)
     c.in_ok-put_line.ensures.bytes)
     (spelt (ap workers_line c.from.ensures) c.in_ok-put_line-2.ensures.bytes))
     (spelt (ap objective_text c.objective.ensures) c.in_err-put_objective.ensures.bytes)))

@@ -18,20 +18,26 @@ pub returns-in_err-put_line-clause-bytes : goal.returns-in_err-put_line-clause-b
 returns-in_err-put_line-clause-bytes g c =
     let h = c.args.h.now in
     let t = c.args.trace.now in
-    exit c.from_residual.result c.from_residual.ensures.0 (cut (swept_text t.rounds) (cut (chosen_text t.chosen) (cut (refined_text t.rounds) (cut (first_line (first_cost h t)) (cut (start_line t.start) (spelt (ap levels_line c.level_count.ensures) c.in_err-put_line.ensures.bytes))))))
+    exit c.from_residual.result c.from_residual.ensures.0
+    (cut (swept_text t.rounds) (cut (chosen_text t.chosen) (cut (refined_text t.rounds) (cut (first_line (first_cost h t)) (cut (start_line t.start)
+    (spelt (ap levels_line c.level_count.ensures) c.in_err-put_line.ensures.bytes))))))
 
 pub returns-in_err-put_line-2-clause-bytes : goal.returns-in_err-put_line-2-clause-bytes
 returns-in_err-put_line-2-clause-bytes g c =
     let h = c.args.h.now in
     let t = c.args.trace.now in
-    exit c.from_residual-in_err-put_line-2.result c.from_residual-in_err-put_line-2.ensures.0 (cut (swept_text t.rounds) (cut (chosen_text t.chosen) (cut (refined_text t.rounds) (cut (first_line (first_cost h t)) (wrote (spelt (ap levels_line c.level_count.ensures) c.in_ok-put_line.ensures.bytes)
+    exit c.from_residual-in_err-put_line-2.result c.from_residual-in_err-put_line-2.ensures.0
+    (cut (swept_text t.rounds) (cut (chosen_text t.chosen) (cut (refined_text t.rounds) (cut (first_line (first_cost h t)) (wrote (spelt
+    (ap levels_line c.level_count.ensures) c.in_ok-put_line.ensures.bytes)
     (spelt (ap start_line c.from.ensures) c.in_err-put_line-2.ensures.bytes))))))
 
 pub returns-in_err-put_line-3-clause-bytes : goal.returns-in_err-put_line-3-clause-bytes
 returns-in_err-put_line-3-clause-bytes g c =
     let h = c.args.h.now in
     let t = c.args.trace.now in
-    exit c.from_residual-in_err-put_line-3.result c.from_residual-in_err-put_line-3.ensures.0 (cut (swept_text t.rounds) (cut (chosen_text t.chosen) (cut (refined_text t.rounds) (wrote (wrote (spelt (ap levels_line c.level_count.ensures) c.in_ok-put_line.ensures.bytes)
+    exit c.from_residual-in_err-put_line-3.result c.from_residual-in_err-put_line-3.ensures.0
+    (cut (swept_text t.rounds) (cut (chosen_text t.chosen) (cut (refined_text t.rounds) (wrote (wrote (spelt
+    (ap levels_line c.level_count.ensures) c.in_ok-put_line.ensures.bytes)
     (spelt (ap start_line c.from.ensures) c.in_ok-put_line-2.ensures.bytes))
     (spelt (ap first_line c.first_cost.ensures) c.in_err-put_line-3.ensures.bytes)))))
 
@@ -39,7 +45,8 @@ pub returns-in_err-put_refined-clause-bytes : goal.returns-in_err-put_refined-cl
 returns-in_err-put_refined-clause-bytes g c =
     let h = c.args.h.now in
     let t = c.args.trace.now in
-    exit c.from_residual-in_err-put_refined.result c.from_residual-in_err-put_refined.ensures.0 (cut (swept_text t.rounds) (cut (chosen_text t.chosen) (wrote (wrote (wrote (spelt (ap levels_line c.level_count.ensures) c.in_ok-put_line.ensures.bytes)
+    exit c.from_residual-in_err-put_refined.result c.from_residual-in_err-put_refined.ensures.0
+    (cut (swept_text t.rounds) (cut (chosen_text t.chosen) (wrote (wrote (wrote (spelt (ap levels_line c.level_count.ensures) c.in_ok-put_line.ensures.bytes)
     (spelt (ap start_line c.from.ensures) c.in_ok-put_line-2.ensures.bytes))
     (spelt (ap first_line c.first_cost.ensures) c.in_ok-put_line-3.ensures.bytes))
     (spelt (ap refined_text c.slice.ensures) c.in_err-put_refined.ensures.bytes))))
@@ -48,7 +55,8 @@ pub returns-in_err-put_chosen-clause-bytes : goal.returns-in_err-put_chosen-clau
 returns-in_err-put_chosen-clause-bytes g c =
     let h = c.args.h.now in
     let t = c.args.trace.now in
-    exit c.from_residual-in_err-put_chosen.result c.from_residual-in_err-put_chosen.ensures.0 (cut (swept_text t.rounds) (wrote (wrote (wrote (wrote (spelt (ap levels_line c.level_count.ensures) c.in_ok-put_line.ensures.bytes)
+    exit c.from_residual-in_err-put_chosen.result c.from_residual-in_err-put_chosen.ensures.0
+    (cut (swept_text t.rounds) (wrote (wrote (wrote (wrote (spelt (ap levels_line c.level_count.ensures) c.in_ok-put_line.ensures.bytes)
     (spelt (ap start_line c.from.ensures) c.in_ok-put_line-2.ensures.bytes))
     (spelt (ap first_line c.first_cost.ensures) c.in_ok-put_line-3.ensures.bytes))
     (spelt (ap refined_text c.slice.ensures) c.in_ok-put_refined.ensures.bytes))

@@ -22,7 +22,9 @@ returns-in_err-put_asked-clause-bytes g c =
     let t = c.args.trace.now in
     let p = c.args.blocks.now in
     let same = c.flat-flat.ensures in
-    unfinished c.from_residual.result c.from_residual.ensures.0 c.new-pen.ensures (cut (loads_text (loads_of h j.k p)) (cut (cost_line (cost h p)) (cut (cycles_text h c.args.cycles.now) (cut (descent_text h t) (spelt (ap (λ (f : Hyper). asked_text f j) same) c.in_err-put_asked.ensures.bytes)))))
+    unfinished c.from_residual.result c.from_residual.ensures.0 c.new-pen.ensures
+    (cut (loads_text (loads_of h j.k p)) (cut (cost_line (cost h p)) (cut (cycles_text h c.args.cycles.now) (cut (descent_text h t) (spelt (ap (λ
+    (f : Hyper). asked_text f j) same) c.in_err-put_asked.ensures.bytes)))))
 
 pub returns-in_err-put_descent-clause-bytes : goal.returns-in_err-put_descent-clause-bytes
 returns-in_err-put_descent-clause-bytes g c =
@@ -31,7 +33,9 @@ returns-in_err-put_descent-clause-bytes g c =
     let t = c.args.trace.now in
     let p = c.args.blocks.now in
     let same = c.flat-flat.ensures in
-    unfinished c.from_residual-in_err-put_descent.result c.from_residual-in_err-put_descent.ensures.0 c.new-pen.ensures (cut (loads_text (loads_of h j.k p)) (cut (cost_line (cost h p)) (cut (cycles_text h c.args.cycles.now) (wrote (spelt (ap (λ (f : Hyper). asked_text f j) same) c.in_ok-put_asked.ensures.bytes)
+    unfinished c.from_residual-in_err-put_descent.result c.from_residual-in_err-put_descent.ensures.0 c.new-pen.ensures
+    (cut (loads_text (loads_of h j.k p)) (cut (cost_line (cost h p)) (cut (cycles_text h c.args.cycles.now) (wrote (spelt (ap (λ
+    (f : Hyper). asked_text f j) same) c.in_ok-put_asked.ensures.bytes)
     (spelt (ap (λ (f : Hyper). descent_text f t) same) c.in_err-put_descent.ensures.bytes)))))
 
 pub returns-in_err-put_cycles-clause-bytes : goal.returns-in_err-put_cycles-clause-bytes
@@ -41,7 +45,9 @@ returns-in_err-put_cycles-clause-bytes g c =
     let t = c.args.trace.now in
     let p = c.args.blocks.now in
     let same = c.flat-flat.ensures in
-    unfinished c.from_residual-in_err-put_cycles.result c.from_residual-in_err-put_cycles.ensures.0 c.new-pen.ensures (cut (loads_text (loads_of h j.k p)) (cut (cost_line (cost h p)) (wrote (wrote (spelt (ap (λ (f : Hyper). asked_text f j) same) c.in_ok-put_asked.ensures.bytes)
+    unfinished c.from_residual-in_err-put_cycles.result c.from_residual-in_err-put_cycles.ensures.0 c.new-pen.ensures
+    (cut (loads_text (loads_of h j.k p)) (cut (cost_line (cost h p)) (wrote (wrote (spelt (ap (λ
+    (f : Hyper). asked_text f j) same) c.in_ok-put_asked.ensures.bytes)
     (spelt (ap (λ (f : Hyper). descent_text f t) same) c.in_ok-put_descent.ensures.bytes))
     (spelt (ap₂ cycles_text same c.slice.ensures) c.in_err-put_cycles.ensures.bytes))))
 
@@ -52,7 +58,8 @@ returns-in_err-put_line-clause-bytes g c =
     let t = c.args.trace.now in
     let p = c.args.blocks.now in
     let same = c.flat-flat.ensures in
-    unfinished c.from_residual-in_err-put_line.result c.from_residual-in_err-put_line.ensures.0 c.new-pen.ensures (cut (loads_text (loads_of h j.k p)) (wrote (wrote (wrote (spelt (ap (λ (f : Hyper). asked_text f j) same) c.in_ok-put_asked.ensures.bytes)
+    unfinished c.from_residual-in_err-put_line.result c.from_residual-in_err-put_line.ensures.0 c.new-pen.ensures
+    (cut (loads_text (loads_of h j.k p)) (wrote (wrote (wrote (spelt (ap (λ (f : Hyper). asked_text f j) same) c.in_ok-put_asked.ensures.bytes)
     (spelt (ap (λ (f : Hyper). descent_text f t) same) c.in_ok-put_descent.ensures.bytes))
     (spelt (ap₂ cycles_text same c.slice.ensures) c.in_ok-put_cycles.ensures.bytes))
     (spelt (ap cost_line (c.cost_of.ensures.value ∙ ap (λ (f : Hyper). cost f p) same)) c.in_err-put_line.ensures.bytes)))
@@ -64,7 +71,8 @@ returns-in_err-put_loads-clause-bytes g c =
     let t = c.args.trace.now in
     let p = c.args.blocks.now in
     let same = c.flat-flat.ensures in
-    unfinished c.from_residual-in_err-put_loads.result c.from_residual-in_err-put_loads.ensures.0 c.new-pen.ensures (wrote (wrote (wrote (wrote (spelt (ap (λ (f : Hyper). asked_text f j) same) c.in_ok-put_asked.ensures.bytes)
+    unfinished c.from_residual-in_err-put_loads.result c.from_residual-in_err-put_loads.ensures.0 c.new-pen.ensures
+    (wrote (wrote (wrote (wrote (spelt (ap (λ (f : Hyper). asked_text f j) same) c.in_ok-put_asked.ensures.bytes)
     (spelt (ap (λ (f : Hyper). descent_text f t) same) c.in_ok-put_descent.ensures.bytes))
     (spelt (ap₂ cycles_text same c.slice.ensures) c.in_ok-put_cycles.ensures.bytes))
     (spelt (ap cost_line (c.cost_of.ensures.value ∙ ap (λ (f : Hyper). cost f p) same)) c.in_ok-put_line.ensures.bytes))

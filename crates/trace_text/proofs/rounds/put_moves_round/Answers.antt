@@ -8,7 +8,8 @@ use Rattle.trace_text.proofs.rounds.put_moves_round.Goals as goal
 
 abbrev head : ℕ → List ℕ → ℕ → ℕ → LoggedRound → List ℕ
 head level label moves kept r = fields_text (
-    (codes "round ", level) ∷ (label, moves) ∷ (codes " kept ", kept) ∷ (codes " before ", r.before) ∷ (codes " made ", r.made) ∷ (codes " after ", r.after) ∷ [])
+    (codes "round ", level) ∷ (label, moves) ∷ (codes " kept ", kept) ∷ (codes " before ", r.before) ∷
+    (codes " made ", r.made) ∷ (codes " after ", r.after) ∷ [])
 
 head-same : (level level' : ℕ) (label label' : List ℕ) (moves moves' kept kept' : ℕ) (r : LoggedRound) → level ≡ level' → label ≡ label' → moves ≡ moves' →
     kept ≡ kept' → head level label moves kept r ≡ head level' label' moves' kept' r
