@@ -62,6 +62,7 @@ fn without_outcome(answer: Result<(), Status>) -> Ended
 /// evaluation or the summary. A run that is refused for another cause than a fault in writing has
 /// written nothing. `partition` and `selfrun` refine by the refiners, which are of different kinds and
 /// tally what they did, in each cycle too; the deterministic mode and the other commands leave them alone.
+/// Where a run ends with want of memory or a fault in writing, the refiners may have tallied rounds of it.
 pub fn run<H: Threads + Sync, S: Source, X: Source, K: Sink, R: Sink>(
     rt: &H,
     alloc: Global,
