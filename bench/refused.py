@@ -32,6 +32,8 @@ RUNS = [
     ("selfrun 30 2", "", ""),
     ("partition graph 4 0.03 workers=1", None, ""),
     ("partition graph 4 0.03 workers=4", None, ""),
+    ("partition graph 4 0.03 mode=det workers=1", None, ""),
+    ("partition graph 4 0.03 cycles=2 workers=1", None, ""),
 ]
 
 
