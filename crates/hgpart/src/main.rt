@@ -4,6 +4,9 @@
 
 ghost use Rattle.std.specs.Prelude.{◌≡◌, ◌≢◌, ◌<◌, ◌^◌, All, AllPairs, map};
 
+#[cfg(test)]
+mod tests;
+
 use crew::OpenGate;
 use flow_round::FlowRound;
 use fm_search::FmSearch;
