@@ -110,10 +110,11 @@ fn joins_the_last_pair(rt: HostRuntime) -> Result<(), Fail> {
     Ok(())
 }
 
-/// Label propagation of settled partitions alone, which makes no round. It counts its calls.
+/// Label propagation of settled partitions alone, which makes no round. It writes down the last digits
+/// of the seeds that it is given, call after call.
 #[derive(Drop)]
 struct Rests {
-    calls: Arc<AtomicU64, Global>,
+    seeds: Arc<AtomicU64, Global>,
 }
 
 impl Refiner for Rests {
@@ -138,30 +139,34 @@ impl Refiner for Rests {
         &mut self,
         _alloc: Global,
         h: &Hypergraph,
-        _task: &Task,
+        task: &Task,
         p: Partition,
         _log: &mut Log,
     ) -> Result<Partition, NoMemory> {
-        self.calls.fetch_add(1, SeqCst);
+        let before = self.seeds.load(SeqCst);
+        self.seeds.store(before.wrapping_mul(10).wrapping_add(task.seed % 10), SeqCst);
         if p.settled(h) { Ok(p) } else { Err(NoMemory) }
     }
 }
 
 #[test]
-fn calls_the_box_on_both_levels(rt: HostRuntime) -> Result<(), Fail> {
+fn gives_each_cycle_a_seed_of_its_own(rt: HostRuntime) -> Result<(), Fail> {
+    // Three cycles call the refiner on two levels each.
     let alloc = rt.alloc();
-    let calls = Arc::new(alloc, AtomicU64::new(0))?;
+    let seeds = Arc::new(alloc, AtomicU64::new(0))?;
     let mut refiners: [Box<dyn Refiner>; 1] = [Box::new(
         alloc,
         Rests {
-            calls: Arc::try_clone(&calls)?,
+            seeds: Arc::try_clone(&seeds)?,
         },
     )?];
     let h = pairs(alloc)?;
     let p = parted(&rt, alloc, &h, 34, by_turns(alloc, 1, 1)?.as_slice())?;
-    let (_h, q, trace) = cycle(&rt, alloc, h, p, 2, 34, 2, 1, &OpenGate, &mut refiners)?;
-    assert_eq!(rt; calls.load(SeqCst), 2);
+    let (_h, q, traces) = cycles(&rt, alloc, h, p, 2, 34, 2, 6, 3, &OpenGate, &mut refiners)?;
+    assert_eq!(rt; seeds.load(SeqCst), 778899);
     assert_eq!(rt; q.blocks(), by_turns(alloc, 1, 1)?.as_slice());
-    assert_eq!(rt; (trace.start, trace.rounds.len()), (1, 0));
+    for trace in traces.slice() {
+        assert_eq!(rt; (trace.start, trace.rounds.len()), (1, 0));
+    }
     Ok(())
 }
