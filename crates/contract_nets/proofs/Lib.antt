@@ -1,3 +1,4 @@
+pub mod ImageLaws
 pub mod KeyLaws
 pub mod VertexLaws
 pub mod RoomLaws

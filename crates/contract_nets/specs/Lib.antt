@@ -2,3 +2,4 @@ pub mod Places
 pub mod Ledger
 pub mod Merging
 pub mod Keys
+pub mod Images

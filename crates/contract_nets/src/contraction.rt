@@ -63,7 +63,7 @@ fn merge(
 {
     let _vertices = h.vertices();
     let count = count_of(map);
-    let nets = map_nets(alloc, h, map, count)?;
+    let nets = map_nets(rt, alloc, h, map)?;
     let mut keys = keys_of(alloc, &nets)?;
     sort_keys(rt, &mut keys);
     let mut coarse = vertices_of(alloc, h, map, count)?;

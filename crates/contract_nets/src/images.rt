@@ -1,44 +1,198 @@
 //! The nets over the clusters: each has the set of its pins' clusters for pins.
 
-ghost use Rattle.std.specs.Prelude.{◌≡◌, ◌<◌, ◌≤◌, ◌^◌, map, length, All, slice_index, IfOk, OnOk};
-ghost use Rattle.hg_defs.specs.Hypergraph.{vertex_count};
-ghost use Rattle.contract_nets.specs.Merging.{mapped_net};
+ghost use Rattle.std.specs.Prelude.{◌≡◌, ℕ, ◌+◌, ◌*◌, ◌^◌, ◌<◌, ◌≤◌, map, length, All, slice_index, slice_index_or};
+ghost use Rattle.std.specs.Prelude.{IfOk, OnOk, vec_len};
+ghost use Rattle.std.specs.List.Sorted.{IsStrictlyIncreasing};
+ghost use Rattle.std.specs.Ordering.{nat_cmp};
+ghost use Rattle.hg_defs.specs.Sorting.{set_of};
+ghost use Rattle.hg_defs.specs.Hypergraph.{vertex_count, net_count, net_of};
+ghost use Rattle.hg_defs.specs.Clustering.{cluster_count};
+ghost use Rattle.contract_nets.specs.Images.{over, IsPart};
 
-use hg_base::{FlatHyper, NoMemory};
+use hg_base::NoMemory;
 use incidence::Hypergraph;
 use std::alloc::{AllocError, Global};
+use std::marker::Model;
+use std::snapshot::Snapshot;
+use std::thread::{Threads, map_indices};
 
-/// The nets over the clusters, in the order of the hypergraph's. Its vertices stand for the
-/// clusters, and their weights and fixes say nothing.
-pub(crate) fn map_nets(
+/// The nets are cut into so many parts at most.
+const MOST_PARTS: u32 = 8;
+
+/// A part has so many nets, but for the last one: to start a thread for it costs as much as a
+/// thousand nets.
+const LEAST_NETS: u32 = 4096;
+
+/// The images of some nets, one list after the other, and where each starts.
+#[derive(Debug, Drop)]
+pub(crate) struct Part {
+    starts: Vec<u32>,
+    pins: Vec<u32>,
+}
+
+impl Model for Part {
+    ghost use Rattle.contract_nets.specs.Images.{Lists};
+
+    ghost Value = { Lists };
+
+    ghost view = { λ part. record { starts = part.starts.items; pins = part.pins.items } };
+}
+
+/// The nets of a hypergraph over clusters, cut into parts of a size, which are made at the same
+/// time. Its vertices are the clusters; their weights and fixes say nothing.
+#[derive(Drop)]
+pub(crate) struct Images<'a> {
+    h: &'a Hypergraph,
+    clusters: Snapshot<&'a [u32]>,
+    parts: Vec<Part>,
+    size: u32,
+}
+
+impl<'a> Model for Images<'a> {
+    ghost use Rattle.std.specs.Prelude.{replicate};
+    ghost use Rattle.hg_defs.specs.Hypergraph.{Hyper};
+    ghost use Rattle.hg_defs.specs.Clustering.{cluster_count};
+    ghost use Rattle.contract_nets.specs.Images.{over, ArePartsOf};
+
+    ghost Value = { Hyper };
+
+    ghost view = { λ images. over images.h.now images.clusters.value.now };
+
+    ghost invariant = { λ images. ArePartsOf images.h.now images.clusters.value.now images.size images.parts.items };
+}
+
+impl Images<'_> {
+    /// How many nets there are.
+    pub(crate) fn nets(&self) -> u32
+        ensures count { result ≡ net_count self.now }
+        ensures few { vertex_count self.now ≤ 2 ^ 22 }
+    {
+        self.h.nets()
+    }
+
+    /// The clusters of a net.
+    pub(crate) fn pins(&self, e: u32) -> &[u32]
+        requires { e < net_count self.now }
+        ensures value { result.now ≡ (net_of self.now e).pins }
+        ensures rising { IsStrictlyIncreasing result.now }
+        ensures below { All (λ i. i < vertex_count self.now) result.now }
+    {
+        let _vertices = self.h.vertices();
+        let part = &self.parts[(e / self.size) as usize];
+        let at = (e % self.size) as usize;
+        &part.pins[part.starts[at] as usize..part.starts[at + 1] as usize]
+    }
+
+    /// The weight of a net.
+    pub(crate) fn net_weight(&self, e: u32) -> u64
+        requires { e < net_count self.now }
+        ensures value { result ≡ (net_of self.now e).weight }
+        ensures bound { result < 2 ^ 54 }
+    {
+        self.h.net_weight(e)
+    }
+}
+
+/// The images of all nets, made part by part by as many threads as there are parts.
+pub(crate) fn map_nets<'a, R: Threads + Sync>(
+    rt: &R,
+    alloc: Global,
+    h: &'a Hypergraph,
+    clusters: &'a [u32],
+) -> Result<Images<'a>, NoMemory>
+    requires vertices { length clusters.now ≡ vertex_count h.now }
+    requires few { cluster_count clusters.now ≤ 2 ^ 22 }
+    ensures { IfOk result (λ images. images ≡ over h.now clusters.now) }
+{
+    let size = h.nets().div_ceil(MOST_PARTS).max(LEAST_NETS);
+    let mut parts = Vec::new(alloc);
+    for part in map_parts(rt, alloc, h, clusters, size)? {
+        parts.push(part?)?;
+    }
+    Ok(Images {
+        h,
+        clusters: Snapshot::of(&clusters),
+        parts,
+        size,
+    })
+}
+
+/// The parts of this size, or no memory for one.
+fn map_parts<R: Threads + Sync>(
+    rt: &R,
     alloc: Global,
     h: &Hypergraph,
     clusters: &[u32],
-    count: u32,
-) -> Result<FlatHyper, NoMemory>
-    requires few { count ≤ 2 ^ 22 }
+    size: u32,
+) -> Result<Vec<Result<Part, NoMemory>>, NoMemory>
     requires vertices { length clusters.now ≡ vertex_count h.now }
-    requires below { All (λ i. i < count) clusters.now }
-    ensures vertices { IfOk result (λ nets. vertex_count nets ≡ count) }
-    ensures nets { IfOk result (λ nets. nets.nets ≡ map (mapped_net clusters.now) h.now.nets) }
+    requires size { 0 < size }
+    ensures all { IfOk result (λ parts. net_count h.now ≤ vec_len parts * size) }
+    ensures each { IfOk result (λ parts. (j : ℕ) (d : _) → j < vec_len parts →
+        IfOk (slice_index_or parts.items j d) (IsPart h.now clusters.now size j)) }
 {
-    let mut nets = FlatHyper::start(alloc, count)?;
-    let mut numbers = Vec::new(alloc);
-    for e in 0..h.nets() {
-        map_pins(&mut numbers, clusters, h.pins(e))?;
-        nets.push_net(h.net_weight(e), &numbers)?;
-    }
-    Ok(nets)
+    let count = h.nets().div_ceil(size) as usize;
+    let parts = map_indices(
+        rt,
+        alloc,
+        count,
+        &|j: usize| -> Result<Part, NoMemory>
+            requires { (j * size < net_count h.now) × (length clusters.now ≡ vertex_count h.now) }
+            ensures { IfOk result (IsPart h.entry.now clusters.entry.now size j) }
+        { map_part(alloc, h, clusters, size, j) },
+    )?;
+    Ok(parts)
 }
 
-/// Writes the clusters of pins into a list, in their order.
+/// Part `j` of the nets.
+fn map_part(
+    alloc: Global,
+    h: &Hypergraph,
+    clusters: &[u32],
+    size: u32,
+    j: usize,
+) -> Result<Part, NoMemory>
+    requires vertices { length clusters.now ≡ vertex_count h.now }
+    requires begins { j * size < net_count h.now }
+    ensures { IfOk result (IsPart h.now clusters.now size j) }
+{
+    let nets = h.nets();
+    let from = (j * size as usize) as u32;
+    let count = size.min(nets - from);
+    let mut starts = Vec::with_capacity(alloc, count as usize + 1)?;
+    let mut pins = Vec::with_capacity(alloc, pin_sum(h, from, count))?;
+    starts.push(0u32)?;
+    let mut numbers = Vec::new(alloc);
+    for i in 0..count {
+        map_pins(&mut numbers, clusters, h.pins(from + i))?;
+        pins.extend_from_slice(numbers.as_slice())?;
+        starts.push(pins.len() as u32)?;
+    }
+    Ok(Part { starts, pins })
+}
+
+/// How many pins some nets have together.
+fn pin_sum(h: &Hypergraph, from: u32, count: u32) -> usize
+    requires { from + count ≤ net_count h.now }
+{
+    let _nets = h.nets();
+    let mut sum: usize = 0;
+    for i in 0..count {
+        sum = sum.saturating_add(h.pins(from + i).len());
+    }
+    sum
+}
+
+/// Writes the set of the clusters of pins into a list.
 fn map_pins(numbers: &mut Vec<u32>, clusters: &[u32], pins: &[u32]) -> Result<(), AllocError>
     requires { All (λ v. v < length clusters.now) pins.now }
-    ensures { OnOk result (numbers.new.items ≡ map (slice_index clusters.now) pins.now) }
+    ensures { OnOk result (numbers.new.items ≡ set_of nat_cmp (map (slice_index clusters.now) pins.now)) }
 {
     numbers.clear();
     for v in pins {
         numbers.push(clusters[*v as usize])?;
     }
+    numbers.sort_unstable();
+    numbers.dedup();
     Ok(())
 }

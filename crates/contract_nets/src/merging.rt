@@ -5,6 +5,7 @@ ghost use Rattle.hg_defs.specs.Hypergraph.{vertex_count, net_count, net_of, IsWi
 ghost use Rattle.contract_nets.specs.Merging.{merged, ArePlaces};
 ghost use Rattle.contract_nets.specs.Keys.{net_of_key, IsKey};
 
+use crate::images::Images;
 use crate::keys::{Key, have_same_pins};
 use crate::ledger::DROPPED;
 use hg_base::{FlatHyper, NoMemory};
@@ -12,7 +13,7 @@ use hg_base::{FlatHyper, NoMemory};
 /// Gives a hypergraph without nets those of the keys, in this order, with equal neighbours merged,
 /// and writes the place of each net.
 pub(crate) fn merge_nets(
-    nets: &FlatHyper,
+    nets: &Images<'_>,
     keys: &[Key<'_>],
     coarse: &mut FlatHyper,
     places: &mut [u32],

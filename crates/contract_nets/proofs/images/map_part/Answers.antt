@@ -1,0 +1,39 @@
+-- One image more.
+use Rattle.std.proofs.Common.{◌≡◌, ℕ, ◌+◌, ◌*◌, ◌≤◌, List, ◌++◌, [], ◌∷◌, length, map, slice_index, nat_cmp, sym, subst, ap, ◌∙◌, refl, arith}
+use Rattle.std.proofs.lemmas.List.{length-append}
+use Rattle.hg_defs.specs.Sorting.{set_of}
+use Rattle.hg_defs.proofs.SumLaws.{total-take-le}
+use Rattle.contract_nets.proofs.ImageLaws.{AreLists, AreLists-start, AreLists-more, few_more}
+use Rattle.contract_nets.proofs.images.map_part.Goals as goal
+
+pub overflow_cast-len : goal.overflow_cast-len
+overflow_cast-len c =
+    let h = c.args.h.now in
+    let cs = c.args.clusters.now in
+    let i = c.loop-i.i in
+    let from = c.args.j * c.args.size in
+    let more = c.as_slice.result.now in
+    let pins = c.loop-i.pins.items in
+    let is = c.as_slice.ensures.value ∙ c.in_ok-map_pins.ensures ∙ ap (λ (ps : List ℕ). set_of nat_cmp (map (slice_index cs) ps)) c.pins.ensures.value in
+    let f = few_more h cs from i c.loop-i.starts.items pins more (length pins + length more) c.loop-i.invariant (omega arith) is refl in
+    let t = total-take-le (λ e. length e.pins) h.nets (from + (i + 1)) in
+    let b = c.nets-nets.ensures.bounds.pins in
+    let s = length-append pins more in
+    let l = c.in_ok-extend_from_slice.ensures.len in
+    let m = c.len.ensures in
+    omega arith
+
+pub loop-i-preserved : goal.loop-i-preserved
+loop-i-preserved c =
+    let h = c.args.h.now in
+    let cs = c.args.clusters.now in
+    let i = c.loop-i.i in
+    let from = c.args.j * c.args.size in
+    let more = c.as_slice.result.now in
+    let starts = c.loop-i.starts.items in
+    let pins = c.loop-i.pins.items in
+    let is = c.as_slice.ensures.value ∙ c.in_ok-map_pins.ensures ∙ ap (λ (ps : List ℕ). set_of nat_cmp (map (slice_index cs) ps)) c.pins.ensures.value in
+    subst (λ (xs : List ℕ). AreLists h cs from (i + 1) xs c.extend_from_slice.new.self.items) (sym c.in_ok-push-2.ensures.items)
+    (subst (λ (xs : List ℕ). AreLists h cs from (i + 1) (starts ++ c.len.result ∷ []) xs) (sym c.in_ok-extend_from_slice.ensures.items)
+    (AreLists-more h cs from i starts pins more c.len.result c.loop-i.invariant (omega arith) is
+    (let l = c.in_ok-extend_from_slice.ensures.len in let m = c.len.ensures in omega arith)))
