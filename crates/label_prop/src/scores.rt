@@ -3,40 +3,51 @@
 //! Counts and names are peeked while other workers move, so a gain may be off. It decides where a worker
 //! tries to move a vertex, and nothing else.
 
-ghost use Rattle.std.specs.Prelude.{◌≡◌, ◌≢◌, ℕ, ◌<◌, ◌≤◌, ◌^◌, IfSome, length, slice_index};
-ghost use Rattle.hg_defs.specs.Hypergraph.{vertex_count, net_count, net_of};
+ghost use Rattle.std.specs.Prelude.{◌≡◌, ◌≢◌, ℕ, ◌+◌, ◌<◌, ◌≤◌, ◌^◌, IfSome, slice_index};
+ghost use Rattle.hg_defs.specs.Hypergraph.{vertex_count, net_count};
 ghost use Rattle.hg_defs.specs.Partition.{block_of};
-ghost use Rattle.pin_plain.specs.Counts.{net_words};
+ghost use Rattle.hg_base.specs.Packed.{IsWidth, fields_of};
+ghost use Rattle.pin_plain.specs.Counts.{net_bits, net_words};
 ghost use Rattle.label_prop.specs.Workers.{IsIdlePass};
 
-use hg_base::{Objective, field, words_of};
+use hg_base::{Objective, field};
 use incidence::Hypergraph;
 use move_table::{Pass, Round};
 
-/// What a net of weight 1 saves where one of its `size` pins goes to a block with `count` of them.
-fn saved(objective: Objective, count: u64, size: u64) -> u64
-    requires { count < 2 ^ 32 }
-    ensures { result ≤ 2 }
+/// A net whose counts take so few words is walked over by them, whatever its size, which isn't read then.
+const FEW_WORDS: u32 = 8;
+
+/// All bits of a word but the highest one of each field of 16 bits.
+const LOW_BITS: u64 = 0x7fff_7fff_7fff_7fff;
+
+/// A product with this brings the lowest bits of the four fields of 16 bits together, from bit 48 on.
+const GATHER: u64 = 0x0001_0002_0004_0008;
+
+/// What a net of weight 1 saves, beside what it saves for the block alone, where one of its `size` pins
+/// goes to a block with `count` of them: whether they are together then.
+fn joined(count: u64, size: u64) -> u64
+    ensures { result ≤ 1 }
 {
-    let present = u64::from(count > 0);
-    let joined = u64::from(count > 0 && count + 1 == size);
-    match objective {
-        Objective::Connectivity => present,
-        Objective::CutNet => joined,
-        Objective::ExternalDegree => present + joined,
-    }
+    u64::from(count > 0 && count.wrapping_add(1) == size)
 }
 
-/// What a net of weight 1 loses where one of its `size` pins leaves a block with `count` of them.
-fn lost(objective: Objective, count: u64, size: u64) -> u64
-    ensures { result ≤ 2 }
+/// How many fields of so many bits a word has.
+fn fields(bits: u32) -> u32
+    requires { IsWidth bits }
+    ensures { result ≡ fields_of bits }
 {
-    let left = u64::from(count != 1);
-    let parted = u64::from(count == size && size != 1);
-    match objective {
-        Objective::Connectivity => left,
-        Objective::CutNet => parted,
-        Objective::ExternalDegree => left + parted,
+    if bits == 16 { 4 } else { 2 }
+}
+
+/// Which fields of a word aren't 0, as bits.
+fn filled(word: u64, bits: u32) -> u64
+    requires { IsWidth bits }
+{
+    if bits == 16 {
+        let high = ((word & LOW_BITS).wrapping_add(LOW_BITS) | word) & !LOW_BITS;
+        (high >> 15).wrapping_mul(GATHER) >> 48
+    } else {
+        u64::from(field(word, bits, 0) > 0) | u64::from(field(word, bits, 1) > 0) << 1
     }
 }
 
@@ -101,7 +112,6 @@ impl Scores {
     {
         let place = block as usize;
         self.saved[place] = self.saved[place].saturating_add(amount);
-        self.touched.insert(block);
     }
 
     /// Takes the block of the highest sum above what the nets lose, the lowest one at a tie, a vertex's own
@@ -116,15 +126,14 @@ impl Scores {
         for place in 0..4 {
             let mut left = self.touched.words[place];
             while left > 0 {
-                let low = left.trailing_zeros();
-                let block = 64 * place as u32 + low;
+                let block = 64 * place as u32 + left.trailing_zeros();
                 let sum = self.saved[block as usize];
                 if sum > bar && block != own {
                     bar = sum;
                     best = Some(block);
                 }
                 self.saved[block as usize] = 0;
-                left -= 1 << low;
+                left &= left - 1;
             }
         }
         self.touched = BlockSet::new();
@@ -135,117 +144,206 @@ impl Scores {
 
 /// A net that is walked over.
 #[derive(Clone, Copy)]
-struct WalkedNet {
+struct WalkedNet<'h> {
+    h: &'h Hypergraph,
     number: u32,
-    size: u64,
     weight: u64,
-    objective: Objective,
 }
 
-impl WalkedNet {
+impl<'h> WalkedNet<'h> {
     /// The net of a number.
-    fn of(h: &Hypergraph, e: u32) -> Self
+    fn of(h: &'h Hypergraph, e: u32) -> Self
         requires { e < net_count h.now }
+        ensures hyper { result.h.now ≡ h.now }
         ensures number { result.number ≡ e }
-        ensures size { result.size ≡ length (net_of h.now e).pins }
-        ensures few { result.size ≤ 2 ^ 25 }
         ensures light { result.weight < 2 ^ 54 }
     {
         WalkedNet {
+            h,
             number: e,
-            size: h.pins(e).len() as u64,
             weight: h.net_weight(e),
-            objective: h.objective(),
         }
     }
 
-    /// What the net saves where a pin goes to a block with `count` of its pins.
-    fn saved(&self, count: u64) -> u64
-        requires light { self.now.weight < 2 ^ 54 }
-        requires count { count < 2 ^ 32 }
+    /// How many pins the net has.
+    fn size(&self) -> u64
+        requires { self.now.number < net_count self.now.h.now }
+        ensures { result ≤ 2 ^ 25 }
     {
-        self.weight * saved(self.objective, count, self.size)
+        self.h.pins(self.number).len() as u64
+    }
+
+    /// What the net saves where a pin goes to a block that has some of its pins.
+    #[tactic(auto, using(crate::proofs::IdleLaws::peeked))]
+    fn saved(&self, round: &Round, pass: &mut Pass, block: u32) -> u64
+        requires belongs { round.now.terms.part.hyper ≡ self.now.h.now }
+        requires net { self.now.number < net_count self.now.h.now }
+        requires light { self.now.weight < 2 ^ 54 }
+        requires block { block < round.now.terms.part.k }
+        requires pass { IsIdlePass round.now pass.old.view.number pass.old }
+        ensures { IsIdlePass round.now pass.old.view.number pass.new }
+    {
+        let objective = self.h.objective();
+        if objective == Objective::Connectivity {
+            return self.weight;
+        }
+        let count = pass.peek_count(round, self.number, block);
+        let together = self.weight * joined(count, self.size());
+        if objective == Objective::CutNet {
+            together
+        } else {
+            self.weight + together
+        }
     }
 
     /// What the net loses where a pin leaves a block with `count` of its pins.
     fn lost(&self, count: u64) -> u64
-        requires { self.now.weight < 2 ^ 54 }
+        requires net { self.now.number < net_count self.now.h.now }
+        requires light { self.now.weight < 2 ^ 54 }
     {
-        self.weight * lost(self.objective, count, self.size)
+        let left = self.weight * u64::from(count != 1);
+        let objective = self.h.objective();
+        if objective == Objective::Connectivity {
+            return left;
+        }
+        let size = self.size();
+        let parted = self.weight * u64::from(count == size && size != 1);
+        if objective == Objective::CutNet {
+            parted
+        } else {
+            left + parted
+        }
     }
+}
+
+/// The blocks where a net has pins, as bits, by the words of its counts from `from` up to `to`.
+#[tactic(auto, using(crate::proofs::IdleLaws::peeked))]
+fn peek_blocks(round: &Round, pass: &mut Pass, e: u32, bits: u32, from: u32, to: u32) -> u64
+    requires net { e < net_count round.now.terms.part.hyper }
+    requires width { IsWidth bits }
+    requires bits { bits ≡ net_bits round.now.terms.part.hyper e }
+    requires within { to ≤ net_words round.now.terms.part.hyper round.now.terms.part.k e }
+    requires few { to ≤ from + bits }
+    requires pass { IsIdlePass round.now pass.old.view.number pass.old }
+    ensures { IsIdlePass round.now pass.old.view.number pass.new }
+{
+    let fields = fields(bits);
+    let mut found = 0;
+    for index in from..to {
+        let word = pass.peek_counts(round, e, index);
+        found |= filled(word, bits) << (fields * (index - from));
+    }
+    found
 }
 
 impl Scores {
     /// Adds what a net saves for each block, by the names of its pins.
     #[tactic(auto, using(crate::proofs::IdleLaws::peeked))]
-    fn save_by_pins(&mut self, round: &Round, pass: &mut Pass, h: &Hypergraph, net: &WalkedNet)
-        requires belongs { round.now.terms.part.hyper ≡ h.now }
+    fn save_by_pins(&mut self, round: &Round, pass: &mut Pass, net: &WalkedNet<'_>)
+        requires belongs { round.now.terms.part.hyper ≡ net.now.h.now }
         requires blocks { self.old.k ≡ round.now.terms.part.k }
-        requires pass { IsIdlePass round.now pass.old.view.number pass.old }
-        requires net { net.now.number < net_count h.now }
+        requires net { net.now.number < net_count net.now.h.now }
         requires light { net.now.weight < 2 ^ 54 }
+        requires pass { IsIdlePass round.now pass.old.view.number pass.old }
         ensures blocks { self.new.k ≡ self.old.k }
         ensures pass { IsIdlePass round.now pass.old.view.number pass.new }
     {
         let mut seen = BlockSet::new();
-        for pin in h.pins(net.number) {
+        for pin in net.h.pins(net.number) {
             let block = pass.peek_name(round, *pin);
             if seen.insert(block) {
-                let count = pass.peek_count(round, net.number, block);
-                self.save(block, net.saved(count));
+                let amount = net.saved(round, pass, block);
+                self.save(block, amount);
+                self.touched.insert(block);
             }
+        }
+    }
+
+    /// Adds what a net saves for the blocks of a set, whose first one is given.
+    fn save_set(
+        &mut self,
+        round: &Round,
+        pass: &mut Pass,
+        net: &WalkedNet<'_>,
+        first: u32,
+        found: u64,
+    )
+        requires belongs { round.now.terms.part.hyper ≡ net.now.h.now }
+        requires blocks { self.old.k ≡ round.now.terms.part.k }
+        requires net { net.now.number < net_count net.now.h.now }
+        requires light { net.now.weight < 2 ^ 54 }
+        requires first { first < 256 }
+        requires pass { IsIdlePass round.now pass.old.view.number pass.old }
+        ensures blocks { self.new.k ≡ self.old.k }
+        ensures pass { IsIdlePass round.now pass.old.view.number pass.new }
+    {
+        self.touched.words[first as usize / 64] |= found;
+        let mut left = found;
+        while left > 0 {
+            let block = first + left.trailing_zeros();
+            // No net has pins past the last block; that isn't known of a count that is only peeked.
+            if block < self.k {
+                let amount = net.saved(round, pass, block);
+                self.save(block, amount);
+            }
+            left &= left - 1;
         }
     }
 
     /// Adds what a net saves for each block, by the words of its counts.
-    #[tactic(auto, using(crate::proofs::IdleLaws::peeked))]
-    fn save_by_words(&mut self, round: &Round, pass: &mut Pass, words: u32, net: &WalkedNet)
+    fn save_by_words(
+        &mut self,
+        round: &Round,
+        pass: &mut Pass,
+        net: &WalkedNet<'_>,
+        bits: u32,
+        words: u32,
+    )
+        requires belongs { round.now.terms.part.hyper ≡ net.now.h.now }
         requires blocks { self.old.k ≡ round.now.terms.part.k }
-        requires pass { IsIdlePass round.now pass.old.view.number pass.old }
-        requires net { net.now.number < net_count round.now.terms.part.hyper }
+        requires net { net.now.number < net_count net.now.h.now }
         requires light { net.now.weight < 2 ^ 54 }
-        requires words { words ≡ net_words round.now.terms.part.hyper self.old.k net.now.number }
+        requires width { IsWidth bits }
+        requires bits { bits ≡ net_bits net.now.h.now net.now.number }
+        requires words { words ≡ net_words net.now.h.now self.old.k net.now.number }
+        requires pass { IsIdlePass round.now pass.old.view.number pass.old }
         ensures blocks { self.new.k ≡ self.old.k }
         ensures pass { IsIdlePass round.now pass.old.view.number pass.new }
     {
-        let bits = round.count_bits(net.number);
-        let fields = 64 / bits;
-        for index in 0..words {
-            let word = pass.peek_counts(round, net.number, index);
-            let first = index * fields;
-            for place in 0..fields.min(self.k - first) {
-                let count = field(word, bits, place);
-                if count > 0 {
-                    self.save(first + place, net.saved(count));
-                }
+        for group in 0..4 {
+            let from = group * bits;
+            if from >= words {
+                break;
             }
+            let found = peek_blocks(round, pass, net.number, bits, from, words.min(from + bits));
+            self.save_set(round, pass, net, 64 * group, found);
         }
     }
 
     /// Adds what a net saves for each block, and what it loses where a pin leaves its block. A net that
-    /// touches one block is told by its spread alone.
+    /// touches one block saves nothing for others.
     #[tactic(auto, using(crate::proofs::IdleLaws::peeked))]
     fn walk_net(&mut self, round: &Round, pass: &mut Pass, h: &Hypergraph, own: u32, e: u32)
         requires belongs { round.now.terms.part.hyper ≡ h.now }
         requires blocks { self.old.k ≡ round.now.terms.part.k }
-        requires pass { IsIdlePass round.now pass.old.view.number pass.old }
         requires own { own < self.old.k }
         requires net { e < net_count h.now }
+        requires pass { IsIdlePass round.now pass.old.view.number pass.old }
         ensures blocks { self.new.k ≡ self.old.k }
         ensures pass { IsIdlePass round.now pass.old.view.number pass.new }
     {
         let net = WalkedNet::of(h, e);
-        if pass.peek_spread(round, e) <= 1 {
-            self.lost = self.lost.saturating_add(net.lost(net.size));
-            return;
-        }
         let there = pass.peek_count(round, e, own);
         self.lost = self.lost.saturating_add(net.lost(there));
-        let words = words_of(net.size as u32, self.k);
-        if u64::from(words) <= net.size {
-            self.save_by_words(round, pass, words, &net);
+        if pass.peek_spread(round, e) <= 1 {
+            return;
+        }
+        let bits = round.count_bits(e);
+        let words = (self.k * bits).div_ceil(64);
+        if words <= FEW_WORDS || u64::from(words) <= 4 * net.size() {
+            self.save_by_words(round, pass, &net, bits, words);
         } else {
-            self.save_by_pins(round, pass, h, &net);
+            self.save_by_pins(round, pass, &net);
         }
     }
 
@@ -266,10 +364,29 @@ impl Scores {
         ensures blocks { self.new.k ≡ self.old.k }
         ensures pass { IsIdlePass round.now pass.old.view.number pass.new }
     {
+        if !is_border(round, pass, h, v) {
+            return None;
+        }
         let own = round.opening(v);
         for e in h.nets_of(v) {
             self.walk_net(round, pass, h, own, *e);
         }
         self.take_best(own)
     }
+}
+
+/// Whether one of a vertex's nets touches several blocks. All their spreads are read before one is
+/// looked at, so that the loads go on at the same time.
+#[tactic(auto, using(crate::proofs::IdleLaws::peeked))]
+fn is_border(round: &Round, pass: &mut Pass, h: &Hypergraph, v: u32) -> bool
+    requires belongs { round.now.terms.part.hyper ≡ h.now }
+    requires vertex { v < vertex_count h.now }
+    requires pass { IsIdlePass round.now pass.old.view.number pass.old }
+    ensures { IsIdlePass round.now pass.old.view.number pass.new }
+{
+    let mut most = 0;
+    for e in h.nets_of(v) {
+        most = pass.peek_spread(round, *e).max(most);
+    }
+    most > 1
 }

@@ -2,14 +2,8 @@ use Rattle.std.proofs.Common.{◌≡◌}
 use Rattle.label_prop.specs.Workers.{IsIdlePass}
 use Rattle.label_prop.proofs.scores.Scores.save_by_words.Given as goal
 
-abbrev pub invariant-loop-place : goal.invariant-loop-place
-invariant-loop-place l = record {
-  blocks : l.self.k ≡ l.fn.self.k;
-  idle : IsIdlePass l.round l.fn.pass.view.number l.pass;
-}
-
-abbrev pub invariant-loop-index : goal.invariant-loop-index
-invariant-loop-index l = record {
+abbrev pub invariant-loop-group : goal.invariant-loop-group
+invariant-loop-group l = record {
   blocks : l.self.k ≡ l.fn.self.k;
   idle : IsIdlePass l.round l.fn.pass.view.number l.pass;
 }

@@ -1,0 +1,12 @@
+use Rattle.std.proofs.Common.{◌≡◌}
+use Rattle.label_prop.specs.Workers.{IsIdlePass}
+use Rattle.label_prop.proofs.scores.Scores.save_set.Given as goal
+
+abbrev pub invariant-loop-left : goal.invariant-loop-left
+invariant-loop-left l = record {
+  blocks : l.self.k ≡ l.fn.self.k;
+  idle : IsIdlePass l.round l.fn.pass.view.number l.pass;
+}
+
+abbrev pub decreases-loop-left : goal.decreases-loop-left
+decreases-loop-left l = l.left
