@@ -237,9 +237,9 @@ fn peek_blocks(round: &Round, pass: &mut Pass, e: u32, bits: u32, from: u32, to:
 }
 
 impl Scores {
-    /// Adds what a net saves for each block, by the names of its pins.
+    /// Adds what a net saves for each block, by the names of its pins. Answers how many are in one block.
     #[tactic(auto, using(crate::proofs::IdleLaws::peeked))]
-    fn save_by_pins(&mut self, round: &Round, pass: &mut Pass, net: &WalkedNet<'_>)
+    fn save_by_pins(&mut self, round: &Round, pass: &mut Pass, net: &WalkedNet<'_>, own: u32) -> u64
         requires belongs { round.now.terms.part.hyper ≡ net.now.h.now }
         requires blocks { self.old.k ≡ round.now.terms.part.k }
         requires net { net.now.number < net_count net.now.h.now }
@@ -249,14 +249,17 @@ impl Scores {
         ensures pass { IsIdlePass round.now pass.old.view.number pass.new }
     {
         let mut seen = BlockSet::new();
+        let mut there = 0u64;
         for pin in net.h.pins(net.number) {
             let block = pass.peek_name(round, *pin);
+            there = there.wrapping_add(u64::from(block == own));
             if seen.insert(block) {
                 let amount = net.saved(round, pass, block);
                 self.save(block, amount);
                 self.touched.insert(block);
             }
         }
+        there
     }
 
     /// Adds what a net saves for the blocks of a set, whose first one is given.
@@ -320,31 +323,44 @@ impl Scores {
         }
     }
 
-    /// Adds what a net saves for each block, and what it loses where a pin leaves its block. A net that
+    /// Adds what a net saves for each block, and answers how many of its pins are in one block. A net that
     /// touches one block saves nothing for others.
     #[tactic(auto, using(crate::proofs::IdleLaws::peeked))]
-    fn walk_net(&mut self, round: &Round, pass: &mut Pass, h: &Hypergraph, own: u32, e: u32)
-        requires belongs { round.now.terms.part.hyper ≡ h.now }
+    fn save_net(&mut self, round: &Round, pass: &mut Pass, net: &WalkedNet<'_>, own: u32) -> u64
+        requires belongs { round.now.terms.part.hyper ≡ net.now.h.now }
         requires blocks { self.old.k ≡ round.now.terms.part.k }
         requires own { own < self.old.k }
-        requires net { e < net_count h.now }
+        requires net { net.now.number < net_count net.now.h.now }
+        requires light { net.now.weight < 2 ^ 54 }
         requires pass { IsIdlePass round.now pass.old.view.number pass.old }
         ensures blocks { self.new.k ≡ self.old.k }
         ensures pass { IsIdlePass round.now pass.old.view.number pass.new }
     {
-        let net = WalkedNet::of(h, e);
-        let there = pass.peek_count(round, e, own);
-        self.lost = self.lost.saturating_add(net.lost(there));
-        if pass.peek_spread(round, e) <= 1 {
-            return;
+        if pass.peek_spread(round, net.number) <= 1 {
+            return pass.peek_count(round, net.number, own);
         }
-        let bits = round.count_bits(e);
+        let bits = round.count_bits(net.number);
         let words = (self.k * bits).div_ceil(64);
-        if words <= FEW_WORDS || u64::from(words) <= 4 * net.size() {
-            self.save_by_words(round, pass, &net, bits, words);
-        } else {
-            self.save_by_pins(round, pass, &net);
+        if words > FEW_WORDS && u64::from(words) > 4 * net.size() {
+            return self.save_by_pins(round, pass, net, own);
         }
+        self.save_by_words(round, pass, net, bits, words);
+        pass.peek_count(round, net.number, own)
+    }
+
+    /// Adds what a net saves for each block, and what it loses where a pin leaves a vertex's own one.
+    fn walk_net(&mut self, round: &Round, pass: &mut Pass, net: &WalkedNet<'_>, own: u32)
+        requires belongs { round.now.terms.part.hyper ≡ net.now.h.now }
+        requires blocks { self.old.k ≡ round.now.terms.part.k }
+        requires own { own < self.old.k }
+        requires net { net.now.number < net_count net.now.h.now }
+        requires light { net.now.weight < 2 ^ 54 }
+        requires pass { IsIdlePass round.now pass.old.view.number pass.old }
+        ensures blocks { self.new.k ≡ self.old.k }
+        ensures pass { IsIdlePass round.now pass.old.view.number pass.new }
+    {
+        let there = self.save_net(round, pass, net, own);
+        self.lost = self.lost.saturating_add(net.lost(there));
     }
 
     /// The block where a vertex saves most, where it saves something: the lowest one at a tie.
@@ -369,7 +385,7 @@ impl Scores {
         }
         let own = round.opening(v);
         for e in h.nets_of(v) {
-            self.walk_net(round, pass, h, own, *e);
+            self.walk_net(round, pass, &WalkedNet::of(h, *e), own);
         }
         self.take_best(own)
     }
