@@ -3,7 +3,12 @@
 //! Sums and products wrap: all nets weigh less than 2^54 together, so none of them comes near the end of 64
 //! bits, and they decide nothing but which move is tried.
 
+ghost use Rattle.std.specs.Prelude.{◌≡◌, ◌<◌, ◌≤◌, length};
+
 use hg_base::Objective;
+
+/// Pulls are counted in shares of the weight of a net, which is cut into so many first.
+const SHARES: u64 = 512;
 
 /// No net has this number.
 pub(crate) const NO_NET: u32 = u32::MAX;
@@ -33,11 +38,16 @@ pub(crate) const BLANK: Cell = Cell {
 #[derive(Clone, Copy)]
 pub(crate) struct Scored {
     pub(crate) objective: Objective,
-    pub(crate) weight: i64,
+    pub(crate) weight: u64,
     /// How many pins there are beside the one that moves.
     pub(crate) others: u64,
-    /// How strongly each of them pulls.
-    pub(crate) share: i64,
+}
+
+/// How strongly each of the other pins of a net of two at least pulls.
+pub(crate) fn share(net: &Scored) -> i64
+    requires { 0 < net.now.others }
+{
+    (net.weight.wrapping_mul(SHARES) / net.others).cast_signed()
 }
 
 /// What a net saves where one of its pins goes to a block with `count` of its other pins.
@@ -49,7 +59,7 @@ pub(crate) fn saved(net: &Scored, count: u64) -> i64 {
         Objective::CutNet => joined,
         Objective::ExternalDegree => present.wrapping_add(joined),
     };
-    net.weight.wrapping_mul(price)
+    net.weight.cast_signed().wrapping_mul(price)
 }
 
 /// What a net loses where one of its pins leaves a block with `count` of its pins.
@@ -61,23 +71,57 @@ pub(crate) fn lost(net: &Scored, count: u64) -> i64 {
         Objective::CutNet => parted,
         Objective::ExternalDegree => left.wrapping_add(parted),
     };
-    net.weight.wrapping_mul(price)
+    net.weight.cast_signed().wrapping_mul(price)
 }
 
 impl Cell {
-    /// Enters a net with so many of its pins in the block.
-    pub(crate) fn enter(&mut self, net: &Scored, count: u64) {
+    /// Enters a net with so many of its pins in the block, each of which pulls with its share.
+    pub(crate) fn enter(&mut self, net: &Scored, share: i64, count: u64) {
         self.weight = self.weight.wrapping_add(saved(net, count));
         self.pull = self
             .pull
-            .wrapping_add(net.share.wrapping_mul(count.cast_signed()));
+            .wrapping_add(share.wrapping_mul(count.cast_signed()));
         self.nets = self.nets.wrapping_add(1);
     }
 
     /// Enters a net with so many of its pins in the vertex's own block, itself among them.
-    pub(crate) fn enter_own(&mut self, net: &Scored, count: u64) {
+    pub(crate) fn enter_own(&mut self, net: &Scored, share: i64, count: u64) {
         self.weight = self.weight.wrapping_add(lost(net, count));
         let others = count.saturating_sub(1).cast_signed();
-        self.pull = self.pull.wrapping_add(net.share.wrapping_mul(others));
+        self.pull = self.pull.wrapping_add(share.wrapping_mul(others));
+    }
+}
+
+/// The cells of the blocks that a vertex may know of, as bits; the others are blank, whatever stands in them.
+#[derive(Clone, Copy)]
+pub(crate) struct Used {
+    words: [u64; 4],
+}
+
+impl Used {
+    /// No cell is used yet.
+    pub(crate) fn none() -> Self {
+        Used { words: [0; 4] }
+    }
+
+    /// The bits of 64 blocks.
+    pub(crate) fn word(&self, place: u32) -> u64
+        requires { place < 4 }
+    {
+        self.words[place as usize]
+    }
+
+    /// Uses the cell of a block, which is blanked first where it wasn't used.
+    pub(crate) fn reach(&mut self, row: &mut [Cell], b: u32)
+        requires few { length row.old ≤ 256 }
+        requires block { b < length row.old }
+        ensures same { length row.new ≡ length row.old }
+    {
+        let place = b as usize / 64;
+        let bit = 1u64 << (b % 64);
+        if self.words[place] & bit == 0 {
+            self.words[place] |= bit;
+            row[b as usize] = BLANK;
+        }
     }
 }

@@ -1,8 +1,8 @@
 //! What a move changes for the other pins of a net.
 
-ghost use Rattle.std.specs.Prelude.{◌≡◌, ◌<◌, length};
+ghost use Rattle.std.specs.Prelude.{◌≡◌, ◌<◌, ◌≤◌, length};
 
-use crate::cells::{Cell, Scored, lost, saved};
+use crate::cells::{Cell, Scored, Used, lost, saved};
 
 /// What a move of one pin changes for the others, by the block that the pin left and the one where it went.
 #[derive(Clone, Copy)]
@@ -51,10 +51,13 @@ impl Change {
     }
 
     /// Changes the cells of a pin in `block`, and tells whether one of its gains may have risen.
-    pub(crate) fn adjust(&self, row: &mut [Cell], block: u32) -> bool
+    pub(crate) fn adjust(&self, row: &mut [Cell], used: &mut Used, block: u32) -> bool
+        requires few { length row.old ≤ 256 }
         requires from { self.now.from < length row.old }
         requires to { self.now.to < length row.old }
     {
+        used.reach(row, self.from);
+        used.reach(row, self.to);
         let left = &mut row[self.from as usize];
         let freed = if block == self.from {
             left.weight = left.weight.wrapping_add(self.lost_from);

@@ -1,14 +1,14 @@
 //! What a worker remembers while it searches. It is made once a pass, and used for all its searches.
 
-ghost use Rattle.std.specs.Prelude.{◌≡◌, ◌≢◌, ◌<◌, ◌≤◌, IfOk, IfSome, OnOk, vec_len};
+ghost use Rattle.std.specs.Prelude.{◌≡◌, ◌≢◌, ◌*◌, ◌<◌, ◌≤◌, IfOk, IfSome, OnOk, vec_len};
 ghost use Rattle.hg_defs.specs.Hypergraph.{vertex_count, net_count};
 ghost use Rattle.fm_search.specs.Standing.{IsOf};
 
-use crate::cells::{BLANK, Cell};
+use crate::cells::{BLANK, Cell, Used};
 use crate::change::Change;
 use crate::mover::Mover;
 use crate::queue::{Offer, Queue};
-use crate::reading::{Choice, best_block, read_vertex};
+use crate::reading::{Choice, approach, best_block, read_vertex};
 use crate::shared::Shared;
 use hg_base::NoMemory;
 use incidence::Hypergraph;
@@ -16,19 +16,27 @@ use std::alloc::Global;
 use std::marker::Model;
 
 /// A worker keeps the cells of so many blocks at most, beside one row of them.
-const MOST_CELLS: u32 = 1 << 20;
+const MOST_CELLS: usize = 1 << 20;
 
 /// What a worker remembers of a vertex.
 #[derive(Clone, Copy)]
 pub(crate) struct Mark {
     /// The search in which it was read last.
     search: u32,
-    /// Where its row of cells starts.
-    start: u32,
+    /// Its row of cells.
+    row: u32,
     /// The round in which the worker moved it or found it taken.
     round: u32,
     /// Whether it waits to be offered.
     listed: bool,
+}
+
+/// Where a row of cells starts.
+fn start_of(row: u32, k: u32) -> usize
+    requires { k ≤ 256 }
+    ensures { result ≡ row * k }
+{
+    row as usize * k as usize
 }
 
 /// Makes room for so many cells.
@@ -42,8 +50,20 @@ fn reach(cells: &mut Vec<Cell>, count: usize) -> Result<(), NoMemory>
     Ok(())
 }
 
+/// Makes room for so many rows.
+fn reach_rows(used: &mut Vec<Used>, count: usize) -> Result<(), NoMemory>
+    ensures kept { vec_len used.old ≤ vec_len used.new }
+    ensures ok { OnOk result (count ≤ vec_len used.new) }
+{
+    if used.len() < count {
+        used.resize(count, Used::none())?;
+    }
+    Ok(())
+}
+
 /// What a worker remembers while it searches: a mark for each vertex, the search that walked each net last, and
-/// for the vertices that were read in this search a row of cells. Contracts see how large it is.
+/// for the vertices that were read in this search a row of cells and which of them are used. Contracts see how large
+/// it is.
 #[derive(Drop)]
 pub(crate) struct Desk {
     k: u32,
@@ -53,12 +73,13 @@ pub(crate) struct Desk {
     marks: Vec<Mark>,
     walked: Vec<u32>,
     cells: Vec<Cell>,
+    used: Vec<Used>,
     listed: Vec<u32>,
     queue: Queue,
 }
 
 impl Model for Desk {
-    ghost use Rattle.std.specs.Prelude.{◌≡◌, ◌+◌, ◌<◌, ◌≤◌, All, vec_len};
+    ghost use Rattle.std.specs.Prelude.{◌≡◌, ◌+◌, ◌*◌, ◌<◌, ◌≤◌, All, vec_len};
     ghost use Rattle.fm_search.specs.Standing.{Size};
 
     ghost Value = { Size };
@@ -66,7 +87,8 @@ impl Model for Desk {
     ghost view = { λ d. record { vertices = vec_len d.marks; nets = vec_len d.walked; blocks = d.k } };
 
     ghost invariant = { λ d. (d.queue ≡ vec_len d.marks) × (d.k ≤ 256)
-        × All (λ m. m.start + d.k ≤ vec_len d.cells) d.marks.items
+        × All (λ m. m.row * d.k + d.k ≤ vec_len d.cells) d.marks.items
+        × All (λ m. m.row < vec_len d.used) d.marks.items
         × All (λ v. v < vec_len d.marks) d.listed.items };
 }
 
@@ -78,7 +100,7 @@ impl Desk {
     {
         let mark = Mark {
             search: 0,
-            start: 0,
+            row: 0,
             round: 0,
             listed: false,
         };
@@ -90,6 +112,7 @@ impl Desk {
             marks: vec![in alloc; mark; h.vertices() as usize]?,
             walked: vec![in alloc; 0u32; h.nets() as usize]?,
             cells: vec![in alloc; BLANK; k as usize]?,
+            used: vec![in alloc; Used::none(); 1]?,
             listed: Vec::new(alloc),
             queue: Queue::start(alloc, h.vertices()),
         })
@@ -152,6 +175,19 @@ impl Desk {
         Some(v)
     }
 
+    /// Peeks at the nets of the listed vertices that will be read.
+    pub(crate) fn approach(&self, shared: &Shared<'_>, mover: &mut Mover)
+        requires belongs { IsOf shared.now.round.now mover.old }
+        requires vertices { self.now.vertices ≡ vertex_count shared.now.h.now }
+        ensures mover { mover.new ≡ mover.old }
+    {
+        'listed: for v in self.listed.as_slice() {
+            if !self.is_read(*v) {
+                approach(shared, mover, *v);
+            }
+        }
+    }
+
     /// Walks a net, and tells whether it is the first time in this search.
     pub(crate) fn walk(&mut self, e: u32) -> bool
         requires { e < self.old.nets }
@@ -180,22 +216,24 @@ impl Desk {
         ensures mover { mover.new ≡ mover.old }
     {
         if self.marks[v as usize].search != self.search {
-            let start = self.next;
+            let row = self.next;
+            let start = start_of(row, self.k);
             if start >= MOST_CELLS {
                 return Ok(false);
             }
-            reach(&mut self.cells, (start + self.k) as usize)?;
-            self.next = start + self.k;
+            reach(&mut self.cells, start + self.k as usize)?;
+            reach_rows(&mut self.used, row as usize + 1)?;
+            self.next = row.wrapping_add(1);
             let mark = &mut self.marks[v as usize];
             mark.search = self.search;
-            mark.start = start;
+            mark.row = row;
         }
-        let start = self.marks[v as usize].start as usize;
+        let number = self.marks[v as usize].row;
+        let start = start_of(number, self.k);
         let row = &mut self.cells.as_mut_slice()[start..start + self.k as usize];
-        for cell in row.iter_mut() {
-            *cell = BLANK;
-        }
-        read_vertex(shared, mover, row, v, block);
+        let used = &mut self.used[number as usize];
+        *used = Used::none();
+        read_vertex(shared, mover, row, used, v, block);
         Ok(true)
     }
 
@@ -216,9 +254,10 @@ impl Desk {
         ensures block { IfSome result (λ c. c.to < shared.now.k) }
         ensures other { IfSome result (λ c. c.to ≢ block) }
     {
-        let start = self.marks[v as usize].start as usize;
+        let number = self.marks[v as usize].row;
+        let start = start_of(number, self.k);
         let row = &self.cells.as_slice()[start..start + self.k as usize];
-        best_block(shared, mover, row, v, block)
+        best_block(shared, mover, row, &self.used[number as usize], v, block)
     }
 
     /// Whether a vertex was read in this search.
@@ -242,9 +281,9 @@ impl Desk {
         }
         let mut rises = true;
         if mark.search == self.search {
-            let start = mark.start as usize;
+            let start = start_of(mark.row, self.k);
             let row = &mut self.cells.as_mut_slice()[start..start + self.k as usize];
-            rises = change.adjust(row, block);
+            rises = change.adjust(row, &mut self.used[mark.row as usize], block);
         }
         if rises && !mark.listed {
             self.marks[v as usize].listed = true;

@@ -104,6 +104,7 @@ impl Worker {
                 self.tell_net(shared, *e, from, to)?;
             }
         }
+        self.desk.approach(shared, &mut self.mover);
         'listed: for _ in 0..u32::MAX {
             let Some(u) = self.desk.unlist() else {
                 break;
