@@ -183,7 +183,7 @@ impl Worker {
         self.desk.offer(i64::MIN, 0, seed)?;
         let mut streak = Streak::new();
         'turns: for _ in 0..u32::MAX {
-            if streak.is_over() || shared.progress.is_stopped() {
+            if streak.is_over() {
                 break;
             }
             let Some(offer) = self.desk.pop() else {
