@@ -2,33 +2,23 @@
 use Rattle.std.proofs.Common.{◌≡◌, ◌≢◌, ◌⊎◌, inl, inr, ℕ, zero, suc, ◌+◌, ◌*◌, ◌<◌, ◌≤◌, Bool, true, false, ◌&&◌, ◌||◌, not, nat_eq, if◌then◌else◌}
 use Rattle.std.proofs.Common.{List, [], ◌∷◌, ◌++◌, length, map, All, get_or, refl, sym, ap, ◌∙◌, arith, slice_index, append_assoc}
 use Rattle.std.specs.List.{list_any, position_or_len}
-use Rattle.std.specs.Set.{is_member}
-use Rattle.std.proofs.lemmas.Bool.{cases_lt, eqb-true, eqb-false, ne_eqb, lt-ltb, le-ltb}
+use Rattle.std.proofs.lemmas.Bool.{cases_lt, eqb-true, ne_eqb, lt-ltb, le-ltb}
 use Rattle.std.proofs.lemmas.List.{get_or_at, get_or_append_left, length-append, length-map}
 use Rattle.std.proofs.lemmas.List.Elements.{All-nil, All-cons, All-head, All-tail, All-weaker}
 use Rattle.flow_net.specs.declared.network.Arc.{Arc}
-use Rattle.flow_net.specs.Flow.{FlowNetwork, is_in, cut_capacity, IsNetwork, IsFlow, IsFilledCut}
-use Rattle.flow_net.proofs.CutLaws.{flow_within_cut}
-use Rattle.hg_defs.specs.declared.objective.Objective.{Objective}
-use Rattle.hg_defs.specs.declared.objective.Objective.TheVariants.{Connectivity, CutNet, ExternalDegree}
+use Rattle.flow_net.specs.Flow.{is_in, cut_capacity}
 use Rattle.hg_defs.specs.Sums.{total}
-use Rattle.hg_defs.specs.Hypergraph.{Net, Hyper, IsHypergraph}
-use Rattle.hg_defs.specs.Partition.{block_of, IsPartition}
-use Rattle.hg_defs.specs.Cost.{cost}
-use Rattle.hg_defs.proofs.SumLaws.{total-append, total-filter, total-same_each, total-le, total-by_index, total-scale}
-use Rattle.round_log.specs.Rounds.{has_pin, leaves, pair_price, pair_cost, IsAssignment}
-use Rattle.flow_pair.specs.PairNetwork.{source_node, sink_node, node_of, joins, unbounded, net_price, pin_arcs}
+use Rattle.hg_defs.specs.Hypergraph.{Net, Hyper}
+use Rattle.hg_defs.specs.Partition.{block_of}
+use Rattle.hg_defs.proofs.SumLaws.{total-append}
+use Rattle.round_log.specs.Rounds.{has_pin, pair_cost, IsAssignment}
+use Rattle.flow_pair.specs.PairNetwork.{source_node, sink_node, node_of, unbounded, net_price, pin_arcs}
 use Rattle.flow_pair.specs.PairNetwork.{net_arcs, nets_arcs, joined_nets, pair_network, AreOfPair}
-use Rattle.flow_pair.specs.Laws.{AssignmentsAreCuts}
-use Rattle.flow_pair.proofs.PairLaws.{IsRearranged, rearranged, in_pair, same_leaves, pair_total, assignments_cost}
-use Rattle.flow_pair.proofs.RegionLaws.{joins_inside, joins_outside}
-
--- what an arc adds to a cut
-abbrev crossing : List Bool → Arc → ℕ
-crossing side arc = if is_in side arc.from && not (is_in side arc.to) then arc.cap else 0
-
-cut-total : (arcs : List Arc) (side : List Bool) → cut_capacity arcs side ≡ total (crossing side) arcs
-cut-total arcs side = sym (total-by_index (crossing side) (record { from = 0; to = 0; cap = 0 }) arcs)
+use Rattle.flow_pair.specs.PairEnds.{reassigned}
+use Rattle.flow_pair.specs.Laws.{AssignmentsAreCuts, CutsAreAssignments}
+use Rattle.flow_pair.proofs.PairLaws.{IsRearranged, rearranged, in_pair}
+use Rattle.flow_pair.proofs.ReassignLaws.{assigned_anew, anew_at, anew_places}
+use Rattle.flow_pair.proofs.CheapestLaws.{crossing, cut-total, different, position-at, position-past, touched-all, HasPlaces, pair_cost-le}
 
 -- each pin that passes a test makes it pass for the net
 any_each : (test : ℕ → Bool) (pins : List ℕ) → All (λ v. test v ≡ true → list_any test pins ≡ true) pins
@@ -41,9 +31,6 @@ any_each test (v ∷ pins) =
     later : (s t : Bool) → t ≡ true → (s || t) ≡ true
     later true t e = refl
     later false t e = e
-
-different : true ≡ false → ⊥
-different e = cc
 
 not-not : (t : Bool) → not (not t) ≡ t
 not-not true = refl
@@ -193,32 +180,12 @@ abbrev net_flags : List ℕ → ℕ → ℕ → List Net → List Bool
 net_flags q a b [] = []
 net_flags q a b (e ∷ nets) = has_pin q e a ∷ not (has_pin q e b) ∷ net_flags q a b nets
 
-abbrev region_flags : List ℕ → ℕ → List ℕ → List Bool
+abbrev pub region_flags : List ℕ → ℕ → List ℕ → List Bool
 region_flags q a region = map (λ v. nat_eq (block_of q v) a) region
 
 -- the source, the vertices in the first block, and each net's nodes where its pins want them
 abbrev side_of : List ℕ → ℕ → ℕ → List ℕ → List Net → List Bool
 side_of q a b region nets = true ∷ false ∷ (region_flags q a region ++ net_flags q a b nets)
-
-position-at : (xs : List ℕ) (v : ℕ) → position_or_len (nat_eq v) xs < length xs → slice_index xs (position_or_len (nat_eq v) xs) ≡ v
-position-at [] v l = absurd (omega arith)
-position-at (x ∷ xs) v l = by (nat_eq v x) refl l (position-at xs v)
-  where
-    by : (t : Bool) → nat_eq v x ≡ t → (if not t then 1 + position_or_len (nat_eq v) xs else 0) < suc (length xs)
-        → (position_or_len (nat_eq v) xs < length xs → slice_index xs (position_or_len (nat_eq v) xs) ≡ v)
-        → slice_index (x ∷ xs) (if not t then 1 + position_or_len (nat_eq v) xs else 0) ≡ v
-    by true e m r = sym (eqb-true v x e)
-    by false e m r =
-        ap (slice_index (x ∷ xs)) (let z : 1 + position_or_len (nat_eq v) xs ≡ suc (position_or_len (nat_eq v) xs) = omega arith in z) ∙ r (omega arith)
-
-position-past : (xs : List ℕ) (v : ℕ) → length xs ≤ position_or_len (nat_eq v) xs → All (λ u. u ≢ v) xs
-position-past [] v l = All-nil (λ u. u ≢ v)
-position-past (x ∷ xs) v l = by (nat_eq v x) refl l (position-past xs v)
-  where
-    by : (t : Bool) → nat_eq v x ≡ t → suc (length xs) ≤ (if not t then 1 + position_or_len (nat_eq v) xs else 0)
-        → (length xs ≤ position_or_len (nat_eq v) xs → All (λ u. u ≢ v) xs) → All (λ u. u ≢ v) (x ∷ xs)
-    by true e m r = absurd (omega arith)
-    by false e m r = All-cons (λ u. u ≢ v) x xs (λ z. eqb-false v x e (sym z)) (r (omega arith))
 
 -- a side that has the vertices of the region by their blocks has every node by its block
 pub nodes-fit : (p q region : List ℕ) (a b : ℕ) (side : List Bool) → IsAssignment p a b region q → is_in side source_node ≡ true →
@@ -260,63 +227,7 @@ flags-fit p q region a b h apart r side nodes before (n ∷ nets) at e is =
       flags-fit p q region a b h apart r side nodes (before ++ A ∷ B ∷ []) nets (at + 2) len_two next,
     )
 
--- what the joined nets pay is what all nets pay
-touched-all : (h : Hyper) (p q region : List ℕ) (a b : ℕ) (apart : a ≢ b) (r : IsRearranged p q a b) → IsAssignment p a b region q
-    → total (λ e. if has_pin q e a && has_pin q e b then net_price h p a b e else 0) (joined_nets h p a b region) ≡ pair_cost h q a b
-touched-all h p q region a b apart r s =
-    total-filter (λ e. if has_pin q e a && has_pin q e b then net_price h p a b e else 0) (joins p a b region) h.nets
-    ∙ total-same_each (λ e. if joins p a b region e then (if has_pin q e a && has_pin q e b then net_price h p a b e else 0) else 0)
-    (λ e. if has_pin q e a &&
-    has_pin q e b then pair_price h.objective (leaves q a b e) e.weight else 0) each h.nets
-    ∙ sym (pair_total h q a b)
-  where
-    same_block : (c : ℕ) (pins : List ℕ) → list_any (is_member nat_eq region) pins ≡ false → list_any (λ v. nat_eq (block_of p v) c) pins ≡ list_any
-        (λ v. nat_eq (block_of q v) c) pins
-    same_block c [] e = refl
-    same_block c (v ∷ pins) e = by (is_member nat_eq region v) refl e (same_block c pins)
-      where
-        absent : (xs : List ℕ) → is_member nat_eq xs v ≡ false → All (λ u. u ≢ v) xs
-        absent [] f = All-nil (λ u. u ≢ v)
-        absent (x ∷ xs) f = cases (nat_eq v x) refl f (absent xs)
-          where
-            cases : (t : Bool) → nat_eq v x ≡ t → (t || is_member nat_eq xs v) ≡ false → (is_member nat_eq xs v ≡ false → All (λ u. u ≢ v) xs) →
-                All (λ u. u ≢ v) (x ∷ xs)
-            cases true g f rest = absurd (different f)
-            cases false g f rest = All-cons (λ u. u ≢ v) x xs (λ z. eqb-false v x g (sym z)) (rest f)
-
-        by : (m : Bool) → is_member nat_eq region v ≡ m → (m || list_any (is_member nat_eq region) pins) ≡ false
-            → (list_any (is_member nat_eq region) pins ≡ false → list_any (λ u. nat_eq (block_of p u) c) pins ≡ list_any (λ u. nat_eq (block_of q u) c)
-            pins)
-            → (nat_eq (block_of p v) c || list_any (λ u. nat_eq (block_of p u) c) pins) ≡ (nat_eq (block_of q v) c ||
-            list_any (λ u. nat_eq (block_of q u) c)
-            pins)
-        by true f g rest = absurd (different g)
-        by false f g rest = ap (λ x. nat_eq x c || list_any (λ u. nat_eq (block_of p u) c) pins) (sym (s.outside v (absent region f))) ∙
-            ap (λ t. nat_eq (block_of q v) c || t) (rest g)
-
-    each : (e : Net) → (if joins p a b region e then (if has_pin q e a && has_pin q e b then net_price h p a b e else 0) else 0)
-        ≡ (if has_pin q e a && has_pin q e b then pair_price h.objective (leaves q a b e) e.weight else 0)
-    each e = by (has_pin q e a && has_pin q e b) refl (list_any (is_member nat_eq region) e.pins) refl
-      where
-        price : net_price h p a b e ≡ pair_price h.objective (leaves q a b e) e.weight
-        price = ap (λ t. pair_price h.objective t e.weight) (sym (same_leaves p q a b e r))
-
-        nothing : (t : Bool) (z : ℕ) → (if t then z else z) ≡ z
-        nothing true z = refl
-        nothing false z = refl
-
-        by : (t : Bool) → (has_pin q e a && has_pin q e b) ≡ t → (m : Bool) → list_any (is_member nat_eq region) e.pins ≡ m
-            → (if joins p a b region e then (if t then net_price h p a b e else 0) else 0) ≡ (if t then pair_price h.objective (leaves q a b e)
-            e.weight else 0)
-        by false f m g = nothing (joins p a b region e) 0
-        by true f true g = ap (λ t. if t then net_price h p a b e else 0) (joins_inside p a b region e g) ∙ price
-        by true f false g =
-            ap (λ t. if t then net_price h p a b e else 0)
-            (joins_outside p a b region e g ∙ ap (λ t. t && list_any (λ v. nat_eq (block_of p v) b) e.pins) (same_block a e.pins g) ∙
-            ap (λ t. has_pin q e a && t) (same_block b e.pins g) ∙ f)
-            ∙ price
-
-get_or-map_at : (test : ℕ → Bool) (xs : List ℕ) (i : ℕ) → i < length xs → get_or (map test xs) i false ≡ test (slice_index xs i)
+pub get_or-map_at : (test : ℕ → Bool) (xs : List ℕ) (i : ℕ) → i < length xs → get_or (map test xs) i false ≡ test (slice_index xs i)
 get_or-map_at test [] i l = absurd (omega arith)
 get_or-map_at test (x ∷ xs) zero l = refl
 get_or-map_at test (x ∷ xs) (suc i) l = get_or-map_at test xs i (omega arith)
@@ -354,69 +265,47 @@ module _ (h : Hyper) (p : List ℕ) (a b : ℕ) (region q : List ℕ) (apart : a
 pub assignments_are_cuts : AssignmentsAreCuts
 assignments_are_cuts h p a b region q apart inside s = (own_side h p a b region q apart inside s, refl, refl, own_cut h p a b region q apart inside s)
 
--- ---- the cut that a flow fills
+-- ---- the assignment of a cut
 
-price-le : (o : Objective) (L : Bool) (w : ℕ) → pair_price o L w ≤ 2 * w
-price-le Connectivity L w = omega arith
-price-le CutNet true w = omega arith
-price-le CutNet false w = omega arith
-price-le ExternalDegree true w = omega arith
-price-le ExternalDegree false w = omega arith
+-- the block of each vertex of a region by the sides of the nodes from a number on
+abbrev side_blocks : List Bool → ℕ → ℕ → ℕ → List ℕ → List ℕ
+side_blocks side a b n [] = []
+side_blocks side a b n (v ∷ vs) = (if is_in side n then a else b) ∷ side_blocks side a b (suc n) vs
 
-pair_cost-le : (h : Hyper) (q : List ℕ) (a b : ℕ) → pair_cost h q a b < unbounded h
-pair_cost-le h q a b =
-    let each = total-le (λ (e : Net). if has_pin q e a && has_pin q e b then pair_price h.objective (leaves q a b e) e.weight else 0)
-    (λ (e : Net). 2 * e.weight) h.nets
-    (λ i d l. by (has_pin q (get_or h.nets i d) a && has_pin q (get_or h.nets i d) b) (pair_price h.objective (leaves q a b (get_or h.nets i d))
-    (get_or h.nets i d).weight) (get_or h.nets i d).weight (price-le h.objective (leaves q a b (get_or h.nets i d)) (get_or h.nets i d).weight)) in
-    let all = pair_total h q a b in
-    let twice = total-scale 2 (λ (e : Net). e.weight) h.nets in
-    omega arith
+side_blocks-long : (side : List Bool) (a b n : ℕ) (vs : List ℕ) → length (side_blocks side a b n vs) ≡ length vs
+side_blocks-long side a b n [] = refl
+side_blocks-long side a b n (v ∷ vs) = ap suc (side_blocks-long side a b (suc n) vs)
+
+side_blocks-at : (side : List Bool) (a b n : ℕ) (vs : List ℕ) (i : ℕ) → i < length vs
+    → slice_index (side_blocks side a b n vs) i ≡ (if is_in side (n + i) then a else b)
+side_blocks-at side a b n [] i l = absurd (omega arith)
+side_blocks-at side a b n (v ∷ vs) zero l = ap (λ m. if is_in side m then a else b) (let z : n ≡ n + zero = omega arith in z)
+side_blocks-at side a b n (v ∷ vs) (suc i) l =
+    side_blocks-at side a b (suc n) vs i (omega arith) ∙ ap (λ m. if is_in side m then a else b) (let z : suc n + i ≡ n + suc i = omega arith in z)
+
+pub cuts_are_assignments : CutsAreAssignments
+cuts_are_assignments h p a b region side apart inside rises within source sink =
+    let blocks = side_blocks side a b 2 region in
+    let long = side_blocks-long side a b 2 region in
+    let each : (i : ℕ) → i < length blocks → slice_index blocks i ≡ (if is_in side (2 + i) then a else b) =
+    λ i l. side_blocks-at side a b 2 region i (omega arith) in
+    let q = reassigned p region blocks in
+    let s = assigned_anew p a b region blocks side apart rises within long each in (
+      q,
+      s,
+      anew_at p a b region blocks side apart rises within long each,
+      by q s (anew_places p a b region blocks side apart rises within long each)
+          (cases_lt (cut_capacity (pair_network h p a b region).arcs side) (unbounded h)),
+    )
   where
-    by : (t : Bool) (x w : ℕ) → x ≤ 2 * w → (if t then x else 0) ≤ 2 * w
-    by true x w l = l
-    by false x w l = omega arith
-
-module _ (h : Hyper) (k : ℕ) (p : List ℕ) (a b : ℕ) (region q : List ℕ) (network : FlowNetwork) (value : ℕ) (side : List Bool)
-    (sound : IsHypergraph h) (parted : IsPartition h k p) (first : a < k) (second : b < k) (apart : a ≢ b) (inside : AreOfPair p a b region)
-    (nodes : network.nodes ≡ (pair_network h p a b region).nodes) (arcs : network.arcs ≡ (pair_network h p a b region).arcs)
-    (joined : IsNetwork network) (flow : IsFlow network source_node sink_node) (cut : IsFilledCut network source_node sink_node value side)
-    (s : IsAssignment p a b region q) (places : (i : ℕ) → i < length region → is_in side (2 + i) ≡ nat_eq (block_of q (slice_index region i)) a) where
-  value-le : (other : List ℕ) → IsAssignment p a b region other → value ≤ pair_cost h other a b
-  value-le other t =
-      let w = assignments_are_cuts h p a b region other apart inside t in
-      let within = flow_within_cut network source_node sink_node w.0 joined (omega arith) flow w.1 w.2 in
-      let capacity : cut_capacity network.arcs w.0 ≡ pair_cost h other a b = ap (λ xs. cut_capacity xs w.0) arcs ∙ w.3 in
-      let filled = cut.flow in
-      omega arith
-
-  kept : IsAssignment p a b region p
-  kept = record { vertices = refl; inside = inside; outside = λ v n. refl }
-
-  value-small : value < unbounded h
-  value-small = let x = value-le p kept in let y = pair_cost-le h p a b in omega arith
-
-  cost-le : pair_cost h q a b ≤ value
-  cost-le =
-      let r = rearranged p q region a b inside s in
-      let fit = nodes-fit p q region a b side s cut.holds_source cut.lacks_sink places in
-      let total_is : total (crossing side) (nets_arcs h p a b region (2 + length region) (joined_nets h p a b region)) ≡ value =
-      sym (cut-total (nets_arcs h p a b region (2 + length region) (joined_nets h p a b region)) side) ∙ ap (λ xs. cut_capacity xs side) (sym arcs) ∙
-      cut.capacity in
-      let small = value-small in
-      let within = nets-within h p a b region q side apart r fit (2 + length region) (joined_nets h p a b region) (omega arith) in
-      let all = touched-all h p q region a b apart r s in
-      omega arith
-
-  pub value-is : value ≡ pair_cost h q a b
-  value-is = let x = value-le q s in let y = cost-le in omega arith
-
-  pub value-bound : value < unbounded h
-  value-bound = value-small
-
-  pub cheapest : (other : List ℕ) → IsAssignment p a b region other → cost h q ≤ cost h other
-  cheapest other t =
-      let x = assignments_cost h k p a b region q other sound parted first second apart inside s t in
-      let y = value-le other t in
-      let z = value-is in
-      omega arith
+    by : (q : List ℕ) → IsAssignment p a b region q → HasPlaces a region q side
+        → (cut_capacity (pair_network h p a b region).arcs side < unbounded h) ⊎ (unbounded h ≤ cut_capacity (pair_network h p a b region).arcs side)
+        → pair_cost h q a b ≤ cut_capacity (pair_network h p a b region).arcs side
+    by q s places (inr most) = let small = pair_cost-le h q a b in omega arith
+    by q s places (inl small) =
+        let r = rearranged p q region a b inside s in
+        let fit = nodes-fit p q region a b side s source sink places in
+        let all = cut-total (nets_arcs h p a b region (2 + length region) (joined_nets h p a b region)) side in
+        let within = nets-within h p a b region q side apart r fit (2 + length region) (joined_nets h p a b region) (omega arith) in
+        let paid = touched-all h p q region a b apart r s in
+        omega arith

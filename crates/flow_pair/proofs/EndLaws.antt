@@ -3,7 +3,6 @@ use Rattle.std.proofs.Common.{◌≡◌, ◌≢◌, ◌⊎◌, inl, inr, ℕ, �
 use Rattle.std.proofs.Common.{nat_eq, if◌then◌else◌, List, length, All}
 use Rattle.std.proofs.Common.{Contains, refl, sym, ap, ◌∙◌, subst, arith, slice_index}
 use Rattle.std.specs.List.Sorted.{IsStrictlyIncreasing}
-use Rattle.std.proofs.lemmas.Bool.{eq-eqb, ne_eqb}
 use Rattle.std.proofs.lemmas.List.{get_or_default}
 use Rattle.std.proofs.lemmas.List.Elements.{All-weaker, All-contains, All-contains_itself}
 use Rattle.hg_defs.specs.Hypergraph.{Net, Hyper, IsFree, IsNet, IsHypergraph, IsWithinLimits, vertex_count}
@@ -16,11 +15,11 @@ use Rattle.round_log.proofs.FlowLaws.{region-free}
 use Rattle.round_log.proofs.RegionLaws.{side_is_ranked, region_has_sides, region_rises}
 use Rattle.round_log.proofs.AssignmentLaws.{assignment-fits}
 use Rattle.flow_pair.specs.declared.solve.PairEnd.{PairEnd}
-use Rattle.flow_pair.specs.PairNetwork.{source_node, sink_node, pair_network, AreOfPair}
+use Rattle.flow_pair.specs.PairNetwork.{source_node, sink_node, AreOfPair}
 use Rattle.flow_pair.specs.PairEnds.{reassigned, IsPairEnd}
 use Rattle.flow_pair.proofs.PairLaws.{IsRearranged, rearranged}
-use Rattle.flow_pair.proofs.ReassignLaws.{length-reassigned, reassigned-other, reassigned-at}
-use Rattle.flow_pair.proofs.AssignmentLaws.{value-is, value-bound, cheapest}
+use Rattle.flow_pair.proofs.ReassignLaws.{reassigned-at, assigned_anew, anew_places}
+use Rattle.flow_pair.proofs.CheapestLaws.{CutsPay, HasPlaces, value-is, value-bound, cheapest}
 
 -- ---- the vertices of a region
 
@@ -45,18 +44,9 @@ region_vertices h l p a b sound = All-weaker (Contains (region h l p a b)) (λ v
 
 -- ---- the end
 
-pair_of : (t : Bool) (a b : ℕ) → a ≢ b → nat_eq (if t then a else b) a ≡ t
-pair_of true a b n = eq-eqb a a refl
-pair_of false a b n = ne_eqb b a (λ e. n (sym e))
-
-one_of : (t : Bool) (a b x : ℕ) → x ≡ (if t then a else b) → (x ≡ a) ⊎ (x ≡ b)
-one_of true a b x e = inl e
-one_of false a b x e = inr e
-
-module _ (h : Hyper) (k l : ℕ) (p : List ℕ) (a b : ℕ) (blocks : List ℕ) (network : FlowNetwork) (value : ℕ) (flags : List Bool)
+module _ (h : Hyper) (k l : ℕ) (p : List ℕ) (a b : ℕ) (blocks : List ℕ) (network : FlowNetwork) (value : ℕ) (flags : List Bool) (c : ℕ)
     (sound : IsHypergraph h) (bounds : IsWithinLimits h) (parted : IsPartition h k p) (fits : Fits h k l p) (order : a < b) (second : b < k)
-    (nodes : network.nodes ≡ (pair_network h p a b (region h l p a b)).nodes) (arcs : network.arcs ≡ (pair_network h p a b (region h l p a b)).arcs)
-    (joined : IsNetwork network)
+    (nodes : source_node < network.nodes) (pays : CutsPay h p a b (region h l p a b) network.arcs c) (joined : IsNetwork network)
     (flow : IsFlow network source_node sink_node) (cut : IsFilledCut network source_node sink_node value flags)
     (count : length blocks ≡ length (region h l p a b)) (each : (i : ℕ) → i < length blocks → slice_index blocks i ≡ (if is_in flags (2 + i) then a else b))
   where
@@ -67,32 +57,20 @@ module _ (h : Hyper) (k l : ℕ) (p : List ℕ) (a b : ℕ) (blocks : List ℕ) 
     inside_p = All-weaker (λ v. v < vertex_count h) (λ v. v < length p) (λ v m. let e = parted.vertices in omega arith) (region h l p a b)
         (region_vertices h l p a b sound)
 
-    block_at : (i : ℕ) → i < length (region h l p a b) → block_of (reassigned p (region h l p a b) blocks) (slice_index (region h l p a b) i) ≡
-        (if is_in flags (2 + i) then a else b)
-    block_at i m = reassigned-at p (region h l p a b) blocks i (region_rises h l p a b) inside_p count m ∙ each i (omega arith)
+    anew : IsAssignment p a b (region h l p a b) (reassigned p (region h l p a b) blocks)
+    anew = assigned_anew p a b (region h l p a b) blocks flags apart (region_rises h l p a b) inside_p count each
 
-    assigned_anew : IsAssignment p a b (region h l p a b) (reassigned p (region h l p a b) blocks)
-    assigned_anew = record {
-      vertices = length-reassigned p (region h l p a b) blocks;
-      inside = λ i d m. subst (λ v. (block_of (reassigned p (region h l p a b) blocks) v ≡ a) ⊎ (block_of (reassigned p (region h l p a b) blocks) v ≡ b))
-          (get_or_default (region h l p a b) i 0 d m)
-          (one_of (is_in flags (2 + i)) a b (block_of (reassigned p (region h l p a b) blocks) (slice_index (region h l p a b) i)) (block_at i m));
-      outside = λ v n. reassigned-other p (region h l p a b) blocks v n;
-    }
+    places : HasPlaces a (region h l p a b) (reassigned p (region h l p a b) blocks) flags
+    places = anew_places p a b (region h l p a b) blocks flags apart (region_rises h l p a b) inside_p count each
 
-    places : (i : ℕ) → i < length (region h l p a b) → is_in flags (2 + i) ≡ nat_eq (block_of (reassigned p (region h l p a b) blocks)
-        (slice_index (region h l p a b) i)) a
-    places i m = sym (ap (λ x. nat_eq x a) (block_at i m) ∙ pair_of (is_in flags (2 + i)) a b apart)
-
-    pub end_value-small : value < 2 ^ 64
+    pub end_value-small : value + c < 2 ^ 64
     end_value-small =
-        let small = value-bound h k p a b (region h l p a b) (reassigned p (region h l p a b) blocks) network value flags sound parted (omega arith) second
-        apart
-        (region_pair h l p a b) nodes arcs joined flow cut assigned_anew places in
+        let small = value-bound h k p a b (region h l p a b) (reassigned p (region h l p a b) blocks) network value flags c sound parted (omega arith) second
+        apart (region_pair h l p a b) nodes pays joined flow cut anew places in
         let weight = bounds.net_weight in
         omega arith
 
-    pub pair_end : (end : PairEnd) → end.region ≡ region h l p a b → end.blocks ≡ blocks → end.value ≡ value → IsPairEnd h k l p a b end
+    pub pair_end : (end : PairEnd) → end.region ≡ region h l p a b → end.blocks ≡ blocks → end.value ≡ value + c → IsPairEnd h k l p a b end
     pair_end end e f g =
         let q = reassigned p (region h l p a b) blocks in
         let same : reassigned p end.region end.blocks ≡ q = ap (λ vs. reassigned p vs end.blocks) e ∙ ap (reassigned p (region h l p a b)) f in
@@ -100,17 +78,14 @@ module _ (h : Hyper) (k l : ℕ) (p : List ℕ) (a b : ℕ) (blocks : List ℕ) 
           vertices_of = e;
           blocks_of = ap length f ∙ count ∙ sym (ap length e);
           assigned = subst (λ vs. IsAssignment p a b vs (reassigned p end.region end.blocks)) (sym e)
-              (subst (IsAssignment p a b (region h l p a b)) (sym same)
-              assigned_anew);
-          fits = subst (Fits h k l) (sym same) (assignment-fits h k l p a b q (omega arith) second parted fits assigned_anew);
+              (subst (IsAssignment p a b (region h l p a b)) (sym same) anew);
+          fits = subst (Fits h k l) (sym same) (assignment-fits h k l p a b q (omega arith) second parted fits anew);
           cheapest = λ other t.
               subst (λ x. cost h x ≤ cost h other) (sym same)
-              (cheapest h k p a b (region h l p a b) q network value flags sound parted (omega arith) second apart (region_pair h l p a b) nodes arcs
-              joined flow
-              cut assigned_anew places other
-              (subst (λ vs. IsAssignment p a b vs other) e t));
-          value = g ∙ value-is h k p a b (region h l p a b) q network value flags sound parted (omega arith) second apart (region_pair h l p a b) nodes arcs
-              joined flow cut assigned_anew places ∙ ap (λ x. pair_cost h x a b) (sym same);
+              (cheapest h k p a b (region h l p a b) q network value flags c sound parted (omega arith) second apart (region_pair h l p a b) nodes pays
+              joined flow cut anew places other (subst (λ vs. IsAssignment p a b vs other) e t));
+          value = g ∙ value-is h k p a b (region h l p a b) q network value flags c sound parted (omega arith) second apart (region_pair h l p a b) nodes pays
+              joined flow cut anew places ∙ ap (λ x. pair_cost h x a b) (sym same);
         }
 
 -- ---- what an end says

@@ -1,7 +1,10 @@
 pub mod MemberLaws
 pub mod PairLaws
 pub mod RegionLaws
+pub mod CheapestLaws
 pub mod AssignmentLaws
+pub mod ShortLaws
+pub mod ShortArcLaws
 pub mod NetLaws
 pub mod CutNetLaws
 pub mod FormLaws

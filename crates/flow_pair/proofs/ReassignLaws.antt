@@ -1,10 +1,14 @@
 -- A partition after the vertices of a list got the blocks at their places.
-use Rattle.std.proofs.Common.{◌≡◌, ◌≢◌, ℕ, zero, suc, ◌+◌, ◌<◌, List, [], ◌∷◌, length, All, drop, refl, sym, ap, subst, ◌∙◌, arith}
+use Rattle.std.proofs.Common.{◌≡◌, ◌≢◌, ◌⊎◌, inl, inr, ℕ, zero, suc, ◌+◌, ◌<◌, Bool, true, false, nat_eq, if◌then◌else◌}
+use Rattle.std.proofs.Common.{List, [], ◌∷◌, length, All, drop, refl, sym, ap, subst, ◌∙◌, arith}
 use Rattle.std.proofs.Common.{slice_index, slice_set, get_or-set_same, get_or-set_other, length-set}
 use Rattle.std.specs.List.Sorted.{IsStrictlyIncreasing}
+use Rattle.std.proofs.lemmas.Bool.{eq-eqb, ne_eqb}
 use Rattle.std.proofs.lemmas.List.{get_or_default, drop_more}
 use Rattle.std.proofs.lemmas.List.Elements.{All-head, All-tail}
 use Rattle.hg_defs.specs.Partition.{block_of}
+use Rattle.flow_net.specs.Flow.{is_in}
+use Rattle.round_log.specs.Rounds.{IsAssignment}
 use Rattle.flow_pair.specs.PairEnds.{reassigned}
 use Rattle.flow_pair.proofs.RegionLaws.{rising-tail, rising-first}
 
@@ -64,3 +68,31 @@ pub rising-later : (vs : List ℕ) (i : ℕ) → IsStrictlyIncreasing vs → i <
 rising-later vs i r l =
     let e : suc i ≡ i + 1 = omega arith in
     subst (λ n. All (λ u. u ≢ slice_index vs i) (drop n vs)) e (rising_rest vs i r l)
+
+-- ---- a region after each vertex got one of two blocks, by the sides of the nodes from 2 on
+
+pair_of : (t : Bool) (a b : ℕ) → a ≢ b → nat_eq (if t then a else b) a ≡ t
+pair_of true a b n = eq-eqb a a refl
+pair_of false a b n = ne_eqb b a (λ e. n (sym e))
+
+one_of : (t : Bool) (a b x : ℕ) → x ≡ (if t then a else b) → (x ≡ a) ⊎ (x ≡ b)
+one_of true a b x e = inl e
+one_of false a b x e = inr e
+
+module _ (p : List ℕ) (a b : ℕ) (region blocks : List ℕ) (side : List Bool) (apart : a ≢ b) (rises : IsStrictlyIncreasing region)
+    (within : All (λ v. v < length p) region) (long : length blocks ≡ length region)
+    (each : (i : ℕ) → i < length blocks → slice_index blocks i ≡ (if is_in side (2 + i) then a else b)) where
+  pub anew_at : (i : ℕ) → i < length region → block_of (reassigned p region blocks) (slice_index region i) ≡ (if is_in side (2 + i) then a else b)
+  anew_at i m = reassigned-at p region blocks i rises within long m ∙ each i (omega arith)
+
+  pub assigned_anew : IsAssignment p a b region (reassigned p region blocks)
+  assigned_anew = record {
+    vertices = length-reassigned p region blocks;
+    inside = λ i d m. subst (λ v. (block_of (reassigned p region blocks) v ≡ a) ⊎ (block_of (reassigned p region blocks) v ≡ b))
+        (get_or_default region i 0 d m)
+        (one_of (is_in side (2 + i)) a b (block_of (reassigned p region blocks) (slice_index region i)) (anew_at i m));
+    outside = λ v n. reassigned-other p region blocks v n;
+  }
+
+  pub anew_places : (i : ℕ) → i < length region → is_in side (2 + i) ≡ nat_eq (block_of (reassigned p region blocks) (slice_index region i)) a
+  anew_places i m = sym (ap (λ x. nat_eq x a) (anew_at i m) ∙ pair_of (is_in side (2 + i)) a b apart)

@@ -1,5 +1,6 @@
 -- The laws of pairs of blocks.
-use Rattle.std.specs.Prelude.{◌≡◌, ◌≢◌, ℕ, ◌<◌, List, All, Bool, true, false, pos, ◌-ℤ◌}
+use Rattle.std.specs.Prelude.{◌≡◌, ◌≢◌, ℕ, ◌+◌, ◌<◌, ◌≤◌, List, length, slice_index, All, Bool, true, false, if◌then◌else◌, pos, ◌-ℤ◌}
+use Rattle.std.specs.List.Sorted.{IsStrictlyIncreasing}
 use Rattle.hg_defs.specs.Hypergraph.{Net, Hyper, IsHypergraph}
 use Rattle.hg_defs.specs.Partition.{IsPartition, block_of, load}
 use Rattle.hg_defs.specs.Cost.{cost}
@@ -23,6 +24,16 @@ AssignmentsAreCuts =
     → (side : List Bool) × (is_in side source_node ≡ true) × (is_in side sink_node ≡ false) × (cut_capacity (pair_network h p a b region).arcs side ≡
     pair_cost
     h q a b)
+
+-- each cut between them is an assignment, by the sides of the region's nodes, for which the nets pay no more than its capacity
+abbrev pub CutsAreAssignments : Type 0
+CutsAreAssignments =
+    (h : Hyper) (p : List ℕ) (a b : ℕ) (region : List ℕ) (side : List Bool)
+    → a ≢ b → AreOfPair p a b region → IsStrictlyIncreasing region → All (λ v. v < length p) region
+    → is_in side source_node ≡ true → is_in side sink_node ≡ false
+    → (q : List ℕ) × IsAssignment p a b region q
+    × ((i : ℕ) → i < length region → block_of q (slice_index region i) ≡ (if is_in side (2 + i) then a else b))
+    × (pair_cost h q a b ≤ cut_capacity (pair_network h p a b region).arcs side)
 
 -- where the vertices of a pair are assigned anew, another pair without a block in common keeps its nets, its sides, what its nets pay and its loads
 abbrev pub PairsKeepApart : Type 0

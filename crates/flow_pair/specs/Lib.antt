@@ -1,4 +1,5 @@
 pub mod PairNetwork
+pub mod ShortNetwork
 pub mod Laws
 pub mod Sides
 pub mod CutNets

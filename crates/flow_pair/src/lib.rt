@@ -11,6 +11,7 @@ mod pass;
 mod refine;
 mod region;
 mod round;
+mod short;
 mod solve;
 
 pub use cut_nets::CutNets;

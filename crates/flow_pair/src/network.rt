@@ -95,7 +95,7 @@ fn add_nets(pair: Pair<'_>, network: &mut Network, nets: &[u32]) -> Result<(), N
 }
 
 /// The nets that join the network of a region: those that touch both blocks, and those of its vertices.
-fn nets_of_region(
+pub(crate) fn nets_of_region(
     alloc: Global,
     h: &Hypergraph,
     region: &[u32],

@@ -61,6 +61,14 @@ pub(crate) fn contains(list: &[u32], v: u32) -> bool
 }
 
 impl Pair<'_> {
+    /// The place of a vertex in the region, or the region's length where it is not there.
+    pub(crate) fn place(&self, v: u32) -> usize
+        requires { v < vertex_count self.now.h.now }
+        ensures { result ≡ position_or_len (nat_eq v) self.now.region.now }
+    {
+        place_of(self.region, v)
+    }
+
     /// The node of a vertex of one of the blocks.
     pub(crate) fn node_of(&self, v: u32) -> u32
         requires { v < vertex_count self.now.h.now }

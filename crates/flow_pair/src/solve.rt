@@ -10,9 +10,9 @@ ghost use Rattle.flow_pair.specs.PairNetwork.{unbounded};
 ghost use Rattle.flow_pair.specs.Sides.{touching_nets};
 
 use crate::cut::touching_nets_of;
-use crate::network::build_network;
 use crate::pair::more_than_all;
 use crate::region::form_region;
+use crate::short::build_short;
 use flow_net::{NoMemory, Workspace};
 use hg_base::{Blocks, Verts};
 use incidence::Hypergraph;
@@ -68,13 +68,13 @@ fn solve_region(
 {
     let _blocks = p.blocks();
     let region = form_region(alloc, h, p, a, b, nets)?;
-    let mut network = build_network(alloc, h, p, a, b, region.slice(), nets, most)?;
-    let cut = network.max_flow_in(space, 0, 1)?;
+    let mut short = build_short(alloc, h, p, a, b, region.slice(), nets, most)?;
+    let cut = short.network.max_flow_in(space, 0, 1)?;
     let blocks = blocks_of(alloc, cut.side.slice(), region.len(), a, b)?;
     Ok(PairEnd {
         region,
         blocks,
-        value: cut.value as u64,
+        value: cut.value as u64 + short.fixed,
     })
 }
 
