@@ -1,16 +1,17 @@
 -- Places in a region, and the arcs of pins and nets one after the other.
 use Rattle.std.proofs.Common.{◌≡◌, ◌≢◌, ◌⊎◌, inl, inr, ℕ, zero, suc, ◌+◌, ◌*◌, ◌<◌, ◌≤◌, Bool, true, false, ◌&&◌, ◌||◌, not, nat_eq, nat_lt, if◌then◌else◌}
-use Rattle.std.proofs.Common.{List, [], ◌∷◌, ◌++◌, length, map, replicate, drop, get_or, All, refl, sym, ap, ap₂, ◌∙◌, subst, arith, slice_index, append_assoc}
+use Rattle.std.proofs.Common.{List, [], ◌∷◌, ◌++◌, length, map, replicate, drop, All, refl, sym, ap, ap₂, ◌∙◌, subst, arith}
+use Rattle.std.proofs.Common.{slice_index, slice_set, get_or-set_same, get_or-set_other, append_assoc}
 use Rattle.std.specs.List.{list_any, position_or_len}
 use Rattle.std.specs.List.Sorted.{IsStrictlyIncreasing}
 use Rattle.std.specs.Set.{is_member}
-use Rattle.std.proofs.lemmas.Bool.{cases_lt, eq-eqb, ne_eqb, lt-ltb, le-ltb}
+use Rattle.std.proofs.lemmas.Bool.{cases_lt, cases_eq, eq-eqb, ne_eqb, lt-ltb, le-ltb}
 use Rattle.std.proofs.lemmas.List.{drop_more, drop_all, append-nil, length-append, length-map}
 use Rattle.flow_net.specs.declared.network.Arc.{Arc}
 use Rattle.flow_net.specs.Flow.{FlowNetwork}
 use Rattle.hg_defs.specs.Hypergraph.{Net, Hyper, net_of}
 use Rattle.hg_defs.specs.Partition.{block_of}
-use Rattle.flow_pair.specs.PairNetwork.{node_of, unbounded, joins, has_pin_outside, pin_arcs, net_arcs, nets_arcs, joined_nets, pair_network, IsIdle}
+use Rattle.flow_pair.specs.PairNetwork.{node_of, unbounded, joins, has_pin_outside, pin_arcs, net_arcs, nets_arcs, joined_nets, pair_network, IsIdle, ArePlaces}
 
 -- ---- places in rising lists
 
@@ -34,6 +35,9 @@ rising-le (x ∷ xs) r zero (suc j) l m = let a = rising-first x xs j r (omega a
 rising-le (x ∷ xs) r (suc i) zero l m = absurd (omega arith)
 rising-le (x ∷ xs) r (suc i) (suc j) l m = rising-le xs (rising-tail x xs r) i j (omega arith) (omega arith)
 
+rising-lt : (xs : List ℕ) → IsStrictlyIncreasing xs → (i j : ℕ) → i < j → j < length xs → slice_index xs i < slice_index xs j
+rising-lt xs r i j l m = let a = r i (omega arith) in let b = rising-le xs r (i + 1) j (omega arith) m in omega arith
+
 pub position-here : (xs : List ℕ) (v i : ℕ) → IsStrictlyIncreasing xs → i < length xs → slice_index xs i ≡ v → position_or_len (nat_eq v) xs ≡ i
 position-here [] v i r l e = absurd (omega arith)
 position-here (x ∷ xs) v zero r l e = ap (λ t. if not t then 1 + position_or_len (nat_eq v) xs else 0) (eq-eqb v x (sym e))
@@ -55,6 +59,27 @@ position-le (x ∷ xs) v = by (nat_eq v x) (position-le xs v)
     by : (t : Bool) → position_or_len (nat_eq v) xs ≤ length xs → (if not t then 1 + position_or_len (nat_eq v) xs else 0) ≤ suc (length xs)
     by true l = omega arith
     by false l = omega arith
+
+-- one place more is written
+pub place_next : (region places : List ℕ) (i : ℕ) → IsStrictlyIncreasing region → All (λ v. v < length places) region → i < length region
+    → ((j : ℕ) → j < i → slice_index places (slice_index region j) ≡ j)
+    → (j : ℕ) → j < i + 1 → slice_index (slice_set places (slice_index region i) i) (slice_index region j) ≡ j
+place_next region places i r all l placed j m = by (cases_eq j i)
+  where
+    by : (j ≡ i) ⊎ (j ≢ i) → slice_index (slice_set places (slice_index region i) i) (slice_index region j) ≡ j
+    by (inl e) =
+        ap (λ k. slice_index (slice_set places (slice_index region i) i) (slice_index region k)) e
+        ∙ get_or-set_same places (slice_index region i) i 0 (all i 0 l) ∙ sym e
+    by (inr n) =
+        let below = rising-lt region r j i (omega arith) l in
+        get_or-set_other places (slice_index region i) (slice_index region j) i 0 (λ e. absurd (omega arith)) ∙ placed j (omega arith)
+
+-- a number that isn't at the place written for it is not in the list
+pub place_none : (region places : List ℕ) (v : ℕ) → ArePlaces region places
+    → (slice_index places v < length region → slice_index region (slice_index places v) ≢ v) → length region ≡ position_or_len (nat_eq v) region
+place_none region places v placed none = sym (position-none region v (λ i l e.
+    let at : slice_index places v ≡ i = ap (slice_index places) (sym e) ∙ placed i l in
+    none (omega arith) (ap (slice_index region) at ∙ e)))
 
 -- a number is in the list where it has a place
 pub member-position : (xs : List ℕ) (v : ℕ) → is_member nat_eq xs v ≡ nat_lt (position_or_len (nat_eq v) xs) (length xs)

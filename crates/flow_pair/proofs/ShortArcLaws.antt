@@ -1,23 +1,22 @@
 -- The arcs of the solver's network, one after the other.
-use Rattle.std.proofs.Common.{◌≡◌, ◌≢◌, ◌⊎◌, inl, inr, ℕ, zero, suc, ◌+◌, ◌*◌, ◌<◌, ◌≤◌, Bool, true, false, ◌&&◌, ◌||◌, not, nat_eq, nat_lt}
+use Rattle.std.proofs.Common.{◌≡◌, ◌⊎◌, inl, inr, ℕ, suc, ◌+◌, ◌*◌, ◌<◌, ◌≤◌, Bool, true, false, ◌&&◌, ◌||◌, not, nat_eq, nat_lt}
 use Rattle.std.proofs.Common.{if◌then◌else◌, List, [], ◌∷◌, ◌++◌, length, map, replicate, drop, All, get_or, refl, sym, ap, ap₂, ◌∙◌, subst, arith}
 use Rattle.std.proofs.Common.{slice_index, append_assoc}
 use Rattle.std.specs.List.{position_or_len}
 use Rattle.std.specs.Set.{is_member}
 use Rattle.std.proofs.lemmas.Bool.{cases_lt, lt-ltb, le-ltb}
-use Rattle.std.proofs.lemmas.List.{drop_more, drop_all, append-nil, length-append, length-map}
+use Rattle.std.proofs.lemmas.List.{drop_more, drop_all, append-nil, length-append}
 use Rattle.std.proofs.lemmas.List.Elements.{All-nil, All-cons}
 use Rattle.flow_net.specs.declared.network.Arc.{Arc}
 use Rattle.flow_net.specs.Flow.{FlowNetwork}
-use Rattle.hg_defs.specs.declared.objective.Objective.{Objective}
 use Rattle.hg_defs.specs.Sums.{total}
 use Rattle.hg_defs.specs.Hypergraph.{Net, Hyper, net_of}
 use Rattle.hg_defs.proofs.SumLaws.{total-le, total-scale}
 use Rattle.hg_defs.proofs.ContractionLaws.{total-filter-le}
 use Rattle.round_log.specs.Rounds.{leaves, pair_price}
-use Rattle.flow_pair.specs.PairNetwork.{source_node, sink_node, unbounded, net_price, joins, joined_nets, has_pin_outside, Extends, IsIdle}
+use Rattle.flow_pair.specs.PairNetwork.{unbounded, net_price, joins, joined_nets, has_pin_outside, IsIdle}
 use Rattle.flow_pair.specs.ShortNetwork.{inner_nodes, arcs_to_each, arcs_from_each, source_arcs, sink_arcs, inner_arcs, end_arcs}
-use Rattle.flow_pair.specs.ShortNetwork.{outer_count, inner_count, end_count, short_arcs, short_count, all_short_arcs, fixed_price, fixed_cost, short_network}
+use Rattle.flow_pair.specs.ShortNetwork.{outer_count, inner_count, end_count, short_arcs, short_count, all_short_arcs, fixed_price, short_network}
 use Rattle.flow_pair.proofs.RegionLaws.{member-position}
 use Rattle.flow_pair.proofs.CheapestLaws.{different, price-le}
 

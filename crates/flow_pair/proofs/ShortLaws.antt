@@ -1,12 +1,12 @@
 -- The cuts of the solver's network: what a net adds to one, by the sides of its ends.
-use Rattle.std.proofs.Common.{◌≡◌, ◌≢◌, ◌⊎◌, inl, inr, ℕ, zero, suc, ◌+◌, ◌*◌, ◌<◌, ◌≤◌, Bool, true, false, ◌&&◌, ◌||◌, not, nat_eq, nat_lt}
-use Rattle.std.proofs.Common.{if◌then◌else◌, List, [], ◌∷◌, ◌++◌, length, map, All, refl, sym, ap, ap₂, ◌∙◌, subst, arith, slice_index, append_assoc}
+use Rattle.std.proofs.Common.{◌≡◌, ◌≢◌, ◌⊎◌, inl, inr, ℕ, suc, ◌+◌, ◌<◌, ◌≤◌, Bool, true, false, ◌&&◌, ◌||◌, not, nat_eq, nat_lt}
+use Rattle.std.proofs.Common.{if◌then◌else◌, List, [], ◌∷◌, ◌++◌, length, refl, sym, ap, ap₂, ◌∙◌, subst, arith, slice_index, append_assoc}
 use Rattle.std.specs.List.{list_any, position_or_len}
 use Rattle.std.specs.Set.{is_member}
 use Rattle.std.proofs.lemmas.Bool.{cases_lt, eq-eqb, ne_eqb, lt-ltb, le-ltb}
 use Rattle.std.proofs.lemmas.List.{get_or_at, get_or_append_left, length-append, length-map}
 use Rattle.flow_net.specs.declared.network.Arc.{Arc}
-use Rattle.flow_net.specs.Flow.{is_in, cut_capacity}
+use Rattle.flow_net.specs.Flow.{FlowNetwork, is_in, cut_capacity}
 use Rattle.hg_defs.specs.Sums.{total}
 use Rattle.hg_defs.specs.Hypergraph.{Net, Hyper}
 use Rattle.hg_defs.specs.Partition.{block_of}
@@ -540,3 +540,11 @@ short_pays h p a b region apart inside = record {
       let paid = touched-all h p q region a b apart (rearranged p q region a b inside s) s in
       omega arith;
 }
+
+-- the same of what was built and solved
+pub built_pays : (h : Hyper) (p : List ℕ) (a b : ℕ) (region : List ℕ) (built : FlowNetwork) (arcs : List Arc) (fixed : ℕ) → a < b → AreOfPair p a b region
+    → built ≡ short_network h p a b region → arcs ≡ built.arcs → fixed ≡ fixed_cost h p a b region → CutsPay h p a b region arcs fixed
+built_pays h p a b region built arcs fixed order inside is same c =
+    subst (CutsPay h p a b region arcs) (sym c)
+    (subst (λ xs. CutsPay h p a b region xs (fixed_cost h p a b region)) (sym (same ∙ ap (λ n. n.arcs) is))
+    (short_pays h p a b region (λ e. absurd (omega arith)) inside))

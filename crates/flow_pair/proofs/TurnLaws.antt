@@ -5,7 +5,6 @@ use Rattle.std.specs.List.{range_with_len, flat_map}
 use Rattle.std.proofs.lemmas.List.{append_assoc, append-nil}
 use Rattle.std.proofs.lemmas.List.Concat.{flat_map-cons}
 use Rattle.std.proofs.lemmas.List.Elements.{All-nil, All-cons, All-append, All-weaker}
-use Rattle.hg_defs.specs.Sums.{total}
 use Rattle.hg_defs.specs.Hypergraph.{Hyper}
 use Rattle.hg_defs.specs.Partition.{IsPartition, Fits}
 use Rattle.hg_defs.specs.Cost.{cost}
@@ -13,11 +12,11 @@ use Rattle.pin_plain.specs.Parted.{Parted}
 use Rattle.round_log.specs.declared.record.Kind.TheVariants.{Flow}
 use Rattle.round_log.specs.declared.record.LoggedRound.{LoggedRound}
 use Rattle.round_log.specs.Rounds.{touching, after_round, after_rounds}
-use Rattle.round_log.specs.Passes.{block_pairs, AreFlowRounds, saved}
+use Rattle.round_log.specs.Passes.{block_pairs, AreFlowRounds}
 use Rattle.round_log.proofs.PassLaws.{pass-saves}
 use Rattle.refiner.specs.declared.pass.Task.{Task}
 use Rattle.refiner.specs.declared.pass.Tally.{Tally}
-use Rattle.refiner.specs.Logging.{LogsRounds, LogsPass}
+use Rattle.refiner.specs.Logging.{LogsPass}
 use Rattle.flow_pair.specs.Turns.{RecordsFlow, LeadsOn, TakesTurns, TakesTurn}
 
 -- ---- the pairs that are left

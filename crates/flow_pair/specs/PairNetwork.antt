@@ -1,5 +1,5 @@
 -- The flow network of a region of two blocks: its cuts are the assignments of the region, and cost what the nets pay for touching both blocks.
-use Rattle.std.specs.Prelude.{◌≡◌, ◌⊎◌, ℕ, ◌+◌, ◌*◌, List, [], ◌∷◌, ◌++◌, length, filter, replicate, All}
+use Rattle.std.specs.Prelude.{◌≡◌, ◌⊎◌, ℕ, ◌+◌, ◌*◌, ◌<◌, List, [], ◌∷◌, ◌++◌, length, slice_index, filter, replicate, All}
 use Rattle.std.specs.Prelude.{Bool, not, ◌&&◌, ◌||◌, nat_eq, nat_lt, if◌then◌else◌}
 use Rattle.std.specs.List.{list_any, position_or_len}
 use Rattle.std.specs.Set.{is_member}
@@ -74,6 +74,10 @@ pair_network h p a b region =
 -- the vertices are in one of the two blocks
 abbrev pub AreOfPair : List ℕ → ℕ → ℕ → List ℕ → Type 0
 AreOfPair p a b vs = All (λ v. (block_of p v ≡ a) ⊎ (block_of p v ≡ b)) vs
+
+-- each vertex of a region has its place in it
+abbrev pub ArePlaces : List ℕ → List ℕ → Type 0
+ArePlaces region places = (i : ℕ) → i < length region → slice_index places (slice_index region i) ≡ i
 
 -- a network after it got more nodes and arcs, all without flow
 pub record Extends (old new : FlowNetwork) (nodes : ℕ) (arcs : List Arc) : Type 0 where

@@ -2,18 +2,14 @@
 
 ghost use Rattle.std.specs.Prelude.{◌≡◌, ◌≢◌, ◌+◌, ◌*◌, ◌^◌, ◌<◌, ◌≤◌, List, [], ◌∷◌, ◌++◌};
 ghost use Rattle.std.specs.Prelude.{length, map, All, IfOk, OnOk};
-ghost use Rattle.std.specs.List.{flat_map};
 ghost use Rattle.std.specs.List.Sorted.{IsStrictlyIncreasing};
-ghost use Rattle.std.specs.Ordering.{nat_cmp};
 ghost use Rattle.hg_defs.specs.Hypergraph.{vertex_count, net_count, net_of};
-ghost use Rattle.hg_defs.specs.Incidence.{nets_of};
-ghost use Rattle.hg_defs.specs.Sorting.{set_of};
-ghost use Rattle.flow_pair.specs.PairNetwork.{pin_arcs, net_arcs, joined_nets, pair_network, unbounded, AreOfPair};
+ghost use Rattle.flow_pair.specs.PairNetwork.{pin_arcs, net_arcs, joined_nets, pair_network, AreOfPair};
 ghost use Rattle.flow_pair.specs.PairNetwork.{Extends, IsIdle};
 ghost use Rattle.flow_pair.specs.Sides.{touching_nets};
 
 use crate::cut::touching_nets_of;
-use crate::pair::{Pair, more_than_all};
+use crate::pair::{Pair, more_than_all, place_region};
 use crate::region::distinct;
 use flow_net::{Network, NoMemory};
 use incidence::Hypergraph;
@@ -94,56 +90,31 @@ fn add_nets(pair: Pair<'_>, network: &mut Network, nets: &[u32]) -> Result<(), N
     Ok(())
 }
 
-/// The nets that join the network of a region: those that touch both blocks, and those of its vertices.
-pub(crate) fn nets_of_region(
+/// The nets that join the network of a region: those that touch both blocks, which are given, and those of
+/// its vertices.
+pub(crate) fn nets_of_pair(
     alloc: Global,
-    h: &Hypergraph,
-    region: &[u32],
+    pair: Pair<'_>,
     touching: &[u32],
 ) -> Result<Vec<u32>, NoMemory>
-    requires { All (λ v. v < vertex_count h.now) region.now }
-    ensures { IfOk result (λ nets. nets.items ≡ set_of nat_cmp (touching.now ++ flat_map (nets_of h.now) region.now)) }
+    requires { touching.now ≡ touching_nets pair.h.now pair.blocks.now pair.first pair.second }
+    ensures nets { IfOk result (λ nets. All (λ e. e < net_count pair.entry.h.now) nets.items) }
+    ensures joined { IfOk result (λ nets. map (net_of pair.entry.h.now) nets.items ≡ joined_nets pair.entry.h.now
+        pair.entry.blocks.now pair.entry.first pair.entry.second pair.entry.region.now) }
 {
     let mut nets = Vec::from_slice(alloc, touching)?;
-    for v in region {
-        nets.extend_from_slice(h.nets_of(*v))?;
+    for v in pair.region {
+        nets.extend_from_slice(pair.h.nets_of(*v))?;
     }
     Ok(distinct(nets))
 }
 
-/// The flow network of a region of two blocks, made of the nets that touch both and those of the region.
-pub(crate) fn build_network(
-    alloc: Global,
-    h: &Hypergraph,
-    p: &Partition,
-    a: u32,
-    b: u32,
-    region: &[u32],
-    touching: &[u32],
-    most: u64,
-) -> Result<Network, NoMemory>
-    requires belongs { p.now.hyper ≡ h.now }
-    requires order { a < b }
-    requires blocks { b < p.now.k }
-    requires rising { IsStrictlyIncreasing region.now }
-    requires vertices { All (λ v. v < vertex_count h.now) region.now }
-    requires touching { touching.now ≡ touching_nets h.now p.now.blocks a b }
-    requires most { most ≡ unbounded h.now }
-    requires bounded { most ≤ 2 ^ 56 }
-    ensures { IfOk result (λ network. network ≡ pair_network h.now p.now.blocks a b region.now) }
+/// A network of the source, the sink and the region alone.
+pub(crate) fn bare_network(alloc: Global, pair: Pair<'_>) -> Result<Network, NoMemory>
+    ensures { IfOk result (λ network. network ≡ record
+        { nodes = 2 + length pair.entry.region.now; arcs = []; flows = [] }) }
 {
-    let pair = Pair {
-        h,
-        blocks: p.blocks(),
-        first: a,
-        second: b,
-        region,
-        most,
-    };
-    let nets = nets_of_region(alloc, h, region, touching)?;
-    let mut network = Network::new(alloc, 2 + region.len() as u32)?;
-    add_nets(pair, &mut network, nets.as_slice())?;
-    Ok(network)
+    Network::new(alloc, 2 + pair.region.len() as u32)
 }
 
 /// The flow network of a region of two blocks. Node 0, its source, stands for the first block outside
@@ -167,14 +138,19 @@ pub fn region_network(
     ensures { IfOk result (λ network. network ≡ pair_network h.now p.now.blocks a b region.now) }
 {
     let touching = touching_nets_of(alloc, h, p, a, b)?;
-    build_network(
-        alloc,
+    let mut places = Vec::new(alloc);
+    place_region(h, region, &mut places)?;
+    let pair = Pair {
         h,
-        p,
-        a,
-        b,
+        blocks: p.blocks(),
+        first: a,
+        second: b,
         region,
-        touching.as_slice(),
-        more_than_all(h),
-    )
+        places: places.as_slice(),
+        most: more_than_all(h),
+    };
+    let nets = nets_of_pair(alloc, pair, touching.as_slice())?;
+    let mut network = bare_network(alloc, pair)?;
+    add_nets(pair, &mut network, nets.as_slice())?;
+    Ok(network)
 }

@@ -1,13 +1,14 @@
 //! A pair of blocks with a region, lent to those who build its network.
 
-ghost use Rattle.std.specs.Prelude.{◌≡◌, ◌+◌, ◌*◌, ◌<◌, ◌≤◌, ◌^◌, length, All, nat_eq, ◌||◌};
+ghost use Rattle.std.specs.Prelude.{◌≡◌, ◌+◌, ◌*◌, ◌<◌, ◌≤◌, ◌^◌, length, All, OnOk, nat_eq, ◌||◌};
 ghost use Rattle.std.specs.List.{position_or_len};
 ghost use Rattle.std.specs.Set.{is_member};
 ghost use Rattle.std.specs.List.Sorted.{IsStrictlyIncreasing};
 ghost use Rattle.hg_defs.specs.Hypergraph.{vertex_count, net_count, net_of, total_net_weight};
-ghost use Rattle.flow_pair.specs.PairNetwork.{node_of, net_price, unbounded, leaves_pair};
+ghost use Rattle.flow_pair.specs.PairNetwork.{node_of, net_price, unbounded, leaves_pair, ArePlaces};
 ghost use Rattle.hg_defs.specs.Partition.{block_of};
 
+use flow_net::NoMemory;
 use hg_base::Objective;
 use incidence::Hypergraph;
 
@@ -19,11 +20,15 @@ pub(crate) struct Pair<'a> {
     pub(crate) first: u32,
     pub(crate) second: u32,
     pub(crate) region: &'a [u32],
+    /// The place of each vertex of the region. What other vertices have doesn't matter.
+    pub(crate) places: &'a [u32],
     /// More than all nets can pay.
     pub(crate) most: u64,
     ghost all: { length blocks.now ≡ vertex_count h.now },
     ghost rising: { IsStrictlyIncreasing region.now },
     ghost vertices: { All (λ v. v < vertex_count h.now) region.now },
+    ghost long: { length places.now ≡ vertex_count h.now },
+    ghost placed: { ArePlaces region.now places.now },
     ghost small: { length region.now ≤ 2 ^ 22 },
     ghost above: { most ≡ unbounded h.now },
     ghost bounded: { most ≤ 2 ^ 56 },
@@ -60,13 +65,46 @@ pub(crate) fn contains(list: &[u32], v: u32) -> bool
     place_of(list, v) < list.len()
 }
 
+/// Writes the places of the vertices of a region.
+pub(crate) fn write_places(region: &[u32], places: &mut [u32])
+    requires few { length region.now ≤ 2 ^ 22 }
+    requires rising { IsStrictlyIncreasing region.now }
+    requires vertices { All (λ v. v < length places.old) region.now }
+    ensures long { length places.new ≡ length places.old }
+    ensures placed { ArePlaces region.now places.new }
+{
+    for i in 0..region.len() {
+        places[region[i] as usize] = i as u32;
+    }
+}
+
+/// Writes the places of the vertices of a region into a list, which is made long enough.
+pub(crate) fn place_region(
+    h: &Hypergraph,
+    region: &[u32],
+    places: &mut Vec<u32>,
+) -> Result<(), NoMemory>
+    requires rising { IsStrictlyIncreasing region.now }
+    requires vertices { All (λ v. v < vertex_count h.now) region.now }
+    ensures long { OnOk result (length places.new.items ≡ vertex_count h.now) }
+    ensures placed { OnOk result (ArePlaces region.now places.new.items) }
+{
+    places.resize(h.vertices() as usize, 0)?;
+    write_places(region, places.as_mut_slice());
+    Ok(())
+}
+
 impl Pair<'_> {
     /// The place of a vertex in the region, or the region's length where it is not there.
     pub(crate) fn place(&self, v: u32) -> usize
         requires { v < vertex_count self.now.h.now }
         ensures { result ≡ position_or_len (nat_eq v) self.now.region.now }
     {
-        place_of(self.region, v)
+        let place = self.places[v as usize] as usize;
+        if place < self.region.len() && self.region[place] == v {
+            return place;
+        }
+        self.region.len()
     }
 
     /// The node of a vertex of one of the blocks.
@@ -75,7 +113,7 @@ impl Pair<'_> {
         ensures value { result ≡ node_of self.now.blocks.now self.now.first self.now.region.now v }
         ensures below { result < 2 + length self.now.region.now }
     {
-        let place = place_of(self.region, v);
+        let place = self.place(v);
         if place < self.region.len() {
             return 2 + place as u32;
         }
@@ -118,11 +156,17 @@ impl Pair<'_> {
         ensures bound { result < 2 ^ 55 }
     {
         let weight = self.h.net_weight(e);
-        let leaving = self.leaves(self.h.pins(e));
+        let pins = self.h.pins(e);
         match self.h.objective() {
             Objective::Connectivity => weight,
-            Objective::CutNet => { if leaving { 0 } else { weight } }
-            Objective::ExternalDegree => { if leaving { weight } else { 2 * weight } }
+            Objective::CutNet => { if self.leaves(pins) { 0 } else { weight } }
+            Objective::ExternalDegree => {
+                if self.leaves(pins) {
+                    weight
+                } else {
+                    2 * weight
+                }
+            }
         }
     }
 }

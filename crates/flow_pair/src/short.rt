@@ -7,13 +7,13 @@ ghost use Rattle.std.specs.List.Sorted.{IsStrictlyIncreasing};
 ghost use Rattle.std.specs.Set.{is_member};
 ghost use Rattle.hg_defs.specs.Hypergraph.{vertex_count, net_count, net_of};
 ghost use Rattle.hg_defs.specs.Partition.{block_of};
-ghost use Rattle.flow_pair.specs.PairNetwork.{has_pin_outside, joined_nets, unbounded, net_price, Extends, IsIdle};
+ghost use Rattle.flow_pair.specs.PairNetwork.{has_pin_outside, joined_nets, unbounded, net_price, Extends, IsIdle, ArePlaces};
 ghost use Rattle.flow_pair.specs.ShortNetwork.{inner_nodes, arcs_to_each, arcs_from_each, source_arcs, sink_arcs};
 ghost use Rattle.flow_pair.specs.ShortNetwork.{inner_arcs, outer_count, inner_count, short_arcs, short_count};
 ghost use Rattle.flow_pair.specs.ShortNetwork.{fixed_price, fixed_cost, short_network};
 ghost use Rattle.flow_pair.specs.Sides.{touching_nets};
 
-use crate::network::nets_of_region;
+use crate::network::{bare_network, nets_of_pair};
 use crate::pair::Pair;
 use flow_net::{Network, NoMemory};
 use incidence::Hypergraph;
@@ -212,18 +212,10 @@ fn add_short(
     let outside = note_pins(pair, e, nodes)?;
     let nodes = nodes.as_slice();
     match outside {
-        (true, true) => {
-            return Ok(price);
-        }
-        (true, false) => {
-            add_at_source(network, nodes, price, pair.most)?;
-        }
-        (false, true) => {
-            add_at_sink(network, nodes, price, pair.most)?;
-        }
-        (false, false) => {
-            add_within(network, nodes, price, pair.most)?;
-        }
+        (true, true) => return Ok(price),
+        (true, false) => add_at_source(network, nodes, price, pair.most)?,
+        (false, true) => add_at_sink(network, nodes, price, pair.most)?,
+        (false, false) => add_within(network, nodes, price, pair.most)?,
     }
     Ok(0)
 }
@@ -255,7 +247,7 @@ fn add_all_short(
     Ok(fixed)
 }
 
-/// The short network of a region of two blocks, made of the nets that touch both and those of the region.
+/// The short network of a region of two blocks, given the places of its vertices and the nets that touch both.
 pub(crate) fn build_short(
     alloc: Global,
     h: &Hypergraph,
@@ -263,14 +255,15 @@ pub(crate) fn build_short(
     a: u32,
     b: u32,
     region: &[u32],
+    places: &[u32],
     touching: &[u32],
     most: u64,
 ) -> Result<ShortNetwork, NoMemory>
     requires belongs { p.now.hyper ≡ h.now }
-    requires order { a < b }
-    requires blocks { b < p.now.k }
     requires rising { IsStrictlyIncreasing region.now }
     requires vertices { All (λ v. v < vertex_count h.now) region.now }
+    requires long { length places.now ≡ vertex_count h.now }
+    requires placed { ArePlaces region.now places.now }
     requires touching { touching.now ≡ touching_nets h.now p.now.blocks a b }
     requires most { most ≡ unbounded h.now }
     requires bounded { most ≤ 2 ^ 56 }
@@ -283,10 +276,11 @@ pub(crate) fn build_short(
         first: a,
         second: b,
         region,
+        places,
         most,
     };
-    let nets = nets_of_region(alloc, h, region, touching)?;
-    let mut network = Network::new(alloc, 2 + region.len() as u32)?;
+    let nets = nets_of_pair(alloc, pair, touching)?;
+    let mut network = bare_network(alloc, pair)?;
     let fixed = add_all_short(alloc, pair, &mut network, nets.as_slice())?;
     Ok(ShortNetwork { network, fixed })
 }

@@ -10,7 +10,7 @@ ghost use Rattle.flow_pair.specs.PairNetwork.{unbounded};
 ghost use Rattle.flow_pair.specs.Sides.{touching_nets};
 
 use crate::cut::touching_nets_of;
-use crate::pair::more_than_all;
+use crate::pair::{more_than_all, place_region};
 use crate::region::form_region;
 use crate::short::build_short;
 use flow_net::{NoMemory, Workspace};
@@ -49,6 +49,7 @@ fn blocks_of(alloc: Global, side: &[bool], count: usize, a: u32, b: u32) -> Resu
 /// The cheapest assignment of the region of a pair, given the nets that touch both blocks.
 fn solve_region(
     space: &mut Workspace,
+    places: &mut Vec<u32>,
     alloc: Global,
     h: &Hypergraph,
     p: &Partition,
@@ -68,7 +69,9 @@ fn solve_region(
 {
     let _blocks = p.blocks();
     let region = form_region(alloc, h, p, a, b, nets)?;
-    let mut short = build_short(alloc, h, p, a, b, region.slice(), nets, most)?;
+    place_region(h, region.slice(), places)?;
+    let places = places.as_slice();
+    let mut short = build_short(alloc, h, p, a, b, region.slice(), places, nets, most)?;
     let cut = short.network.max_flow_in(space, 0, 1)?;
     let blocks = blocks_of(alloc, cut.side.slice(), region.len(), a, b)?;
     Ok(PairEnd {
@@ -85,6 +88,8 @@ pub struct PairSolver {
     hyper: Snapshot<Hypergraph>,
     alloc: Global,
     space: Workspace,
+    /// The places of vertices in the region of a pair.
+    places: Vec<u32>,
     /// More than all nets can pay.
     most: u64,
 }
@@ -110,6 +115,7 @@ impl PairSolver {
             hyper: Snapshot::of(h),
             alloc,
             space: Workspace::new(alloc),
+            places: Vec::new(alloc),
             most: more_than_all(h),
         }
     }
@@ -137,7 +143,17 @@ impl PairSolver {
         if nets.is_empty() {
             return Ok(None);
         }
-        let end = solve_region(&mut self.space, self.alloc, h, p, a, b, nets, self.most)?;
+        let end = solve_region(
+            &mut self.space,
+            &mut self.places,
+            self.alloc,
+            h,
+            p,
+            a,
+            b,
+            nets,
+            self.most,
+        )?;
         Ok(Some(end))
     }
 }

@@ -1,7 +1,6 @@
-use Rattle.std.proofs.Common.{List, ℕ, ◌<◌, ◌≤◌, ◌≡◌, ◌-◌, ◌∙◌, ◌++◌, Bool, true, All, not, nat_eq, length, filter, slice_index, sym, ap, ap₂, subst, arith}
-use Rattle.std.specs.List.{list_any, range_with_len}
-use Rattle.hg_defs.specs.Hypergraph.{vertex_count, net_of, net_count}
-use Rattle.hg_defs.specs.Partition.{block_of}
+use Rattle.std.proofs.Common.{◌<◌, ◌≤◌, ◌-◌, ◌∙◌, ◌++◌, filter, sym, ap, ap₂, subst, arith}
+use Rattle.std.specs.List.{range_with_len}
+use Rattle.hg_defs.specs.Hypergraph.{net_count}
 use Rattle.flow_pair.specs.CutNets.{HoldsCut}
 use Rattle.flow_pair.proofs.MemberLaws.{range_first, range_next, range_last}
 use Rattle.flow_pair.proofs.CutNetLaws.{is_mixed, mixed_pins, mixed_found}

@@ -1,6 +1,6 @@
-use Rattle.std.proofs.Common.{◌≡◌, [], ◌&&◌, ◌∙◌, filter, ap}
+use Rattle.std.proofs.Common.{[], ◌&&◌, ◌∙◌, filter, ap}
 use Rattle.std.specs.Ordering.{nat_cmp}
-use Rattle.hg_defs.specs.Hypergraph.{net_of, net_count}
+use Rattle.hg_defs.specs.Hypergraph.{net_of}
 use Rattle.hg_defs.specs.Sorting.{set_of}
 use Rattle.round_log.specs.Rounds.{has_pin}
 use Rattle.std.proofs.lemmas.List.{take_all}

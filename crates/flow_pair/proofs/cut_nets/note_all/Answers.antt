@@ -1,4 +1,4 @@
-use Rattle.std.proofs.Common.{ℕ, ◌+◌, ◌<◌, List, [], All, Contains, take, slice_index, slice_index_or, ap, subst, arith}
+use Rattle.std.proofs.Common.{ℕ, ◌+◌, List, [], All, Contains, take, slice_index_or, subst, arith}
 use Rattle.std.proofs.lemmas.List.{take_all}
 use Rattle.std.proofs.lemmas.List.Elements.{All-nil, All-more, All-weaker}
 use Rattle.hg_defs.specs.Partition.{block_of}

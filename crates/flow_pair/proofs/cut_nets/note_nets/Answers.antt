@@ -1,4 +1,4 @@
-use Rattle.std.proofs.Common.{ℕ, ◌<◌, List, [], All, Contains, length, take, slice_index, slice_index_or, sym, subst}
+use Rattle.std.proofs.Common.{ℕ, ◌<◌, List, [], All, Contains, take, slice_index, slice_index_or, sym, subst}
 use Rattle.std.proofs.lemmas.List.{take_all}
 use Rattle.std.proofs.lemmas.List.Elements.{All-nil, All-more, All-weaker}
 use Rattle.hg_defs.specs.Hypergraph.{net_count, net_of}

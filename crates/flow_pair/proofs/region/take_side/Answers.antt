@@ -1,15 +1,15 @@
-use Rattle.std.proofs.Common.{◌≡◌, ◌<◌, ◌-◌, ◌∙◌, List, ℕ, not, nat_eq, All, length, filter, sym, ap, ap₂, subst, arith}
+use Rattle.std.proofs.Common.{◌≡◌, ◌<◌, ◌-◌, ◌∙◌, not, nat_eq, All, filter, sym, ap, ap₂, subst, arith}
 use Rattle.std.specs.List.{flat_map}
 use Rattle.std.specs.List.Sorted.{IsStrictlyIncreasing}
 use Rattle.std.specs.Ordering.{nat_cmp}
 use Rattle.std.specs.Set.{is_member}
-use Rattle.hg_defs.specs.Hypergraph.{Hyper, IsHypergraph, vertices, vertex_count, net_count}
+use Rattle.hg_defs.specs.Hypergraph.{Hyper, IsHypergraph, vertex_count, net_count}
 use Rattle.hg_defs.specs.Partition.{load}
 use Rattle.hg_defs.specs.Sorting.{set_of}
 use Rattle.round_log.specs.Rounds.{is_near, is_next}
 use Rattle.flow_pair.specs.Sides.{free_pins, small_nets}
 use Rattle.flow_pair.proofs.FormLaws.{side_taken}
-use Rattle.flow_pair.proofs.NetLaws.{touching_all, small_all, kept_below, kept_rises, near_listed, next_listed, reached}
+use Rattle.flow_pair.proofs.NetLaws.{touching_all, small_all, kept_below, kept_rises, near_listed, next_listed}
 use Rattle.flow_pair.proofs.region.take_side.Goals as goal
 
 pub free_on-requires-clause-nets : goal.free_on-requires-clause-nets

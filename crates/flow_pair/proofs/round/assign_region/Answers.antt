@@ -2,7 +2,7 @@ use Rattle.std.proofs.Common.{◌<◌, ◌+◌, ◌∙◌, length, All, sym, ap,
 use Rattle.hg_defs.specs.Hypergraph.{vertex_count}
 use Rattle.pin_plain.specs.Parted.{Parted}
 use Rattle.pin_plain.proofs.SweepLaws.{same_step}
-use Rattle.flow_pair.proofs.ChangeLaws.{IsAssigning, assigning_more, assigned_all, changes_all}
+use Rattle.flow_pair.proofs.ChangeLaws.{IsAssigning, assigning_more}
 use Rattle.flow_pair.proofs.round.assign_region.Goals as goal
 
 pub loop-i-preserved : goal.loop-i-preserved

@@ -1,4 +1,4 @@
-use Rattle.std.proofs.Common.{◌≤◌, ◌+◌, length, map, slice_index, ap, arith}
+use Rattle.std.proofs.Common.{◌+◌, length, map, slice_index, ap, arith}
 use Rattle.std.proofs.lemmas.List.{length-append}
 use Rattle.hg_defs.specs.Hypergraph.{net_of}
 use Rattle.hg_defs.specs.Sums.{total}

@@ -1,4 +1,4 @@
-use Rattle.std.proofs.Common.{◌≡◌, ◌⊎◌, inl, inr, ℕ, ◌<◌, List, [], All, slice_index_or, sym, subst, arith}
+use Rattle.std.proofs.Common.{inl, inr, ℕ, ◌<◌, List, [], All, slice_index_or, sym, subst, arith}
 use Rattle.hg_defs.specs.Hypergraph.{net_count}
 use Rattle.flow_pair.specs.CutNets.{HoldsTouching}
 use Rattle.flow_pair.proofs.CutNetLaws.{second_holds}

@@ -1,8 +1,8 @@
-use Rattle.std.proofs.Common.{◌≡◌, ◌<◌, ℕ, List, [], All, Contains, length, replicate, slice_index_or, sym, ap, ◌∙◌, subst}
+use Rattle.std.proofs.Common.{◌≡◌, ◌<◌, ℕ, List, [], All, Contains, length, slice_index_or, sym, ap, ◌∙◌, subst}
 use Rattle.std.proofs.lemmas.List.{length-replicate}
 use Rattle.std.proofs.lemmas.List.Elements.{All-nil}
-use Rattle.hg_defs.specs.Hypergraph.{Hyper, vertex_count, net_count, net_of}
-use Rattle.hg_defs.specs.Partition.{IsPartition, block_of}
+use Rattle.hg_defs.specs.Hypergraph.{vertex_count, net_count, net_of}
+use Rattle.hg_defs.specs.Partition.{block_of}
 use Rattle.flow_pair.proofs.CutNetLaws.{empty_at, lists_found}
 use Rattle.flow_pair.proofs.cut_nets.CutNets.of.Goals as goal
 

@@ -1,4 +1,4 @@
-use Rattle.std.proofs.Common.{[], ◌∙◌, length, refl, sym, ap, true≢false}
+use Rattle.std.proofs.Common.{◌∙◌, length, refl, sym, ap, true≢false}
 use Rattle.std.proofs.lemmas.Bool.{eqb-true, eq-eqb}
 use Rattle.std.proofs.lemmas.List.{nil_from_length}
 use Rattle.flow_pair.proofs.NetLaws.{touching_some, touching_none}
