@@ -13,3 +13,4 @@ pub mod EndLaws
 pub mod ApartLaws
 pub mod ChangeLaws
 pub mod TurnLaws
+pub mod DistinctLaws

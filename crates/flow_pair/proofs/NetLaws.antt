@@ -84,14 +84,22 @@ kept_below test n = all_of (λ v. v < n) (filter test (range_with_len 0 n))
 pub kept_rises : (test : ℕ → Bool) (n : ℕ) → IsStrictlyIncreasing (filter test (range_with_len 0 n))
 kept_rises test n = IsStrictlyIncreasing-filter test (range_with_len 0 n) (increasing-range 0 n)
 
-pub small_all : (h : Hyper) (vs : List ℕ) → All (λ e. e < net_count h) (set_of nat_cmp (flat_map (small_nets h) vs))
-small_all h vs = all_of (λ e. e < net_count h) (set_of nat_cmp (flat_map (small_nets h) vs))
-    (λ e c. by e (Contains-from_flat_map (small_nets h) vs e (Contains-from_set_of nat_cmp_total nat_cmp_exact (flat_map (small_nets h) vs) e c)))
+pub small_each : (h : Hyper) (vs : List ℕ) → All (λ e. e < net_count h) (flat_map (small_nets h) vs)
+small_each h vs = all_of (λ e. e < net_count h) (flat_map (small_nets h) vs) (λ e c. by e (Contains-from_flat_map (small_nets h) vs e c))
   where
     by : (e : ℕ) → ((v : ℕ) × Contains vs v × Contains (small_nets h v) e) → e < net_count h
     by e x =
         let on = Contains-from_filter (is_small h) (nets_of h x.0) e x.2 in
         Contains-from_range (net_count h) e (Contains-from_filter (is_on h x.0) (range_with_len 0 (net_count h)) e on.0).0
+
+pub all_of_set : (P : ℕ → Type 0) (xs : List ℕ) → All P xs → All P (set_of nat_cmp xs)
+all_of_set P xs all = all_of P (set_of nat_cmp xs) (λ e c. All-contains P xs e all (Contains-from_set_of nat_cmp_total nat_cmp_exact xs e c))
+
+pub all_from_set : (P : ℕ → Type 0) (xs : List ℕ) → All P (set_of nat_cmp xs) → All P xs
+all_from_set P xs all = all_of P xs (λ e c. All-contains P (set_of nat_cmp xs) e all (Contains-set_of nat_cmp_total nat_cmp_exact xs e c))
+
+pub small_all : (h : Hyper) (vs : List ℕ) → All (λ e. e < net_count h) (set_of nat_cmp (flat_map (small_nets h) vs))
+small_all h vs = all_of_set (λ e. e < net_count h) (flat_map (small_nets h) vs) (small_each h vs)
 
 -- ---- near and next vertices
 

@@ -1,6 +1,7 @@
 -- The lists that a region is formed of.
 use Rattle.std.specs.Prelude.{◌≡◌, ℕ, List, ◌++◌, length, filter, Bool, ◌&&◌, nat_eq, nat_le}
 use Rattle.std.specs.List.{range_with_len}
+use Rattle.std.specs.Set.{is_member}
 use Rattle.hg_defs.specs.Hypergraph.{Hyper, net_count, net_of, is_free}
 use Rattle.hg_defs.specs.Incidence.{nets_of}
 use Rattle.hg_defs.specs.Partition.{block_of}
@@ -29,3 +30,7 @@ small_nets h v = filter (is_small h) (nets_of h v)
 -- vertices were taken where there was room for them: the room that is left, and what may be taken later
 abbrev pub TakesAll : Hyper → ℕ → List ℕ → List ℕ → List ℕ → ℕ → Type 0
 TakesAll h room vertices before after left = (vs : List ℕ) → after ++ taken h left vs ≡ before ++ taken h room (vertices ++ vs)
+
+-- the same numbers, how often ever
+abbrev pub HasMembersOf : List ℕ → List ℕ → Type 0
+HasMembersOf xs ys = (x : ℕ) → is_member nat_eq xs x ≡ is_member nat_eq ys x

@@ -9,7 +9,7 @@ ghost use Rattle.round_log.specs.Rounds.{has_pin};
 ghost use Rattle.flow_pair.specs.CutNets.{HoldsTouching, HoldsCut};
 ghost use Rattle.flow_pair.specs.Sides.{touching_nets};
 
-use crate::region::{distinct, push_if};
+use crate::distinct::{distinct, push_if};
 use flow_net::NoMemory;
 use hg_base::Move;
 use incidence::Hypergraph;

@@ -4,6 +4,7 @@
 
 mod cut;
 mod cut_nets;
+mod distinct;
 pub mod laws;
 mod network;
 mod pair;

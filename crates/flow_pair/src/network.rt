@@ -9,8 +9,8 @@ ghost use Rattle.flow_pair.specs.PairNetwork.{Extends, IsIdle};
 ghost use Rattle.flow_pair.specs.Sides.{touching_nets};
 
 use crate::cut::touching_nets_of;
+use crate::distinct::distinct_of_many;
 use crate::pair::{Pair, more_than_all, place_region};
-use crate::region::distinct;
 use flow_net::{Network, NoMemory};
 use incidence::Hypergraph;
 use pin_plain::Partition;
@@ -94,10 +94,12 @@ fn add_nets(pair: Pair<'_>, network: &mut Network, nets: &[u32]) -> Result<(), N
 /// its vertices.
 pub(crate) fn nets_of_pair(
     alloc: Global,
+    spots: &mut [usize],
     pair: Pair<'_>,
     touching: &[u32],
 ) -> Result<Vec<u32>, NoMemory>
-    requires { touching.now ≡ touching_nets pair.h.now pair.blocks.now pair.first pair.second }
+    requires touching { touching.now ≡ touching_nets pair.h.now pair.blocks.now pair.first pair.second }
+    requires spots { net_count pair.h.now ≤ length spots.old }
     ensures nets { IfOk result (λ nets. All (λ e. e < net_count pair.entry.h.now) nets.items) }
     ensures joined { IfOk result (λ nets. map (net_of pair.entry.h.now) nets.items ≡ joined_nets pair.entry.h.now
         pair.entry.blocks.now pair.entry.first pair.entry.second pair.entry.region.now) }
@@ -106,7 +108,7 @@ pub(crate) fn nets_of_pair(
     for v in pair.region {
         nets.extend_from_slice(pair.h.nets_of(*v))?;
     }
-    Ok(distinct(nets))
+    Ok(distinct_of_many(spots, nets))
 }
 
 /// A network of the source, the sink and the region alone.
@@ -149,7 +151,8 @@ pub fn region_network(
         places: places.as_slice(),
         most: more_than_all(h),
     };
-    let nets = nets_of_pair(alloc, pair, touching.as_slice())?;
+    let mut spots = vec![in alloc; 0usize; h.nets() as usize]?;
+    let nets = nets_of_pair(alloc, spots.as_mut_slice(), pair, touching.as_slice())?;
     let mut network = bare_network(alloc, pair)?;
     add_nets(pair, &mut network, nets.as_slice())?;
     Ok(network)

@@ -1,6 +1,6 @@
 //! The region of a pair of blocks, in proportion to the nets that touch both.
 
-ghost use Rattle.std.specs.Prelude.{◌≡◌, ◌≢◌, ℕ, ◌-◌, ◌<◌, [], ◌∷◌, ◌++◌, length, filter, not, All, IfOk, OnOk};
+ghost use Rattle.std.specs.Prelude.{◌≡◌, ◌≢◌, ℕ, ◌-◌, ◌<◌, ◌≤◌, [], ◌∷◌, ◌++◌, length, filter, not, All, IfOk, OnOk};
 ghost use Rattle.std.specs.Prelude.{nat_eq, if◌then◌else◌};
 ghost use Rattle.std.specs.List.{flat_map};
 ghost use Rattle.std.specs.List.Sorted.{IsStrictlyIncreasing};
@@ -12,6 +12,7 @@ ghost use Rattle.hg_defs.specs.Sorting.{set_of};
 ghost use Rattle.round_log.specs.Rounds.{side, region};
 ghost use Rattle.flow_pair.specs.Sides.{touching_nets, is_free_in, free_pins, is_small, small_nets, TakesAll};
 
+use crate::distinct::{distinct, distinct_of_many, push_if};
 use crate::pair::contains;
 use flow_net::NoMemory;
 use hg_base::{FREE, Verts};
@@ -21,26 +22,6 @@ use std::alloc::Global;
 
 /// The most pins of a net through which a region grows.
 const MOST_PINS: usize = 1000;
-
-/// The numbers of a list, each once and in rising order.
-pub(crate) fn distinct(list: Vec<u32>) -> Vec<u32>
-    ensures { result.items ≡ set_of nat_cmp list.items }
-{
-    let mut list = list;
-    list.sort_unstable();
-    list.dedup();
-    list
-}
-
-/// Appends a number where it passes.
-pub(crate) fn push_if(list: &mut Vec<u32>, passes: bool, item: u32) -> Result<(), NoMemory>
-    ensures { OnOk result (list.new.items ≡ list.old.items ++ (if passes then item ∷ [] else [])) }
-{
-    if passes {
-        list.push(item)?;
-    }
-    Ok(())
-}
 
 /// Whether a vertex is free and in a block.
 fn may_leave(h: &Hypergraph, blocks: &[u32], block: u32, v: u32) -> bool
@@ -75,6 +56,7 @@ fn add_free(
 /// The free vertices of a block on some nets.
 fn free_on(
     alloc: Global,
+    spots: &mut [usize],
     h: &Hypergraph,
     blocks: &[u32],
     block: u32,
@@ -82,13 +64,15 @@ fn free_on(
 ) -> Result<Vec<u32>, NoMemory>
     requires all { length blocks.now ≡ vertex_count h.now }
     requires nets { All (λ e. e < net_count h.now) nets.now }
-    ensures { IfOk result (λ list. list.items ≡ set_of nat_cmp (flat_map (free_pins h.now blocks.now block) nets.now)) }
+    requires spots { vertex_count h.now ≤ length spots.old }
+    ensures size { length spots.new ≡ length spots.old }
+    ensures list { IfOk result (λ list. list.items ≡ set_of nat_cmp (flat_map (free_pins h.now blocks.now block) nets.now)) }
 {
     let mut list = Vec::new(alloc);
     for e in nets {
         add_free(h, blocks, block, h.pins(*e), &mut list)?;
     }
-    Ok(distinct(list))
+    Ok(distinct_of_many(spots, list))
 }
 
 /// Whether a net has at most 1,000 pins.
@@ -111,15 +95,22 @@ fn add_small(h: &Hypergraph, nets: &[u32], list: &mut Vec<u32>) -> Result<(), No
 }
 
 /// The nets of at most 1,000 pins that hold some of the vertices.
-fn small_nets_of(alloc: Global, h: &Hypergraph, vertices: &[u32]) -> Result<Vec<u32>, NoMemory>
-    requires { All (λ v. v < vertex_count h.now) vertices.now }
-    ensures { IfOk result (λ list. list.items ≡ set_of nat_cmp (flat_map (small_nets h.now) vertices.now)) }
+fn small_nets_of(
+    alloc: Global,
+    spots: &mut [usize],
+    h: &Hypergraph,
+    vertices: &[u32],
+) -> Result<Vec<u32>, NoMemory>
+    requires vertices { All (λ v. v < vertex_count h.now) vertices.now }
+    requires spots { net_count h.now ≤ length spots.old }
+    ensures size { length spots.new ≡ length spots.old }
+    ensures list { IfOk result (λ list. list.items ≡ set_of nat_cmp (flat_map (small_nets h.now) vertices.now)) }
 {
     let mut list = Vec::new(alloc);
     for v in vertices {
         add_small(h, h.nets_of(*v), &mut list)?;
     }
-    Ok(distinct(list))
+    Ok(distinct_of_many(spots, list))
 }
 
 /// The numbers of a list that aren't among some others, which rise.
@@ -168,6 +159,7 @@ fn take_all(
 /// then those on small nets that hold one of these.
 fn take_side(
     alloc: Global,
+    spots: &mut [usize],
     h: &Hypergraph,
     p: &Partition,
     from: u32,
@@ -179,12 +171,14 @@ fn take_side(
     requires fits { Fits p.now.hyper p.now.k p.now.limit p.now.blocks }
     requires to { to < p.now.k }
     requires nets { nets.now ≡ touching_nets h.now p.now.blocks from to }
-    ensures { OnOk result (list.new.items ≡ list.old.items ++ side h.now p.now.limit p.now.blocks from to) }
+    requires spots { (vertex_count h.now ≤ length spots.old) × (net_count h.now ≤ length spots.old) }
+    ensures size { length spots.new ≡ length spots.old }
+    ensures side { OnOk result (list.new.items ≡ list.old.items ++ side h.now p.now.limit p.now.blocks from to) }
 {
     let blocks = p.blocks();
-    let near = free_on(alloc, h, blocks, from, nets)?;
-    let small = small_nets_of(alloc, h, near.as_slice())?;
-    let reached = free_on(alloc, h, blocks, from, small.as_slice())?;
+    let near = free_on(alloc, spots, h, blocks, from, nets)?;
+    let small = small_nets_of(alloc, spots, h, near.as_slice())?;
+    let reached = free_on(alloc, spots, h, blocks, from, small.as_slice())?;
     let next = without(alloc, reached.as_slice(), near.as_slice())?;
     let left = take_all(h, near.as_slice(), p.limit() - p.weight(to), list)?;
     take_all(h, next.as_slice(), left, list)?;
@@ -194,6 +188,7 @@ fn take_side(
 /// The region of a pair, formed from the nets that touch both blocks.
 pub(crate) fn form_region(
     alloc: Global,
+    spots: &mut [usize],
     h: &Hypergraph,
     p: &Partition,
     a: u32,
@@ -205,10 +200,12 @@ pub(crate) fn form_region(
     requires order { a < b }
     requires blocks { b < p.now.k }
     requires nets { nets.now ≡ touching_nets h.now p.now.blocks a b }
-    ensures { IfOk result (λ list. list ≡ region h.now p.now.limit p.now.blocks a b) }
+    requires spots { (vertex_count h.now ≤ length spots.old) × (net_count h.now ≤ length spots.old) }
+    ensures size { length spots.new ≡ length spots.old }
+    ensures region { IfOk result (λ list. list ≡ region h.now p.now.limit p.now.blocks a b) }
 {
     let mut list = Vec::new(alloc);
-    take_side(alloc, h, p, a, b, nets, &mut list)?;
-    take_side(alloc, h, p, b, a, nets, &mut list)?;
+    take_side(alloc, spots, h, p, a, b, nets, &mut list)?;
+    take_side(alloc, spots, h, p, b, a, nets, &mut list)?;
     Ok(Verts::from_vec(distinct(list)))
 }

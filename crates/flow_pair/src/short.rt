@@ -250,6 +250,7 @@ fn add_all_short(
 /// The short network of a region of two blocks, given the places of its vertices and the nets that touch both.
 pub(crate) fn build_short(
     alloc: Global,
+    spots: &mut [usize],
     h: &Hypergraph,
     p: &Partition,
     a: u32,
@@ -267,6 +268,7 @@ pub(crate) fn build_short(
     requires touching { touching.now ≡ touching_nets h.now p.now.blocks a b }
     requires most { most ≡ unbounded h.now }
     requires bounded { most ≤ 2 ^ 56 }
+    requires spots { net_count h.now ≤ length spots.old }
     ensures network { IfOk result (λ short. short.network ≡ short_network h.now p.now.blocks a b region.now) }
     ensures fixed { IfOk result (λ short. short.fixed ≡ fixed_cost h.now p.now.blocks a b region.now) }
 {
@@ -279,7 +281,7 @@ pub(crate) fn build_short(
         places,
         most,
     };
-    let nets = nets_of_pair(alloc, pair, touching)?;
+    let nets = nets_of_pair(alloc, spots, pair, touching)?;
     let mut network = bare_network(alloc, pair)?;
     let fixed = add_all_short(alloc, pair, &mut network, nets.as_slice())?;
     Ok(ShortNetwork { network, fixed })

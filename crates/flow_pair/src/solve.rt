@@ -50,6 +50,7 @@ fn blocks_of(alloc: Global, side: &[bool], count: usize, a: u32, b: u32) -> Resu
 fn solve_region(
     space: &mut Workspace,
     places: &mut Vec<u32>,
+    spots: &mut Vec<usize>,
     alloc: Global,
     h: &Hypergraph,
     p: &Partition,
@@ -68,10 +69,13 @@ fn solve_region(
     ensures { IfOk result (IsPairEnd h.now p.now.k p.now.limit p.now.blocks a b) }
 {
     let _blocks = p.blocks();
-    let region = form_region(alloc, h, p, a, b, nets)?;
+    let most_spots = h.vertices().max(h.nets()) as usize;
+    spots.resize(most_spots, 0)?;
+    let spots = spots.as_mut_slice();
+    let region = form_region(alloc, spots, h, p, a, b, nets)?;
     place_region(h, region.slice(), places)?;
     let places = places.as_slice();
-    let mut short = build_short(alloc, h, p, a, b, region.slice(), places, nets, most)?;
+    let mut short = build_short(alloc, spots, h, p, a, b, region.slice(), places, nets, most)?;
     let cut = short.network.max_flow_in(space, 0, 1)?;
     let blocks = blocks_of(alloc, cut.side.slice(), region.len(), a, b)?;
     Ok(PairEnd {
@@ -90,6 +94,8 @@ pub struct PairSolver {
     space: Workspace,
     /// The places of vertices in the region of a pair.
     places: Vec<u32>,
+    /// Spots of the vertices and nets, for lists that have many of them more than once.
+    spots: Vec<usize>,
     /// More than all nets can pay.
     most: u64,
 }
@@ -116,6 +122,7 @@ impl PairSolver {
             alloc,
             space: Workspace::new(alloc),
             places: Vec::new(alloc),
+            spots: Vec::new(alloc),
             most: more_than_all(h),
         }
     }
@@ -146,6 +153,7 @@ impl PairSolver {
         let end = solve_region(
             &mut self.space,
             &mut self.places,
+            &mut self.spots,
             self.alloc,
             h,
             p,

@@ -1,4 +1,5 @@
-use Rattle.std.proofs.Common.{◌∙◌, ◌++◌, ◌<◌, All, map, sym, ap, subst}
+use Rattle.std.proofs.Common.{◌∙◌, ◌++◌, ◌<◌, All, length, map, sym, ap, subst, arith}
+use Rattle.std.proofs.lemmas.List.Elements.{All-weaker}
 use Rattle.std.specs.List.{flat_map}
 use Rattle.std.specs.Ordering.{nat_cmp}
 use Rattle.std.proofs.lemmas.List.{take_all}
@@ -6,7 +7,7 @@ use Rattle.hg_defs.specs.Hypergraph.{net_count, net_of}
 use Rattle.hg_defs.specs.Incidence.{nets_of}
 use Rattle.hg_defs.specs.Sorting.{set_of}
 use Rattle.flow_pair.proofs.MemberLaws.{flat_map_next}
-use Rattle.flow_pair.proofs.NetLaws.{all_of, joined_numbers, joined_below, joined_listed}
+use Rattle.flow_pair.proofs.NetLaws.{all_of, all_from_set, joined_numbers, joined_below, joined_listed}
 use Rattle.flow_pair.proofs.network.nets_of_pair.Goals as goal
 
 pub loop-v-preserved : goal.loop-v-preserved
@@ -21,7 +22,7 @@ returns-clause-nets c =
     let s = c.args.pair in
     let h = s.h.now in
     let all = c.loop-v.invariant ∙ ap (λ vs. c.args.touching.now ++ flat_map (nets_of h) vs) (take_all c.loop-v.v-index s.region.now c.loop-v-test.false) in
-    let nets = c.distinct.ensures ∙ ap (set_of nat_cmp) (all ∙ ap (λ es. es ++ flat_map (nets_of h) s.region.now) c.requires) in
+    let nets = c.distinct_of_many.ensures.set ∙ ap (set_of nat_cmp) (all ∙ ap (λ es. es ++ flat_map (nets_of h) s.region.now) c.requires.touching) in
     subst (All (λ e. e < net_count h)) (sym nets) (all_of (λ e. e < net_count h) (joined_numbers h s.blocks.now s.first s.second s.region.now)
     (λ e d. (joined_below h s.blocks.now s.first s.second s.region.now e d).0))
 
@@ -30,5 +31,16 @@ returns-clause-joined c =
     let s = c.args.pair in
     let h = s.h.now in
     let all = c.loop-v.invariant ∙ ap (λ vs. c.args.touching.now ++ flat_map (nets_of h) vs) (take_all c.loop-v.v-index s.region.now c.loop-v-test.false) in
-    let nets = c.distinct.ensures ∙ ap (set_of nat_cmp) (all ∙ ap (λ es. es ++ flat_map (nets_of h) s.region.now) c.requires) in
+    let nets = c.distinct_of_many.ensures.set ∙ ap (set_of nat_cmp) (all ∙ ap (λ es. es ++ flat_map (nets_of h) s.region.now) c.requires.touching) in
     ap (map (net_of h)) nets ∙ joined_listed h s.blocks.now s.first s.second s.region.now
+
+pub distinct_of_many-requires : goal.distinct_of_many-requires
+distinct_of_many-requires c =
+    let s = c.args.pair in
+    let h = s.h.now in
+    let all = c.loop-v.invariant ∙ ap (λ vs. c.args.touching.now ++ flat_map (nets_of h) vs) (take_all c.loop-v.v-index s.region.now c.loop-v-test.false) in
+    let nets = all ∙ ap (λ es. es ++ flat_map (nets_of h) s.region.now) c.requires.touching in
+    All-weaker (λ e. e < net_count h) (λ e. e < length c.args.spots.now) (λ e l. let m = c.requires.spots in omega arith) c.loop-v.nets.items
+    (subst (All (λ e. e < net_count h)) (sym nets) (all_from_set (λ e. e < net_count h) _
+    (all_of (λ e. e < net_count h) (joined_numbers h s.blocks.now s.first s.second s.region.now)
+    (λ e d. (joined_below h s.blocks.now s.first s.second s.region.now e d).0))))

@@ -17,12 +17,12 @@ free_on-requires-clause-nets c =
     let h = c.args.h.now in
     subst (All (λ e. e < net_count h)) (sym c.requires.nets) (touching_all h c.args.p.now.blocks c.args.from c.args.to)
 
-pub small_nets_of-requires : goal.small_nets_of-requires
-small_nets_of-requires c =
+pub small_nets_of-requires-clause-vertices : goal.small_nets_of-requires-clause-vertices
+small_nets_of-requires-clause-vertices c =
     let h = c.args.h.now in
     let p = c.args.p.now.blocks in
     let sound = subst IsHypergraph c.requires.belongs c.blocks-blocks.ensures.parted.sound in
-    let near = c.as_slice.ensures.value ∙ c.in_ok-near.ensures
+    let near = c.as_slice.ensures.value ∙ c.in_ok-near.ensures.list
     ∙ ap₂ (λ q es. set_of nat_cmp (flat_map (free_pins h q c.args.from) es)) c.blocks-blocks.ensures.value c.requires.nets
     ∙ near_listed h p c.args.from c.args.to sound in
     subst (All (λ v. v < vertex_count h)) (sym near) (kept_below (is_near h p c.args.from c.args.to) (vertex_count h))
@@ -30,14 +30,14 @@ small_nets_of-requires c =
 pub free_on-requires-2-clause-nets : goal.free_on-requires-2-clause-nets
 free_on-requires-2-clause-nets c =
     let h = c.args.h.now in
-    subst (All (λ e. e < net_count h)) (sym (c.as_slice-2.ensures.value ∙ c.in_ok-small.ensures)) (small_all h c.as_slice.result.now)
+    subst (All (λ e. e < net_count h)) (sym (c.as_slice-2.ensures.value ∙ c.in_ok-small.ensures.list)) (small_all h c.as_slice.result.now)
 
 pub without-requires : goal.without-requires
 without-requires c =
     let h = c.args.h.now in
     let p = c.args.p.now.blocks in
     let sound = subst IsHypergraph c.requires.belongs c.blocks-blocks.ensures.parted.sound in
-    let near = c.as_slice-4.ensures.value ∙ c.in_ok-near.ensures
+    let near = c.as_slice-4.ensures.value ∙ c.in_ok-near.ensures.list
     ∙ ap₂ (λ q es. set_of nat_cmp (flat_map (free_pins h q c.args.from) es)) c.blocks-blocks.ensures.value c.requires.nets
     ∙ near_listed h p c.args.from c.args.to sound in
     subst IsStrictlyIncreasing (sym near) (kept_rises (is_near h p c.args.from c.args.to) (vertex_count h))
@@ -47,7 +47,7 @@ take_all-requires c =
     let h = c.args.h.now in
     let p = c.args.p.now.blocks in
     let sound = subst IsHypergraph c.requires.belongs c.blocks-blocks.ensures.parted.sound in
-    let near = c.as_slice-5.ensures.value ∙ c.in_ok-near.ensures
+    let near = c.as_slice-5.ensures.value ∙ c.in_ok-near.ensures.list
     ∙ ap₂ (λ q es. set_of nat_cmp (flat_map (free_pins h q c.args.from) es)) c.blocks-blocks.ensures.value c.requires.nets
     ∙ near_listed h p c.args.from c.args.to sound in
     subst (All (λ v. v < vertex_count h)) (sym near) (kept_below (is_near h p c.args.from c.args.to) (vertex_count h))
@@ -57,27 +57,27 @@ take_all-requires-2 c =
     let h = c.args.h.now in
     let p = c.args.p.now.blocks in
     let sound = subst IsHypergraph c.requires.belongs c.blocks-blocks.ensures.parted.sound in
-    let near = c.in_ok-near.ensures
+    let near = c.in_ok-near.ensures.list
     ∙ ap₂ (λ q es. set_of nat_cmp (flat_map (free_pins h q c.args.from) es)) c.blocks-blocks.ensures.value c.requires.nets
     ∙ near_listed h p c.args.from c.args.to sound in
-    let small = c.as_slice-2.ensures.value ∙ c.in_ok-small.ensures ∙ ap (λ vs. set_of nat_cmp (flat_map (small_nets h) vs)) c.as_slice.ensures.value in
-    let all = c.as_slice-3.ensures.value ∙ c.in_ok-reached.ensures
+    let small = c.as_slice-2.ensures.value ∙ c.in_ok-small.ensures.list ∙ ap (λ vs. set_of nat_cmp (flat_map (small_nets h) vs)) c.as_slice.ensures.value in
+    let all = c.as_slice-3.ensures.value ∙ c.in_ok-reached.ensures.list
     ∙ ap₂ (λ q es. set_of nat_cmp (flat_map (free_pins h q c.args.from) es)) c.blocks-blocks.ensures.value small in
     let next = c.as_slice-6.ensures.value ∙ c.in_ok-next.ensures
     ∙ ap₂ (λ others xs. filter (λ v. not (is_member nat_eq others v)) xs) c.as_slice-4.ensures.value all
     ∙ next_listed h p c.args.from c.args.to sound c.in_ok-near.near.items near in
     subst (All (λ v. v < vertex_count h)) (sym next) (kept_below (is_next h p c.args.from c.args.to) (vertex_count h))
 
-pub returns : goal.returns
-returns c =
+pub returns-clause-side : goal.returns-clause-side
+returns-clause-side c =
     let h = c.args.h.now in
     let p = c.args.p.now.blocks in
     let sound = subst IsHypergraph c.requires.belongs c.blocks-blocks.ensures.parted.sound in
-    let near = c.in_ok-near.ensures
+    let near = c.in_ok-near.ensures.list
     ∙ ap₂ (λ q es. set_of nat_cmp (flat_map (free_pins h q c.args.from) es)) c.blocks-blocks.ensures.value c.requires.nets
     ∙ near_listed h p c.args.from c.args.to sound in
-    let small = c.as_slice-2.ensures.value ∙ c.in_ok-small.ensures ∙ ap (λ vs. set_of nat_cmp (flat_map (small_nets h) vs)) c.as_slice.ensures.value in
-    let all = c.as_slice-3.ensures.value ∙ c.in_ok-reached.ensures
+    let small = c.as_slice-2.ensures.value ∙ c.in_ok-small.ensures.list ∙ ap (λ vs. set_of nat_cmp (flat_map (small_nets h) vs)) c.as_slice.ensures.value in
+    let all = c.as_slice-3.ensures.value ∙ c.in_ok-reached.ensures.list
     ∙ ap₂ (λ q es. set_of nat_cmp (flat_map (free_pins h q c.args.from) es)) c.blocks-blocks.ensures.value small in
     let next = c.as_slice-6.ensures.value ∙ c.in_ok-next.ensures
     ∙ ap₂ (λ others xs. filter (λ v. not (is_member nat_eq others v)) xs) c.as_slice-4.ensures.value all

@@ -13,25 +13,25 @@ use Rattle.flow_pair.proofs.solve.solve_region.Goals as goal
 pub place_region-requires-clause-rising : goal.place_region-requires-clause-rising
 place_region-requires-clause-rising c =
     let p = c.args.p.now in
-    subst IsStrictlyIncreasing (sym (c.slice.ensures ∙ c.in_ok-region.ensures)) (region_rises c.args.h.now p.limit p.blocks c.args.a c.args.b)
+    subst IsStrictlyIncreasing (sym (c.slice.ensures ∙ c.in_ok-region.ensures.region)) (region_rises c.args.h.now p.limit p.blocks c.args.a c.args.b)
 
 pub place_region-requires-clause-vertices : goal.place_region-requires-clause-vertices
 place_region-requires-clause-vertices c =
     let p = c.args.p.now in
     let sound : IsHypergraph c.args.h.now = subst IsHypergraph c.requires.belongs c.blocks-blocks.ensures.parted.sound in
-    subst (All (λ v. v < vertex_count c.args.h.now)) (sym (c.slice.ensures ∙ c.in_ok-region.ensures)) (region_vertices c.args.h.now p.limit p.blocks c.args.a
+    subst (All (λ v. v < vertex_count c.args.h.now)) (sym (c.slice.ensures ∙ c.in_ok-region.ensures.region)) (region_vertices c.args.h.now p.limit p.blocks c.args.a
     c.args.b sound)
 
 pub build_short-requires-clause-rising : goal.build_short-requires-clause-rising
 build_short-requires-clause-rising c =
     let p = c.args.p.now in
-    subst IsStrictlyIncreasing (sym (c.slice-2.ensures ∙ c.in_ok-region.ensures)) (region_rises c.args.h.now p.limit p.blocks c.args.a c.args.b)
+    subst IsStrictlyIncreasing (sym (c.slice-2.ensures ∙ c.in_ok-region.ensures.region)) (region_rises c.args.h.now p.limit p.blocks c.args.a c.args.b)
 
 pub build_short-requires-clause-vertices : goal.build_short-requires-clause-vertices
 build_short-requires-clause-vertices c =
     let p = c.args.p.now in
     let sound : IsHypergraph c.args.h.now = subst IsHypergraph c.requires.belongs c.blocks-blocks.ensures.parted.sound in
-    subst (All (λ v. v < vertex_count c.args.h.now)) (sym (c.slice-2.ensures ∙ c.in_ok-region.ensures)) (region_vertices c.args.h.now p.limit p.blocks c.args.a
+    subst (All (λ v. v < vertex_count c.args.h.now)) (sym (c.slice-2.ensures ∙ c.in_ok-region.ensures.region)) (region_vertices c.args.h.now p.limit p.blocks c.args.a
     c.args.b sound)
 
 pub overflow_cast-result : goal.overflow_cast-result
@@ -41,7 +41,7 @@ overflow_cast-result c =
     let a = c.args.a in
     let b = c.args.b in
     let parted = c.blocks-blocks.ensures.parted in
-    let is = c.slice-2.ensures ∙ c.in_ok-region.ensures in
+    let is = c.slice-2.ensures ∙ c.in_ok-region.ensures.region in
     let fixed = c.in_ok-short.ensures.fixed ∙ ap (fixed_cost h p.blocks a b) is in
     let network = c.in_ok-short.ensures.network ∙ ap (short_network h p.blocks a b) is in
     let nodes = c.in_ok-cut.ensures.kept.0 ∙ ap (λ n. n.nodes) network in
@@ -54,7 +54,7 @@ overflow_cast-result c =
     (subst (λ x. IsPartition x p.k p.blocks) c.requires.belongs parted.partition) (subst (λ x. Fits x p.k p.limit p.blocks) c.requires.belongs
     c.requires.fits) c.requires.order c.requires.blocks (omega arith) pays
     c.in_ok-cut.ensures.sound c.in_ok-cut.ensures.flow c.in_ok-cut.ensures.cut
-    (c.in_ok-blocks.ensures.count ∙ c.len.ensures ∙ ap length c.in_ok-region.ensures)
+    (c.in_ok-blocks.ensures.count ∙ c.len.ensures ∙ ap length c.in_ok-region.ensures.region)
     (λ i l. c.in_ok-blocks.ensures.each i l ∙ ap (λ s. if is_in s (2 + i) then a else b) c.slice-3.ensures) in
     omega arith
 
@@ -65,7 +65,7 @@ overflow_add-result c =
     let a = c.args.a in
     let b = c.args.b in
     let parted = c.blocks-blocks.ensures.parted in
-    let is = c.slice-2.ensures ∙ c.in_ok-region.ensures in
+    let is = c.slice-2.ensures ∙ c.in_ok-region.ensures.region in
     let fixed = c.in_ok-short.ensures.fixed ∙ ap (fixed_cost h p.blocks a b) is in
     let network = c.in_ok-short.ensures.network ∙ ap (short_network h p.blocks a b) is in
     let nodes = c.in_ok-cut.ensures.kept.0 ∙ ap (λ n. n.nodes) network in
@@ -78,7 +78,7 @@ overflow_add-result c =
     (subst (λ x. IsPartition x p.k p.blocks) c.requires.belongs parted.partition) (subst (λ x. Fits x p.k p.limit p.blocks) c.requires.belongs
     c.requires.fits) c.requires.order c.requires.blocks (omega arith) pays
     c.in_ok-cut.ensures.sound c.in_ok-cut.ensures.flow c.in_ok-cut.ensures.cut
-    (c.in_ok-blocks.ensures.count ∙ c.len.ensures ∙ ap length c.in_ok-region.ensures)
+    (c.in_ok-blocks.ensures.count ∙ c.len.ensures ∙ ap length c.in_ok-region.ensures.region)
     (λ i l. c.in_ok-blocks.ensures.each i l ∙ ap (λ s. if is_in s (2 + i) then a else b) c.slice-3.ensures) in
     omega arith
 
@@ -89,7 +89,7 @@ returns c =
     let a = c.args.a in
     let b = c.args.b in
     let parted = c.blocks-blocks.ensures.parted in
-    let is = c.slice-2.ensures ∙ c.in_ok-region.ensures in
+    let is = c.slice-2.ensures ∙ c.in_ok-region.ensures.region in
     let fixed = c.in_ok-short.ensures.fixed ∙ ap (fixed_cost h p.blocks a b) is in
     let network = c.in_ok-short.ensures.network ∙ ap (short_network h p.blocks a b) is in
     let nodes = c.in_ok-cut.ensures.kept.0 ∙ ap (λ n. n.nodes) network in
@@ -101,7 +101,7 @@ returns c =
     (subst (λ x. IsPartition x p.k p.blocks) c.requires.belongs parted.partition) (subst (λ x. Fits x p.k p.limit p.blocks) c.requires.belongs
     c.requires.fits) c.requires.order c.requires.blocks (omega arith) pays
     c.in_ok-cut.ensures.sound c.in_ok-cut.ensures.flow c.in_ok-cut.ensures.cut
-    (c.in_ok-blocks.ensures.count ∙ c.len.ensures ∙ ap length c.in_ok-region.ensures)
+    (c.in_ok-blocks.ensures.count ∙ c.len.ensures ∙ ap length c.in_ok-region.ensures.region)
     (λ i l. c.in_ok-blocks.ensures.each i l ∙ ap (λ s. if is_in s (2 + i) then a else b) c.slice-3.ensures)
-    (record { region = c.in_ok-region.region; blocks = c.in_ok-blocks.blocks; value = c.in_ok-cut.cut.value + c.in_ok-short.short.fixed }) c.in_ok-region.ensures
+    (record { region = c.in_ok-region.region; blocks = c.in_ok-blocks.blocks; value = c.in_ok-cut.cut.value + c.in_ok-short.short.fixed }) c.in_ok-region.ensures.region
     refl refl
