@@ -7,9 +7,9 @@ ghost use Rattle.fm_search.specs.Standing.{IsOf};
 use crate::cells::{BLANK, Cell, Used};
 use crate::change::Change;
 use crate::mover::Mover;
-use crate::queue::{Offer, Queue};
 use crate::reading::{Choice, approach, best_block, read_vertex};
 use crate::shared::Shared;
+use gain_heap::{GainHeap, Offer};
 use hg_base::NoMemory;
 use incidence::Hypergraph;
 use std::alloc::Global;
@@ -75,7 +75,7 @@ pub(crate) struct Desk {
     cells: Vec<Cell>,
     used: Vec<Used>,
     listed: Vec<u32>,
-    queue: Queue,
+    queue: GainHeap,
 }
 
 impl Model for Desk {
@@ -86,7 +86,7 @@ impl Model for Desk {
 
     ghost view = { λ d. record { vertices = vec_len d.marks; nets = vec_len d.walked; blocks = d.k } };
 
-    ghost invariant = { λ d. (d.queue ≡ vec_len d.marks) × (d.k ≤ 256)
+    ghost invariant = { λ d. (d.queue.vertices ≡ vec_len d.marks) × (d.k ≤ 256)
         × All (λ m. m.row * d.k + d.k ≤ vec_len d.cells) d.marks.items
         × All (λ m. m.row < vec_len d.used) d.marks.items
         × All (λ v. v < vec_len d.marks) d.listed.items };
@@ -114,7 +114,7 @@ impl Desk {
             cells: vec![in alloc; BLANK; k as usize]?,
             used: vec![in alloc; Used::none(); 1]?,
             listed: Vec::new(alloc),
-            queue: Queue::start(alloc, h.vertices()),
+            queue: GainHeap::start(alloc, h.vertices()),
         })
     }
 
@@ -154,13 +154,17 @@ impl Desk {
         requires { v < self.old.vertices }
         ensures { self.new ≡ self.old }
     {
-        self.queue.push(gain, pull, v)
+        self.queue.push(Offer {
+            gain,
+            tie: pull,
+            vertex: v,
+        })
     }
 
     /// Takes the highest offer.
     pub(crate) fn pop(&mut self) -> Option<Offer>
         ensures same { self.new ≡ self.old }
-        ensures vertex { IfSome result (λ offer. offer.2 < self.old.vertices) }
+        ensures vertex { IfSome result (λ offer. offer.vertex < self.old.vertices) }
     {
         self.queue.pop()
     }

@@ -14,7 +14,6 @@ mod mover;
 mod pass;
 mod possible;
 mod progress;
-mod queue;
 mod race;
 mod reading;
 mod seeds;

@@ -8,11 +8,11 @@ ghost use Rattle.fm_search.specs.Standing.{IsFit};
 use crate::change::Change;
 use crate::desk::Desk;
 use crate::mover::{Mover, Outcome};
-use crate::queue::Offer;
 use crate::reading::{Choice, scored};
 use crate::shared::Shared;
 use crate::streak::Streak;
 use crew::Gate;
+use gain_heap::Offer;
 use hg_base::{FREE, NoMemory};
 
 /// The neighbours through nets of more pins aren't looked at.
@@ -156,11 +156,11 @@ impl Worker {
         streak: &mut Streak,
     ) -> Result<(), NoMemory>
         requires fit { IsFit shared.now.round.now shared.now.h.now shared.now.k self.old.mover self.old.desk }
-        requires vertex { offer.2 < vertex_count shared.now.h.now }
+        requires vertex { offer.vertex < vertex_count shared.now.h.now }
         ensures mover { self.new.mover ≡ self.old.mover }
         ensures desk { self.new.desk ≡ self.old.desk }
     {
-        let (gain, _, v) = offer;
+        let (gain, v) = (offer.gain, offer.vertex);
         if self.desk.is_gone(v) || shared.h.fix(v) != FREE {
             return Ok(());
         }
