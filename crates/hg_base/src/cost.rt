@@ -1,11 +1,11 @@
 //! The cost of a partition.
 
-ghost use Rattle.std.specs.Prelude.{◌≡◌, ◌<◌, ◌≤◌, ◌^◌, ℕ, length, All, nat_eq, not, ◌||◌};
-ghost use Rattle.hg_base.specs.BlockSet.{has};
+ghost use Rattle.std.specs.Prelude.{◌≡◌, ◌<◌, ◌≤◌, ◌^◌, length, All};
 ghost use Rattle.hg_defs.specs.Partition.{IsPartition};
 ghost use Rattle.hg_defs.specs.Cost.{connectivity, cost};
 ghost use Rattle.hg_defs.specs.Cost as costs;
 
+use crate::block_set::BlockSet;
 use crate::hyper::FlatHyper;
 use hg_defs::Objective;
 
@@ -26,7 +26,7 @@ pub fn cost_of(h: &FlatHyper, blocks: &[u32], k: u32) -> u64
 }
 
 /// What a net of weight 1 pays for the number of blocks that it touches.
-fn price(objective: Objective, touched: u64) -> u64
+pub fn price(objective: Objective, touched: u64) -> u64
     ensures value { result ≡ costs.price objective touched }
     ensures bound { result ≤ touched }
 {
@@ -47,23 +47,10 @@ fn touched(blocks: &[u32], pins: &[u32]) -> u64
     ensures value { result ≡ connectivity blocks.now pins.now }
     ensures bound { result ≤ length pins.now }
 {
-    let mut set = [0u64; 4];
+    let mut set = BlockSet::new();
     let mut count = 0;
     for v in pins {
-        count += u64::from(insert(&mut set, blocks[*v as usize]));
+        count += u64::from(set.insert(blocks[*v as usize]));
     }
     count
-}
-
-/// Puts a block below 256 into a set of four words, and answers whether it is new there.
-fn insert(set: &mut [u64; 4], block: u32) -> bool
-    requires { block < 256 }
-    ensures new { result ≡ not (has set.old block) }
-    ensures joined { (b : ℕ) → has set.new b ≡ (nat_eq b block || has set.old b) }
-{
-    let word = block as usize / 64;
-    let bit = 1 << (block % 64);
-    let is_new = set[word] & bit == 0;
-    set[word] |= bit;
-    is_new
 }

@@ -1,7 +1,7 @@
 //! Counts packed into words of 64 bits. The count of block `b` stands in the field at place
 //! `b % (64 / bits)` of word `b / (64 / bits)` of its net.
 
-ghost use Rattle.std.specs.Prelude.{◌≡◌, ℕ, ◌+◌, ◌-◌, ◌<◌, ◌≤◌, ◌^◌, nat_eq, if◌then◌else◌};
+ghost use Rattle.std.specs.Prelude.{◌≡◌, ℕ, ◌+◌, ◌-◌, ◌/◌, ◌%◌, ◌<◌, ◌≤◌, ◌^◌, nat_eq, if◌then◌else◌};
 ghost use Rattle.hg_base.specs.Packed as packed;
 ghost use Rattle.hg_base.specs.Packed.{IsWidth, fields_of};
 
@@ -19,6 +19,20 @@ pub fn words_of(pins: u32, k: u32) -> u32
     ensures { result ≡ packed.words_of pins k }
 {
     (k * bits_of(pins)).div_ceil(64)
+}
+
+/// The word of a net in which the count of block `b` stands, from its first one on, and the place of its field there.
+pub fn place_of(bits: u32, b: u32) -> (u32, u32)
+    requires { IsWidth bits }
+    ensures word { result.0 ≡ b / fields_of bits }
+    ensures place { result.1 ≡ b % fields_of bits }
+    ensures below { result.1 < fields_of bits }
+{
+    if bits == 16 {
+        (b / 4, b % 4)
+    } else {
+        (b / 2, b % 2)
+    }
 }
 
 /// The number in the field at a place, below `64 / bits`, of a word with fields of 16 or 32 bits.

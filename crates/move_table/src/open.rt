@@ -12,9 +12,9 @@ ghost use Rattle.move_table.specs.Standing.{terms_setup, IsTerms};
 ghost use Rattle.move_table.specs.Calls.{HasNetPlaces};
 ghost use Rattle.move_table.specs.Opening.{SameOutside, IsPinCounted, IsNetFilled, AreNetsFilled};
 
-use crate::place::{NetPlace, split};
+use crate::place::NetPlace;
 use crate::view::Terms;
-use hg_base::{NoMemory, bits_of, field, raise_field, words_of};
+use hg_base::{NoMemory, bits_of, field, place_of, raise_field, words_of};
 use incidence::Hypergraph;
 use std::alloc::Global;
 
@@ -86,7 +86,7 @@ fn count_pin(words: &mut [u64], place: NetPlace, b: u32)
     ensures others { (i : ℕ) → i ≢ place.start → i ≢ place.start + 1 + b / fields_of place.bits →
         slice_index words.new i ≡ slice_index words.old i }
 {
-    let (word, at) = split(place.bits, b);
+    let (word, at) = place_of(place.bits, b);
     let i = place.start as usize + 1 + word as usize;
     let more = one_for_none(field(words[i], place.bits, at));
     words[i] = raise_field(words[i], place.bits, at);

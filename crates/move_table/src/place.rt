@@ -1,6 +1,6 @@
 //! Where the words of a net stand.
 
-ghost use Rattle.std.specs.Prelude.{◌≡◌, ◌*◌, ◌/◌, ◌%◌, ◌<◌, ◌≤◌};
+ghost use Rattle.std.specs.Prelude.{◌≡◌, ◌*◌, ◌≤◌};
 ghost use Rattle.hg_base.specs.Packed.{IsWidth, fields_of};
 
 /// Where the words of a net begin, and how many bits each of its counts takes.
@@ -18,20 +18,6 @@ pub struct CountPlace {
     pub word: usize,
     pub bits: u32,
     pub field: u32,
-}
-
-/// The word of a net, and the field in it, where the count of a block stands.
-pub(crate) fn split(bits: u32, b: u32) -> (u32, u32)
-    requires { IsWidth bits }
-    ensures word { result.0 ≡ b / fields_of bits }
-    ensures field { result.1 ≡ b % fields_of bits }
-    ensures below { result.1 < fields_of bits }
-{
-    if bits == 16 {
-        (b / 4, b % 4)
-    } else {
-        (b / 2, b % 2)
-    }
 }
 
 /// The first block of which a word of a net has the count.

@@ -10,11 +10,12 @@ ghost use Rattle.move_table.specs.Places.{next_place, cursor_place, name_place, 
 ghost use Rattle.move_table.specs.Places.{counts_place, field_place, word_count};
 ghost use Rattle.move_table.specs.Standing.{terms_setup, IsTerms};
 
-use crate::place::{CountPlace, NetPlace, split};
+use crate::place::{CountPlace, NetPlace};
 use crate::rule::Balanced;
 use crate::steps::Words;
 use crate::view::{Terms, View};
 use atomic_table::Table;
+use hg_base::place_of;
 use incidence::Hypergraph;
 use std::alloc::Global;
 use std::marker::Model;
@@ -135,7 +136,7 @@ impl<'h> Round<'h> {
         ensures width { IsWidth result.bits × (result.field < fields_of result.bits) }
     {
         let net = self.net(e);
-        let (word, field) = split(net.bits, b);
+        let (word, field) = place_of(net.bits, b);
         CountPlace {
             word: net.start as usize + 1 + word as usize,
             bits: net.bits,

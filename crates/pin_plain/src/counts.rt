@@ -10,22 +10,9 @@ ghost use Rattle.hg_defs.specs.Pins.{pins_in};
 ghost use Rattle.pin_plain.specs.Counts.{net_start, counts_of, HasLayout, HasStarts, HasWidths, HoldsCounts};
 ghost use Rattle.pin_plain.specs.Parted.{IsParted};
 
-use hg_base::{NoMemory, bits_of, field, lower_field, raise_field, words_of};
+use hg_base::{NoMemory, bits_of, field, lower_field, place_of, raise_field, words_of};
 use incidence::Hypergraph;
 use std::alloc::Global;
-
-/// The word and the place in it at which the count of block `b` stands.
-fn split(bits: u32, b: u32) -> (u32, u32)
-    requires { IsWidth bits }
-    ensures word { result.0 ≡ b / fields_of bits }
-    ensures place { result.1 ≡ b % fields_of bits }
-{
-    if bits == 16 {
-        (b / 4, b % 4)
-    } else {
-        (b / 2, b % 2)
-    }
-}
 
 /// The count of block `b`.
 pub fn count(words: &[u64], start: u32, bits: u32, b: u32) -> u32
@@ -34,7 +21,7 @@ pub fn count(words: &[u64], start: u32, bits: u32, b: u32) -> u32
     requires few { length words.now < 2 ^ 32 }
     ensures value { result ≡ count_at words.now start bits b }
 {
-    let (word, place) = split(bits, b);
+    let (word, place) = place_of(bits, b);
     field(words[(start + word) as usize], bits, place) as u32
 }
 
@@ -48,7 +35,7 @@ pub fn raise(words: &mut [u64], start: u32, bits: u32, b: u32)
         (if nat_eq c b then 1 else 0) }
     ensures others { (i : ℕ) → i ≢ start + b / fields_of bits → slice_index words.new i ≡ slice_index words.old i }
 {
-    let (word, place) = split(bits, b);
+    let (word, place) = place_of(bits, b);
     let at = (start + word) as usize;
     words[at] = raise_field(words[at], bits, place);
 }
@@ -63,7 +50,7 @@ pub fn lower(words: &mut [u64], start: u32, bits: u32, b: u32)
         start bits c }
     ensures others { (i : ℕ) → i ≢ start + b / fields_of bits → slice_index words.new i ≡ slice_index words.old i }
 {
-    let (word, place) = split(bits, b);
+    let (word, place) = place_of(bits, b);
     let at = (start + word) as usize;
     words[at] = lower_field(words[at], bits, place);
 }

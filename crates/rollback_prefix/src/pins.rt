@@ -3,13 +3,12 @@
 ghost use Rattle.std.specs.Prelude.{◌≡◌, ◌≢◌, ℕ, ◌+◌, ◌-◌, ◌*◌, ◌<◌, ◌≤◌, ◌^◌, All, AllPairs, Contains, OnOk};
 ghost use Rattle.std.specs.Prelude.{length, map, slice_index, slice_index_or, pos, ◌+ℤ◌};
 ghost use Rattle.std.specs.List.Sorted.{IsStrictlyIncreasing};
-ghost use Rattle.hg_defs.specs.Cost as costs;
 ghost use Rattle.hg_defs.specs.Hypergraph.{net_count, net_of};
 ghost use Rattle.hg_defs.specs.Partition.{block_of};
 ghost use Rattle.rollback_prefix.specs.Gains.{IsReplay, AreSmall, saved_by_net};
 ghost use Rattle.rollback_prefix.specs.Pins.{AreZeros, ArePlacesAt, ArePinMoves, CountsPins, counted, counts_after};
 
-use hg_base::{Move, NoMemory, Objective};
+use hg_base::{Move, NoMemory, price};
 use incidence::Hypergraph;
 
 /// Finds the places of the moves that move one of the pins, in rising order. The order tells, for
@@ -68,21 +67,6 @@ fn shift_pin(counts: &mut [u32], touched: u32, from: u32, to: u32) -> u32
     joined - u32::from(counts[from as usize] == 0)
 }
 
-/// What a net of weight 1 pays for the number of blocks that it touches.
-fn price(objective: Objective, touched: u32) -> u64
-    ensures value { result ≡ costs.price objective touched }
-    ensures bound { result ≤ touched }
-{
-    if touched <= 1 {
-        return 0;
-    }
-    match objective {
-        Objective::Connectivity => u64::from(touched) - 1,
-        Objective::CutNet => 1,
-        Objective::ExternalDegree => u64::from(touched),
-    }
-}
-
 /// Forgets the counts of the blocks of the pins.
 fn clear_blocks(blocks: &[u32], pins: &[u32], counts: &mut [u32])
     requires pins { All (λ v. v < length blocks.now) pins.now }
@@ -136,9 +120,9 @@ pub fn add_net(
     let mut touched = count_pins(blocks, pins, counts);
     for place in places {
         let step = moves[*place as usize];
-        let before = weight * price(objective, touched);
+        let before = weight * price(objective, u64::from(touched));
         touched = shift_pin(counts, touched, step.from, step.to);
-        let after = weight * price(objective, touched);
+        let after = weight * price(objective, u64::from(touched));
         gains[*place as usize] += before as i64 - after as i64;
     }
     clear_blocks(blocks, pins, counts);

@@ -13,48 +13,35 @@ use Rattle.hg_defs.specs.Levels.{level, map_of, projected_from}
 use Rattle.hg_defs.specs.LevelLaws.{AreContractible}
 use Rattle.hg_defs.proofs.ContractionLaws.{block_of-after}
 use Rattle.hg_defs.proofs.LevelLaws.{projection_keeps_cost, level_is_contraction, vertices_of_contraction}
+use Rattle.hg_base.specs.BlockSet.{has}
 use Rattle.hg_base.proofs.CountLaws.{is_member_push, distinct_push}
 use Rattle.round_log.specs.declared.record.Trace.{Trace}
 use Rattle.trace_text.specs.Carrying.{carried, LeadsInto}
 use Rattle.trace_text.specs.Report.{IsPrintable, first_cost}
 
--- ---- flags of blocks
+-- ---- sets of blocks
 
--- which of 256 blocks stand in a list, and how many
-pub record AreSeen (seen : List Bool) (count index : ℕ) (blocks : List ℕ) : Type 0 where
-  pub long : length seen ≡ 256
-  pub flags : (b : ℕ) → b < 256 → slice_index_or seen b false ≡ is_member nat_eq blocks b
+-- the set has the blocks of a list, and the count says how many they are
+pub record AreSeen (seen : List ℕ) (count index : ℕ) (blocks : List ℕ) : Type 0 where
+  pub members : (b : ℕ) → has seen b ≡ is_member nat_eq blocks b
   pub counted : count ≡ distinct_count nat_eq blocks
   pub few : count ≤ index
 
-pub seen-none : (seen : List Bool) → length seen ≡ 256 → ((b : ℕ) → b < 256 → slice_index_or seen b false ≡ false) → AreSeen seen 0 0 []
-seen-none seen long flags = record { long = long; flags = flags; counted = refl; few = omega arith }
+pub seen-none : (seen : List ℕ) → ((b : ℕ) → has seen b ≡ false) → AreSeen seen 0 0 []
+seen-none seen none = record { members = none; counted = refl; few = omega arith }
 
 one-le : (t : Bool) → (if t then 1 else 0) ≤ 1
 one-le true = omega arith
 one-le false = omega arith
 
 -- one more block
-pub seen-more : (seen : List Bool) (count index x : ℕ) (blocks : List ℕ) → x < 256 → AreSeen seen count index blocks →
-    AreSeen (set seen x true) (count + (if not (slice_index_or seen x false) then 1 else 0)) (index + 1) (blocks ++ x ∷ [])
-seen-more seen count index x blocks small are = record {
-  long = length-set seen x true ∙ are.long;
-  flags = λ b low. each b low (cases_eq b x);
-  counted = ap₂ (λ (m : ℕ) (t : Bool). m + (if not t then 1 else 0)) are.counted (are.flags x small) ∙ sym (distinct_push blocks x);
-  few = (let few = are.few in let one = one-le (not (slice_index_or seen x false)) in omega arith);
+pub seen-more : (seen seen' : List ℕ) (count index x : ℕ) (blocks : List ℕ) → ((b : ℕ) → has seen' b ≡ (nat_eq b x || has seen b)) →
+    AreSeen seen count index blocks → AreSeen seen' (count + (if not (has seen x) then 1 else 0)) (index + 1) (blocks ++ x ∷ [])
+seen-more seen seen' count index x blocks joined are = record {
+  members = λ b. joined b ∙ ap (λ (t : Bool). nat_eq b x || t) (are.members b) ∙ sym (is_member_push blocks x b);
+  counted = ap₂ (λ (m : ℕ) (t : Bool). m + (if not t then 1 else 0)) are.counted (are.members x) ∙ sym (distinct_push blocks x);
+  few = (let few = are.few in let one = one-le (not (has seen x)) in omega arith);
 }
-  where
-    each : (b : ℕ) → b < 256 → (b ≡ x) ⊎ (b ≢ x) → slice_index_or (set seen x true) b false ≡ is_member nat_eq (blocks ++ x ∷ []) b
-    each b low (inl same) =
-        ap (λ i. slice_index_or (set seen x true) i false) same
-        ∙ get_or-set_same seen x true false (let long = are.long in omega arith)
-        ∙ sym (ap (λ (t : Bool). t || is_member nat_eq blocks b) (eq-eqb b x same))
-        ∙ sym (is_member_push blocks x b)
-    each b low (inr other) =
-        get_or-set_other seen x b true false other
-        ∙ are.flags b low
-        ∙ sym (ap (λ (t : Bool). t || is_member nat_eq blocks b) (ne_eqb b x other))
-        ∙ sym (is_member_push blocks x b)
 
 -- ---- carried vertices
 

@@ -1,19 +1,17 @@
-// The cost of the first partition of a descent.
-ghost use Rattle.std.specs.Prelude.{◌≡◌, ◌<◌, ◌≤◌, length, slice_index, slice_index_or};
-ghost use Rattle.std.specs.Prelude.{slice_set, true, false, not};
+//! The cost of the first partition of a descent.
+
+ghost use Rattle.std.specs.Prelude.{◌≡◌, ◌<◌, ◌≤◌, length, slice_index};
 ghost use Rattle.hg_defs.specs.Hypergraph.{net_count, net_of};
 ghost use Rattle.hg_defs.specs.Levels.{projected_from};
 ghost use Rattle.hg_defs.specs.Cost.{connectivity};
-ghost use Rattle.hg_defs.specs.Cost as costs;
 ghost use Rattle.trace_text.specs.Carrying.{carried, LeadsInto};
 ghost use Rattle.trace_text.specs.Report.{IsPrintable, first_cost};
 
-use crate::loads::MOST_BLOCKS;
-use hg_base::{FlatHyper, MapList, Objective};
+use hg_base::{BlockSet, FlatHyper, MapList, price};
 use round_log::Trace;
 
-// The cost of the first partition on its level. It is that on the file of the partition carried down, and
-// so it is found with no level built.
+/// The cost of the first partition on its level. It is that on the file of the partition carried down, and
+/// so it is found with no level built.
 pub(crate) fn first_cost(h: &FlatHyper, trace: &Trace) -> u64
     requires { IsPrintable h.now 256 trace.now }
     ensures { result ≡ first_cost h.now trace.now }
@@ -26,22 +24,7 @@ pub(crate) fn first_cost(h: &FlatHyper, trace: &Trace) -> u64
     sum
 }
 
-// What a net of weight 1 pays for the number of blocks that it touches.
-fn price(objective: Objective, touched: u64) -> u64
-    ensures value { result ≡ costs.price objective touched }
-    ensures bound { result ≤ touched }
-{
-    if touched <= 1 {
-        return 0;
-    }
-    match objective {
-        Objective::Connectivity => touched - 1,
-        Objective::CutNet => 1,
-        Objective::ExternalDegree => touched,
-    }
-}
-
-// How many blocks a net of the file touches, where the first partition is carried down to it.
+/// How many blocks a net of the file touches, where the first partition is carried down to it.
 fn touched(h: &FlatHyper, trace: &Trace, e: u32) -> u64
     requires printable { IsPrintable h.now 256 trace.now }
     requires net { e < net_count h.now }
@@ -50,28 +33,16 @@ fn touched(h: &FlatHyper, trace: &Trace, e: u32) -> u64
     ensures bound { result ≤ length (net_of h.now e).pins }
 {
     let maps = &trace.maps.slice()[..trace.start as usize];
-    let mut seen = [false; MOST_BLOCKS];
+    let mut seen = BlockSet::new();
     let mut count = 0;
     'pins: for v in h.pins(e) {
         let block = block_below(maps, trace.first.slice(), *v);
-        count += u64::from(mark(&mut seen, block));
+        count += u64::from(seen.insert(block));
     }
     count
 }
 
-// Marks a block, and answers whether it had no mark.
-fn mark(seen: &mut [bool; MOST_BLOCKS], block: u32) -> bool
-    requires size { length seen.old ≡ 256 }
-    requires block { block < 256 }
-    ensures new { result ≡ not (slice_index_or seen.old block false) }
-    ensures marked { seen.new ≡ slice_set seen.old block true }
-{
-    let is_new = !seen[block as usize];
-    seen[block as usize] = true;
-    is_new
-}
-
-// The block of a vertex of the file, which is that of the cluster that holds it on the last level.
+/// The block of a vertex of the file, which is that of the cluster that holds it on the last level.
 fn block_below(maps: &[MapList], blocks: &[u32], v: u32) -> u32
     requires { LeadsInto maps.now blocks.now v }
     ensures { result ≡ slice_index blocks.now (carried maps.now v) }

@@ -10,11 +10,11 @@ returns-clause-counted c =
     let place = c.args.place in
     let y : ℕ = c.raise_field.result in
     let more : ℕ = c.one_for_none-more.result in
-    let e = c.split-word.ensures.word in
-    let f = c.split-word.ensures.field in
-    let fields : (q : ℕ) → field y place.bits q ≡ field (slice_index ws (place.start + 1 + c.split-word.result.0)) place.bits q +
-    (if nat_eq q c.split-word.result.1 then 1 else 0) = c.raise_field.ensures.fields in
-    let first : more ≡ (if nat_eq (field (slice_index ws (place.start + 1 + c.split-word.result.0)) place.bits c.split-word.result.1) 0 then 1 else 0) =
+    let e = c.place_of-word.ensures.word in
+    let f = c.place_of-word.ensures.place in
+    let fields : (q : ℕ) → field y place.bits q ≡ field (slice_index ws (place.start + 1 + c.place_of-word.result.0)) place.bits q +
+    (if nat_eq q c.place_of-word.result.1 then 1 else 0) = c.raise_field.ensures.fields in
+    let first : more ≡ (if nat_eq (field (slice_index ws (place.start + 1 + c.place_of-word.result.0)) place.bits c.place_of-word.result.1) 0 then 1 else 0) =
     c.one_for_none-more.ensures ∙ ap (λ x. if nat_eq x 0 then 1 else 0) c.field.ensures.value in
     let at : ℕ → ℕ → ℕ = λ x z. field (slice_index ws (place.start + 1 + x)) place.bits z in
     subst (λ x. IsPinCounted place c.args.b ws (slice_set (slice_set ws (place.start + 1 + x) y) place.start
@@ -22,7 +22,7 @@ returns-clause-counted c =
     (pin_counted ws place c.args.b y more c.requires.inside
     (subst (λ x. (q : ℕ) → field y place.bits q ≡ field (slice_index ws (place.start + 1 + x)) place.bits q +
     (if nat_eq q (c.args.b % fields_of place.bits) then 1 else 0)) e
-    (subst (λ z. (q : ℕ) → field y place.bits q ≡ field (slice_index ws (place.start + 1 + c.split-word.result.0)) place.bits q +
+    (subst (λ z. (q : ℕ) → field y place.bits q ≡ field (slice_index ws (place.start + 1 + c.place_of-word.result.0)) place.bits q +
     (if nat_eq q z then 1 else 0)) f fields))
     (subst (λ x. more ≡ (if nat_eq (at x (c.args.b % fields_of place.bits)) 0 then 1 else 0)) e
-    (subst (λ z. more ≡ (if nat_eq (at c.split-word.result.0 z) 0 then 1 else 0)) f first)))
+    (subst (λ z. more ≡ (if nat_eq (at c.place_of-word.result.0 z) 0 then 1 else 0)) f first)))

@@ -2,9 +2,10 @@
 use Rattle.std.proofs.Common.{◌≡◌, ℕ, ◌+◌, ◌<◌, Bool, true, false, not, if◌then◌else◌, List, []}
 use Rattle.std.proofs.Common.{◌∷◌, ◌++◌, length, map, take, set, slice_index, slice_index_or, refl, sym, ap}
 use Rattle.std.proofs.Common.{ap₂, ◌∙◌, subst, arith}
-use Rattle.std.proofs.lemmas.List.{map_more, get_or-replicate}
+use Rattle.std.proofs.lemmas.List.{map_more}
 use Rattle.hg_defs.specs.Hypergraph.{vertex_count, net_of}
 use Rattle.hg_defs.specs.Levels.{projected_from}
+use Rattle.hg_base.specs.BlockSet.{has}
 use Rattle.hg_defs.specs.Partition.{block_of}
 use Rattle.trace_text.specs.Carrying.{carried, LeadsInto}
 use Rattle.trace_text.proofs.CarryingLemmas.{AreSeen, seen-none, seen-more, leads_into, block_carried, block-small}
@@ -16,12 +17,12 @@ byte_is true = refl
 byte_is false = refl
 
 pub pins-init : goal.pins-init
-pins-init c = seen-none _ refl (λ b small. get_or-replicate 256 b false false small)
+pins-init c = seen-none _ c.new-seen.ensures
 
-same : (seen seen' : List Bool) (count count' index : ℕ) (blocks blocks' : List ℕ) → seen ≡ seen' → count ≡ count' → blocks ≡ blocks' →
-    AreSeen seen count index blocks → AreSeen seen' count' index blocks'
-same seen seen' count count' index blocks blocks' e f b are =
-    subst (λ s. AreSeen s count' index blocks') e (subst (λ n. AreSeen seen n index blocks') f (subst (λ bs. AreSeen seen count index bs) b are))
+same : (seen : List ℕ) (count count' index : ℕ) (blocks blocks' : List ℕ) → count ≡ count' → blocks ≡ blocks' → AreSeen seen count index blocks →
+    AreSeen seen count' index blocks'
+same seen count count' index blocks blocks' f b are =
+    subst (λ n. AreSeen seen n index blocks') f (subst (λ bs. AreSeen seen count index bs) b are)
 
 pub block_below-block-requires : goal.block_below-block-requires
 block_below-block-requires c =
@@ -54,10 +55,8 @@ pins-preserved c =
     let most = block-small h t v c.requires.printable inside in
     let small : x < 256 = omega arith in
     let more = map_more (block_of q) pins i 0 low in
-    same (set c.pins.seen x true) c.mark.new.seen (c.pins.count + (if not (slice_index_or c.pins.seen x false) then 1 else 0))
-    (c.pins.count + c.from-count.result) (i + 1) (map (block_of q) (take i pins) ++ x ∷ []) (map (block_of q) (take (i + 1) pins))
-    (sym c.mark.ensures.marked)
-    (ap (λ (n : ℕ). c.pins.count + n)
-    (sym (c.from-count.ensures ∙ ap bool_byte c.mark.ensures.new ∙ byte_is (not (slice_index_or c.pins.seen x false)))))
+    same _ (c.pins.count + (if not (has c.pins.seen x) then 1 else 0)) (c.pins.count + c.from-count.result) (i + 1)
+    (map (block_of q) (take i pins) ++ x ∷ []) (map (block_of q) (take (i + 1) pins))
+    (ap (λ (n : ℕ). c.pins.count + n) (sym (c.from-count.ensures ∙ ap bool_byte c.insert.ensures.new ∙ byte_is (not (has c.pins.seen x)))))
     (ap (λ (b : ℕ). map (block_of q) (take i pins) ++ b ∷ []) is ∙ sym more)
-    (seen-more c.pins.seen c.pins.count i x (map (block_of q) (take i pins)) small c.pins.invariant)
+    (seen-more c.pins.seen _ c.pins.count i x (map (block_of q) (take i pins)) c.insert.ensures.joined c.pins.invariant)

@@ -1,4 +1,4 @@
--- The flags tell the blocks of the pins so far, and the count says how many they are.
+-- The set has the blocks of the pins so far, and the count says how many they are.
 use Rattle.std.proofs.Common.{map, take}
 use Rattle.hg_defs.specs.Hypergraph.{net_of}
 use Rattle.hg_defs.specs.Levels.{projected_from}
