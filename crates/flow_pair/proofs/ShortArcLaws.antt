@@ -203,7 +203,8 @@ module _ (h : Hyper) (p : List ℕ) (a b : ℕ) (region : List ℕ) where
       same ∙ ap₂ build all_nodes all_arcs
     where
       all_nodes : network.nodes ≡ 2 + length region + total (short_count p a b region) (joined_nets h p a b region)
-      all_nodes = sum-all (short_count p a b region) nets i network.nodes (2 + length region + total (short_count p a b region) (map (net_of h) nets)) least nodes
+      all_nodes =
+          sum-all (short_count p a b region) nets i network.nodes (2 + length region + total (short_count p a b region) (map (net_of h) nets)) least nodes
           ∙ ap (λ xs. 2 + length region + total (short_count p a b region) xs) is
 
       all_arcs : network.arcs ≡ all_short_arcs h p a b region (2 + length region) (joined_nets h p a b region)

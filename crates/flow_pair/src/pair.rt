@@ -66,7 +66,7 @@ pub(crate) fn contains(list: &[u32], v: u32) -> bool
 }
 
 /// Writes the places of the vertices of a region.
-pub(crate) fn write_places(region: &[u32], places: &mut [u32])
+fn write_places(region: &[u32], places: &mut [u32])
     requires few { length region.now ≤ 2 ^ 22 }
     requires rising { IsStrictlyIncreasing region.now }
     requires vertices { All (λ v. v < length places.old) region.now }

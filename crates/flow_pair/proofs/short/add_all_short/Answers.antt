@@ -1,4 +1,4 @@
-use Rattle.std.proofs.Common.{◌+◌, length, map, slice_index, ap, arith}
+use Rattle.std.proofs.Common.{◌+◌, ◌∙◌, length, map, slice_index, ap, arith}
 use Rattle.std.proofs.lemmas.List.{length-append}
 use Rattle.hg_defs.specs.Hypergraph.{net_of}
 use Rattle.hg_defs.specs.Sums.{total}
@@ -6,7 +6,7 @@ use Rattle.hg_defs.proofs.SumLaws.{total-take_more, total_more-le}
 use Rattle.flow_pair.specs.PairNetwork.{joins}
 use Rattle.flow_pair.specs.ShortNetwork.{short_arcs, short_count, fixed_price}
 use Rattle.flow_pair.proofs.NetLaws.{joined_few}
-use Rattle.flow_pair.proofs.ShortArcLaws.{short-rest, short-few, short_count-few, sum-rest, sum-part, fixed-small}
+use Rattle.flow_pair.proofs.ShortArcLaws.{short-rest, short-few, short_count-few, short-made, sum-rest, sum-part, sum-all, fixed-small}
 use Rattle.flow_pair.proofs.short.add_all_short.Goals as goal
 
 pub add_short-requires-clause-few : goal.add_short-requires-clause-few
@@ -76,3 +76,17 @@ loop-e-preserved c =
       fixed = sum-rest h p a b region (fixed_price h p a b region) nets j c.loop-e.fixed _ _ l
           (ap (λ n. c.loop-e.fixed + n) c.in_ok-fixed.ensures.fixed) i.fixed;
     }
+
+pub returns-clause-network : goal.returns-clause-network
+returns-clause-network c =
+    let s = c.args.pair in
+    let i = c.loop-e.invariant in
+    short-made s.h.now s.blocks.now s.first s.second s.region.now c.loop-e.network c.args.nets.now c.loop-e.e-index c.loop-e-test.false c.requires.joined
+    i.nodes i.arcs i.idle
+
+pub returns-clause-fixed : goal.returns-clause-fixed
+returns-clause-fixed c =
+    let s = c.args.pair in
+    let price = fixed_price s.h.now s.blocks.now s.first s.second s.region.now in
+    sum-all s.h.now s.blocks.now s.first s.second s.region.now price c.args.nets.now c.loop-e.e-index c.loop-e.fixed _ c.loop-e-test.false
+    c.loop-e.invariant.fixed ∙ ap (total price) c.requires.joined

@@ -103,5 +103,5 @@ returns c =
     c.in_ok-cut.ensures.sound c.in_ok-cut.ensures.flow c.in_ok-cut.ensures.cut
     (c.in_ok-blocks.ensures.count ∙ c.len.ensures ∙ ap length c.in_ok-region.ensures.region)
     (λ i l. c.in_ok-blocks.ensures.each i l ∙ ap (λ s. if is_in s (2 + i) then a else b) c.slice-3.ensures)
-    (record { region = c.in_ok-region.region; blocks = c.in_ok-blocks.blocks; value = c.in_ok-cut.cut.value + c.in_ok-short.short.fixed }) c.in_ok-region.ensures.region
-    refl refl
+    (record { region = c.in_ok-region.region; blocks = c.in_ok-blocks.blocks; value = c.in_ok-cut.cut.value + c.in_ok-short.short.fixed })
+    c.in_ok-region.ensures.region refl refl
