@@ -105,18 +105,6 @@ fn split_roots(h: &Hypergraph, blocks: &[u32], mut roots: Vec<u32>) -> Vec<u32>
     roots
 }
 
-/// How many clusters a full clustering has: one more than its greatest number.
-pub fn count_clusters(clusters: &[u32]) -> u32
-    requires { All (λ i. i < 2 ^ 22) clusters.now }
-    ensures { result ≡ cluster_count clusters.now }
-{
-    let mut count = 0;
-    for i in clusters {
-        count = count.max(*i + 1);
-    }
-    count
-}
-
 /// Whether this many clusters are a twentieth fewer than the vertices.
 pub fn is_twentieth_fewer(h: &Hypergraph, clusters: u32) -> bool
     requires { clusters ≤ vertex_count h.now }

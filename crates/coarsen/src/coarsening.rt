@@ -7,8 +7,8 @@ ghost use Rattle.round_log.specs.Trace.{IsGoodClustering, AreContracted, IsStop}
 ghost use Rattle.round_log.specs.Cycles.{IsInsideAt};
 ghost use Rattle.coarsen.specs.Numbers.{IsByRoot, IsStopByRoot};
 
-use crate::clustering::{cluster_inside, cluster_level, count_clusters, is_twentieth_fewer};
-use contract_nets::contract;
+use crate::clustering::{cluster_inside, cluster_level, is_twentieth_fewer};
+use contract_nets::{contract, count_clusters};
 use crew::Gate;
 use hg_base::{Blocks, NoMemory};
 use incidence::Hypergraph;

@@ -7,7 +7,7 @@ mod marks;
 mod numbering;
 mod pairing;
 
-pub use clustering::{cluster_cap, count_clusters, is_twentieth_fewer};
+pub use clustering::{cluster_cap, is_twentieth_fewer};
 pub use coarsening::{coarsen, coarsen_inside};
 pub use crew::Gate;
 pub use hg_base::{Blocks, MapList, NoMemory};

@@ -62,7 +62,7 @@ fn merge(
         slice_index places.new e ≢ DROPPED) }
 {
     let _vertices = h.vertices();
-    let count = count_of(map);
+    let count = count_clusters(map);
     let nets = map_nets(rt, alloc, h, map)?;
     let mut keys = keys_of(alloc, &nets)?;
     sort_keys(rt, &mut keys);
@@ -71,13 +71,13 @@ fn merge(
     Ok(coarse)
 }
 
-/// One more than the greatest number, or 0 where there is none.
-fn count_of(map: &[u32]) -> u32
-    requires { All (λ i. i < 2 ^ 22) map.now }
-    ensures { result ≡ cluster_count map.now }
+/// How many clusters a full clustering has: one more than its greatest number, or 0 where there is none.
+pub fn count_clusters(clusters: &[u32]) -> u32
+    requires { All (λ i. i < 2 ^ 22) clusters.now }
+    ensures { result ≡ cluster_count clusters.now }
 {
     let mut count = 0;
-    for i in map {
+    for i in clusters {
         count = count.max(*i + 1);
     }
     count

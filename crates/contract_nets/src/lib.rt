@@ -9,7 +9,7 @@ mod ledger;
 mod merging;
 mod vertices;
 
-pub use contraction::contract;
+pub use contraction::{contract, count_clusters};
 pub use hg_base::NoMemory;
 pub use incidence::Hypergraph;
 pub use ledger::{MergeLedger, Merged};

@@ -3,8 +3,8 @@
 ghost use Rattle.std.specs.Prelude.{◌≡◌, ◌<◌, IfOk};
 ghost use Rattle.det_sync.specs.Descent.{AreDetLevels};
 
-use coarsen::{cluster_cap, count_clusters, is_twentieth_fewer, pair_sweep};
-use contract_nets::contract;
+use coarsen::{cluster_cap, is_twentieth_fewer, pair_sweep};
+use contract_nets::{contract, count_clusters};
 use hg_base::NoMemory;
 use incidence::Hypergraph;
 use level_stack::LevelStack;
