@@ -163,7 +163,7 @@ pub fn sync_round<R: Threads + Sync>(
 {
     let _parted = p.blocks();
     let before = p.cost(h);
-    let wishes = wishes_of(rt, alloc, h, &p)?;
+    let wishes = wishes_of(rt, alloc, h, &p, workers)?;
     grant_best(
         rt,
         alloc,
@@ -200,7 +200,7 @@ pub(crate) fn sync_level<R: Threads + Sync>(
 {
     let mut cost = p.cost(h);
     'rounds: for _made in 0..MOST_ROUNDS {
-        let wishes = wishes_of(rt, alloc, h, p)?;
+        let wishes = wishes_of(rt, alloc, h, p, workers)?;
         let listed = wishes.as_slice();
         if listed.is_empty() {
             return Ok(());

@@ -16,10 +16,7 @@ use std::thread::Threads;
 /// The wishes of some of the vertices, or no memory to tell them.
 type PartWishes = Result<Vec<BestMove>, NoMemory>;
 
-/// The vertices are cut into so many parts at most.
-const MOST_PARTS: usize = 64;
-
-/// A part has so many vertices, but for the last one.
+/// A part has so many vertices at least, but for the last one: to start a thread for it costs as much.
 const LEAST_VERTICES: usize = 1024;
 
 /// The wishes of part `j` of the vertices, which are cut into parts of a size.
@@ -67,20 +64,22 @@ fn wishes_by_part<R: Threads + Sync>(
 
 /// The wishes of all vertices, in rising number.
 ///
-/// Parts of the vertices are looked at by many threads. What a vertex wishes follows from the
-/// partition alone, so that no schedule shows.
+/// Each worker looks at a part of the vertices, in a thread of its own. What a vertex wishes follows
+/// from the partition alone, so that neither a schedule nor the number of workers shows.
 fn all_wishes<R: Threads + Sync>(
     rt: &R,
     alloc: Global,
     h: &Hypergraph,
     p: &Partition,
+    workers: u32,
 ) -> Result<Vec<BestMove>, NoMemory>
     requires belongs { p.now.hyper ≡ h.now }
+    requires some { 1 ≤ workers }
     ensures { IfOk result (λ wishes. wishes.items ≡ best_moves h.now p.now.k p.now.limit p.now.blocks
         (vertices h.now)) }
 {
     let size = (h.vertices() as usize)
-        .div_ceil(MOST_PARTS)
+        .div_ceil(workers as usize)
         .max(LEAST_VERTICES);
     let parts = wishes_by_part(rt, alloc, h, p, size)?;
     let mut wishes = Vec::new(alloc);
@@ -94,17 +93,19 @@ fn all_wishes<R: Threads + Sync>(
 }
 
 /// The wishes of all vertices in a partition: those that would save most first, and of those that
-/// would save as much that of the lowest vertex first.
+/// would save as much that of the lowest vertex first. There are 1 to 64 workers.
 pub(crate) fn wishes_of<R: Threads + Sync>(
     rt: &R,
     alloc: Global,
     h: &Hypergraph,
     p: &Partition,
+    workers: u32,
 ) -> Result<Vec<BestMove>, NoMemory>
     requires belongs { p.now.hyper ≡ h.now }
+    requires some { 1 ≤ workers }
     ensures { IfOk result (λ wishes. AreWishes h.now p.now.k p.now.limit p.now.blocks wishes.items) }
 {
-    let mut wishes = all_wishes(rt, alloc, h, p)?;
+    let mut wishes = all_wishes(rt, alloc, h, p, workers)?;
     par_sort_unstable(rt, wishes.as_mut_slice());
     Ok(wishes)
 }
