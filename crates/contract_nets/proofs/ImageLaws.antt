@@ -1,6 +1,6 @@
 -- Laws of images, list after list, in parts of a size.
 use Rattle.std.proofs.Common.{◌≡◌, ℕ, ◌+◌, ◌-◌, ◌*◌, ◌/◌, ◌%◌, ◌^◌, ◌<◌, ◌≤◌, ◌⊎◌, inl, inr, List, [], ◌∷◌, ◌++◌, length, map, take, drop, get_or}
-use Rattle.std.proofs.Common.{slice_index, slice_range, All, nat_cmp, Contains, Result, Ok, IfOk, refl, sym, ap, ap₂, ◌∙◌, subst, arith}
+use Rattle.std.proofs.Common.{slice_index, slice_range, All, nat_cmp, Result, Ok, IfOk, refl, sym, ap, ap₂, ◌∙◌, subst, arith}
 use Rattle.std.proofs.Math.Nat.{mod-add-div, mod-lt, mul_comm, div-lt_iff_lt-mul}
 use Rattle.std.proofs.lemmas.Bool.{cases_lt}
 use Rattle.std.proofs.lemmas.Cmp.{nat_cmp_total}
@@ -11,12 +11,11 @@ use Rattle.std.specs.Iterator.{Yields}
 use Rattle.std.specs.Vec.Iter.{into_iter_items, into_iter_steps}
 use Rattle.std.specs.declared.vec.IntoIter.{IntoIter}
 use Rattle.hg_defs.specs.Sums.{total}
-use Rattle.hg_defs.specs.Sorting.{set_of}
 use Rattle.hg_defs.specs.Hypergraph.{Net, Hyper, vertex_count, net_count, net_of, IsHypergraph}
 use Rattle.hg_defs.specs.Contraction.{image}
 use Rattle.hg_defs.specs.Clustering.{cluster_count}
 use Rattle.hg_defs.proofs.NumberingLaws.{below_count}
-use Rattle.hg_defs.proofs.SumLaws.{total-take_more, total-take-le}
+use Rattle.hg_defs.proofs.SumLaws.{total-take_more}
 use Rattle.hg_defs.proofs.SortLaws.{nat_cmp_exact, length-set_of-le, Contains-from_set_of}
 use Rattle.contract_nets.specs.Merging.{mapped_net}
 use Rattle.contract_nets.specs.Images.{over, Lists, HasListAt, IsPart, ArePartsOf}

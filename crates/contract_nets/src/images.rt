@@ -19,8 +19,8 @@ use std::thread::{Threads, map_indices};
 /// The nets are cut into so many parts at most.
 const MOST_PARTS: u32 = 8;
 
-/// A part has so many nets, but for the last one: to start a thread for it costs as much as a
-/// thousand nets.
+/// A part has so many nets at least, but for the last one: to start a thread for it costs as much
+/// as a thousand nets.
 const LEAST_NETS: u32 = 4096;
 
 /// The images of some nets, one list after the other, and where each starts.
@@ -38,8 +38,8 @@ impl Model for Part {
     ghost view = { λ part. record { starts = part.starts.items; pins = part.pins.items } };
 }
 
-/// The nets of a hypergraph over clusters, cut into parts of a size, which are made at the same
-/// time. Its vertices are the clusters; their weights and fixes say nothing.
+/// The images of all nets of a hypergraph, in parts of a size. As a hypergraph its vertices are the
+/// clusters, whose weights and fixes say nothing.
 #[derive(Drop)]
 pub(crate) struct Images<'a> {
     h: &'a Hypergraph,

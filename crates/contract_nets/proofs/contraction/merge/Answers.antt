@@ -1,11 +1,11 @@
 -- The parts of the contraction.
-use Rattle.std.proofs.Common.{◌≡◌, ◌≢◌, ℕ, ◌<◌, ◌≤◌, ◌^◌, List, length, map, slice_index, All, refl, sym, ap, ◌∙◌, subst, arith}
+use Rattle.std.proofs.Common.{length, All, sym, ap, ◌∙◌, subst, arith}
 use Rattle.std.proofs.lemmas.List.FromFn.{length-map-range_with_len}
-use Rattle.hg_defs.specs.Hypergraph.{Net, Hyper, vertex_count, net_count, net_of}
+use Rattle.hg_defs.specs.Hypergraph.{Hyper}
 use Rattle.hg_defs.specs.Partition.{weight_in}
 use Rattle.hg_defs.specs.Contraction.{IsFull, contract}
 use Rattle.hg_defs.specs.Clustering.{cluster_count}
-use Rattle.contract_nets.specs.Keys.{Key, IsKey}
+use Rattle.contract_nets.specs.Keys.{IsKey}
 use Rattle.contract_nets.proofs.CoarseLaws.{few_clusters, each_sorted, coarse_is, coarse_limits}
 use Rattle.contract_nets.proofs.ImageLaws.{vertices_over}
 use Rattle.contract_nets.proofs.LedgerLaws.{all_placed}

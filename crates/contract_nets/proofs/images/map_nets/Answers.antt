@@ -1,5 +1,5 @@
 -- One part more, and all of them.
-use Rattle.std.proofs.Common.{◌≡◌, ℕ, List, ◌<◌, ◌≤◌, ◌*◌, ◌++◌, vec_len, [], ◌∷◌, length, get_or, sym, subst, ap, ◌∙◌, arith}
+use Rattle.std.proofs.Common.{◌≡◌, ◌≤◌, ◌*◌, ◌++◌, vec_len, [], ◌∷◌, length, sym, subst, ap, ◌∙◌, arith}
 use Rattle.hg_defs.specs.Hypergraph.{net_count}
 use Rattle.contract_nets.specs.Images.{ArePartsOf}
 use Rattle.contract_nets.proofs.ImageLaws.{AreThere, AreThere-more, AreThere-all, taken_all}

@@ -1,9 +1,9 @@
 -- One image more.
-use Rattle.std.proofs.Common.{◌≡◌, ℕ, ◌+◌, ◌*◌, ◌≤◌, List, ◌++◌, [], ◌∷◌, length, map, slice_index, nat_cmp, sym, subst, ap, ◌∙◌, refl, arith}
+use Rattle.std.proofs.Common.{ℕ, ◌+◌, ◌*◌, List, ◌++◌, [], ◌∷◌, length, map, slice_index, nat_cmp, sym, subst, ap, ◌∙◌, refl, arith}
 use Rattle.std.proofs.lemmas.List.{length-append}
 use Rattle.hg_defs.specs.Sorting.{set_of}
 use Rattle.hg_defs.proofs.SumLaws.{total-take-le}
-use Rattle.contract_nets.proofs.ImageLaws.{AreLists, AreLists-start, AreLists-more, few_more}
+use Rattle.contract_nets.proofs.ImageLaws.{AreLists, AreLists-more, few_more}
 use Rattle.contract_nets.proofs.images.map_part.Goals as goal
 
 pub overflow_cast-len : goal.overflow_cast-len

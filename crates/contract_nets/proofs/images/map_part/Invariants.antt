@@ -1,5 +1,4 @@
 -- The images so far.
-use Rattle.std.proofs.Common.{◌*◌}
 use Rattle.contract_nets.proofs.ImageLaws.{AreLists}
 use Rattle.contract_nets.proofs.images.map_part.Given as goal
 

@@ -1,5 +1,5 @@
 -- Sorted and without repeats, they are the set.
-use Rattle.std.proofs.Common.{◌≡◌, ◌∙◌, List, ℕ, map, take, slice_index, nat_cmp, ap, sym, subst, arith}
+use Rattle.std.proofs.Common.{◌∙◌, map, slice_index, nat_cmp, ap, arith}
 use Rattle.std.proofs.lemmas.List.{take_all}
 use Rattle.hg_defs.specs.Sorting.{set_of}
 use Rattle.hg_defs.proofs.SortLaws.{set_from_sort_dedup}

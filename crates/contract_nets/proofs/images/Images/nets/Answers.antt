@@ -1,5 +1,5 @@
 -- There are as many nets as the hypergraph has, over few clusters.
-use Rattle.std.proofs.Common.{◌≡◌, ◌≤◌, ◌^◌, sym, subst, ap, ◌∙◌}
+use Rattle.std.proofs.Common.{◌≤◌, ◌^◌, sym, subst, ap, ◌∙◌}
 use Rattle.hg_defs.specs.Hypergraph.{vertex_count, net_count}
 use Rattle.contract_nets.proofs.ImageLaws.{count_over, vertices_over}
 use Rattle.contract_nets.proofs.images.Images.nets.Goals as goal

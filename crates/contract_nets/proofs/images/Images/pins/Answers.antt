@@ -1,5 +1,5 @@
 -- The image stands in the part of the net.
-use Rattle.std.proofs.Common.{◌≡◌, ℕ, List, ◌<◌, ◌≤◌, ◌/◌, ◌%◌, All, length, map, slice_index, slice_range, nat_cmp, sym, subst, ap, ◌∙◌, arith}
+use Rattle.std.proofs.Common.{◌<◌, ◌%◌, All, map, slice_index, slice_range, sym, subst, ap, ◌∙◌, arith}
 use Rattle.std.specs.List.Sorted.{IsStrictlyIncreasing}
 use Rattle.hg_defs.specs.Hypergraph.{net_count, net_of, vertex_count}
 use Rattle.hg_defs.specs.Contraction.{image}
