@@ -16,8 +16,8 @@ mod division;
 mod draws;
 mod frame;
 mod growing;
+mod listed;
 mod moves;
-mod queue;
 mod rest;
 mod tables;
 

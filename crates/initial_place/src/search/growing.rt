@@ -5,6 +5,7 @@ ghost use Rattle.initial_place.specs.Shapes.{Range, Shape, IsShapeOf};
 
 use crate::search::cells::Labels;
 use crate::search::moves::Search;
+use gain_heap::Offer;
 use hg_base::NoMemory;
 use incidence::Hypergraph;
 
@@ -50,14 +51,17 @@ impl Search {
     }
 
     /// Puts a vertex into the queue by its gain in a block.
-    fn offer_to(&mut self, v: u32, block: u32, tie: u32) -> Result<(), NoMemory>
+    fn offer_to(&mut self, v: u32, block: u32, tie: i64) -> Result<(), NoMemory>
         requires vertex { v < self.old.vertices }
         requires block { block < self.old.blocks }
         ensures { self.new ≡ self.old }
     {
         let gain = self.tables.gain(v, block);
-        self.queue.push(gain, tie, v)?;
-        Ok(())
+        self.queue.push(Offer {
+            gain,
+            tie,
+            vertex: v,
+        })
     }
 
     /// Whether a block comes nearer to a load by a vertex, and stays within the most.
@@ -84,7 +88,14 @@ impl Search {
         ensures vertex { IfOk result (λ next. IfSome next (λ v. v < self.old.vertices)) }
     {
         for _ in 0..MOST_OFFERS {
-            let Some((gain, tie, v)) = self.pop() else {
+            let Some(
+                Offer {
+                    gain,
+                    tie,
+                    vertex: v,
+                },
+            ) = self.pop()
+            else {
                 return Ok(None);
             };
             if self.is_locked(v) || self.tables.block(v) != from {
@@ -112,7 +123,7 @@ impl Search {
                 break;
             };
             if !self.is_locked(v) && self.tables.block(v) == from {
-                let tie = self.draws.word();
+                let tie = i64::from(self.draws.word());
                 self.offer_to(v, block, tie)?;
             }
         }

@@ -6,8 +6,8 @@ ghost use Rattle.initial_place.specs.Shapes.{Range, Shape, IsShapeOf, IsMoveWith
 
 use crate::search::cells::{Cells, Labels};
 use crate::search::draws::Draws;
-use crate::search::queue::{Offer, Queue};
 use crate::search::tables::Tables;
+use gain_heap::{GainHeap, Offer};
 use hg_base::NoMemory;
 use incidence::Hypergraph;
 use std::alloc::Global;
@@ -26,7 +26,7 @@ const MOST_OFFERS: u32 = 1 << 24;
 #[derive(Drop)]
 pub(crate) struct Search {
     pub(crate) tables: Tables,
-    pub(crate) queue: Queue,
+    pub(crate) queue: GainHeap,
     pub(crate) locked: Cells<bool>,
     fixed: Cells<bool>,
     pub(crate) order: Labels,
@@ -44,7 +44,7 @@ impl Model for Search {
     ghost view = { λ s. s.tables };
 
     ghost invariant = { λ s.
-        (s.queue ≡ s.tables.vertices)
+        (s.queue.vertices ≡ s.tables.vertices)
         × (s.locked ≡ s.tables.vertices)
         × (s.fixed ≡ s.tables.vertices)
         × (s.order ≡ record { count = s.tables.vertices; bound = s.tables.vertices })
@@ -77,7 +77,7 @@ impl Search {
         let tables = Tables::start(alloc, h, blocks, weights, limits)?;
         let mut search = Search {
             tables,
-            queue: Queue::start(alloc, vertices),
+            queue: GainHeap::start(alloc, vertices),
             locked: Cells::of(vec![in alloc; false; vertices as usize]?),
             fixed,
             order: Labels::start(alloc, vertices, vertices, 0)?,
@@ -156,7 +156,7 @@ impl Search {
     /// Takes the highest offer from the queue.
     pub(crate) fn pop(&mut self) -> Option<Offer>
         ensures same { self.new ≡ self.old }
-        ensures vertex { IfSome result (λ offer. offer.2 < self.old.vertices) }
+        ensures vertex { IfSome result (λ offer. offer.vertex < self.old.vertices) }
     {
         self.queue.pop()
     }
@@ -167,8 +167,12 @@ impl Search {
         ensures { self.new ≡ self.old }
     {
         if let Some((gain, _to)) = self.tables.best_move(v, slack) {
-            let tie = self.draws.word();
-            self.queue.push(gain, tie, v)?;
+            let tie = i64::from(self.draws.word());
+            self.queue.push(Offer {
+                gain,
+                tie,
+                vertex: v,
+            })?;
         }
         Ok(())
     }
@@ -214,19 +218,20 @@ impl Search {
         ensures within { IfOk result (λ next. IfSome next (IsMoveWithin self.old)) }
     {
         for _ in 0..MOST_OFFERS {
-            let Some((gain, tie, v)) = self.queue.pop() else {
+            let Some(offer) = self.queue.pop() else {
                 return Ok(None);
             };
+            let v = offer.vertex;
             if self.locked.get(v) {
                 continue;
             }
             let Some((now, to)) = self.tables.best_move(v, slack) else {
                 continue;
             };
-            if now >= gain {
+            if now >= offer.gain {
                 return Ok(Some((v, to)));
             }
-            self.queue.push(now, tie, v)?;
+            self.queue.push(Offer { gain: now, ..offer })?;
         }
         Ok(None)
     }
@@ -323,7 +328,11 @@ impl Search {
     {
         if !self.locked.get(v) {
             if let Some((rate, _to)) = self.tables.relief(v) {
-                self.queue.push(rate, v, v)?;
+                self.queue.push(Offer {
+                    gain: rate,
+                    tie: i64::from(v),
+                    vertex: v,
+                })?;
             }
         }
         Ok(())
@@ -335,16 +344,17 @@ impl Search {
         ensures within { IfOk result (λ next. IfSome next (IsMoveWithin self.old)) }
     {
         for _ in 0..MOST_OFFERS {
-            let Some((rate, tie, v)) = self.queue.pop() else {
+            let Some(offer) = self.queue.pop() else {
                 return Ok(None);
             };
+            let v = offer.vertex;
             let Some((now, to)) = self.tables.relief(v) else {
                 continue;
             };
-            if now >= rate {
+            if now >= offer.gain {
                 return Ok(Some((v, to)));
             }
-            self.queue.push(now, tie, v)?;
+            self.queue.push(Offer { gain: now, ..offer })?;
         }
         Ok(None)
     }

@@ -5,7 +5,7 @@ ghost use Rattle.hg_defs.specs.Hypergraph.{vertex_count, net_count};
 ghost use Rattle.initial_place.specs.Shapes.{Size, Range, Shape, IsShapeOf};
 
 use crate::search::cells::{Cells, Grid, Labels};
-use crate::search::queue::Listed;
+use crate::search::listed::Listed;
 use hg_base::NoMemory;
 use incidence::Hypergraph;
 use std::alloc::Global;

@@ -1,69 +1,10 @@
-//! A queue of vertices by their gains, and a list of vertices that are to be looked at again.
+//! A list of vertices that are to be looked at again.
 
 ghost use Rattle.std.specs.Prelude.{◌≡◌, ℕ, ◌+◌, ◌<◌, ◌^◌, IfOk, IfSome};
 
 use crate::search::cells::Labels;
-use hg_base::NoMemory;
 use std::alloc::{AllocError, Global};
-use std::collections::BinaryHeap;
 use std::marker::Model;
-
-/// A gain, a drawn number for ties, and a vertex.
-pub(crate) type Offer = (i64, u32, u32);
-
-/// A queue of offers of the vertices below a bound, the highest first.
-#[derive(Drop)]
-pub(crate) struct Queue {
-    heap: BinaryHeap<Offer>,
-    vertices: u32,
-}
-
-impl Model for Queue {
-    ghost use Rattle.std.specs.Prelude.{ℕ, ◌<◌, All};
-    ghost use Rattle.std.specs.BinaryHeap.{heap_items};
-
-    ghost Value = { ℕ };
-
-    ghost view = { λ s. s.vertices };
-
-    ghost invariant = { λ s. All (λ offer. offer.2 < s.vertices) (heap_items s.heap) };
-}
-
-impl Queue {
-    /// An empty queue.
-    pub(crate) fn start(alloc: Global, vertices: u32) -> Self
-        ensures { result ≡ vertices }
-    {
-        Queue {
-            heap: BinaryHeap::new(alloc),
-            vertices,
-        }
-    }
-
-    /// Adds an offer.
-    pub(crate) fn push(&mut self, gain: i64, tie: u32, v: u32) -> Result<(), AllocError>
-        requires { v < self.old }
-        ensures { self.new ≡ self.old }
-    {
-        self.heap.push((gain, tie, v))?;
-        Ok(())
-    }
-
-    /// Takes the highest offer.
-    pub(crate) fn pop(&mut self) -> Option<Offer>
-        ensures same { self.new ≡ self.old }
-        ensures vertex { IfSome result (λ offer. offer.2 < self.old) }
-    {
-        self.heap.pop()
-    }
-
-    /// Drops all offers.
-    pub(crate) fn clear(&mut self)
-        ensures { self.new ≡ self.old }
-    {
-        self.heap.clear();
-    }
-}
 
 /// Vertices below a bound, each listed once until it is taken.
 #[derive(Drop)]
