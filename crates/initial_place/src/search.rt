@@ -35,7 +35,7 @@ const MOST_CELLS: u64 = 1 << 23;
 /// How many bisections and how many perturbations are tried: fewer where they cost more.
 fn effort(h: &Hypergraph, k: u32) -> usize
     requires { k ≤ 256 }
-    ensures { result ≤ 6 }
+    ensures { result ≤ 16 }
 {
     let mut pins: u64 = 0;
     for e in 0..h.nets() {
@@ -43,7 +43,7 @@ fn effort(h: &Hypergraph, k: u32) -> usize
     }
     let cells = u64::from(h.vertices()) * u64::from(k) + u64::from(h.nets()) * u64::from(k) / 8;
     let unit = pins.saturating_add(cells).max(1);
-    (200_000 / unit).max(2).min(6) as usize
+    (200_000 / unit).max(2).min(16) as usize
 }
 
 /// Looks for a partition that is cheaper than a given one, fits and obeys the fixes. The answer
@@ -100,7 +100,7 @@ fn best_of_tries<R: Threads + Sync>(
       blocks = k;
     } }
     requires rest { rest.now ≡ vertex_count h.now }
-    requires tries { tries ≤ 6 }
+    requires tries { tries ≤ 16 }
     requires best { IsPartition h.now k best }
     ensures { IfOk result (IsNoWorse h.now k limit best) }
 {
