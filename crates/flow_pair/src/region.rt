@@ -66,7 +66,8 @@ fn free_on(
     requires nets { All (λ e. e < net_count h.now) nets.now }
     requires spots { vertex_count h.now ≤ length spots.old }
     ensures size { length spots.new ≡ length spots.old }
-    ensures list { IfOk result (λ list. list.items ≡ set_of nat_cmp (flat_map (free_pins h.now blocks.now block) nets.now)) }
+    ensures list { IfOk result (λ list. list.items ≡ set_of nat_cmp (flat_map (free_pins h.now blocks.now block)
+        nets.now)) }
 {
     let mut list = Vec::new(alloc);
     for e in nets {

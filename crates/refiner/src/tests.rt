@@ -216,8 +216,8 @@ fn race_in_turn(
     closed(alloc, h, round, first, second)
 }
 
-/// A race, and what is recorded of it: the moves as they were made, how many were kept, what each pass booked, the costs
-/// before, after all moves and after those that were kept, and the blocks then.
+/// A race, and what is recorded of it: the moves as they were made, how many were kept, what each pass booked,
+/// the costs before, after all moves and after those that were kept, and the blocks then.
 #[derive(Clone, Copy)]
 struct Row<'a> {
     name: &'a str,

@@ -36,7 +36,8 @@ merge_nets-requires-clause-keys g c =
     subst (All (IsKey c.in_ok-nets.nets)) (sym c.deref.ensures.value)
     (each_sorted c.args.h.now c.in_ok-nets.nets c.in_ok-coarse.coarse c.args.map.now c.count_clusters-count.result c.in_ok-keys.keys.items
     c.sort_keys.new.keys.items
-    (ap (λ (x : Hyper). x.nets) c.in_ok-nets.ensures) c.in_ok-keys.ensures.each c.in_ok-keys.ensures.nets c.sort_keys.ensures.permutation c.sort_keys.ensures.sorted
+    (ap (λ (x : Hyper). x.nets) c.in_ok-nets.ensures) c.in_ok-keys.ensures.each c.in_ok-keys.ensures.nets
+    c.sort_keys.ensures.permutation c.sort_keys.ensures.sorted
     c.in_ok-coarse.ensures)
 
 pub merge_nets-requires-clause-vertices : goal.merge_nets-requires-clause-vertices
@@ -52,7 +53,8 @@ merge_nets-requires-clause-limits g c =
     rw c.deref.ensures.value
     (coarse_limits c.args.h.now c.in_ok-nets.nets c.in_ok-coarse.coarse c.args.map.now c.count_clusters-count.result c.in_ok-keys.keys.items
     c.sort_keys.new.keys.items
-    (ap (λ (x : Hyper). x.nets) c.in_ok-nets.ensures) c.in_ok-keys.ensures.each c.in_ok-keys.ensures.nets c.sort_keys.ensures.permutation c.sort_keys.ensures.sorted
+    (ap (λ (x : Hyper). x.nets) c.in_ok-nets.ensures) c.in_ok-keys.ensures.each c.in_ok-keys.ensures.nets
+    c.sort_keys.ensures.permutation c.sort_keys.ensures.sorted
     c.in_ok-coarse.ensures
     c.vertices-vertices.ensures.sound (subst (IsFull c.args.h.now c.args.map.now) (sym c.count_clusters-count.ensures) c.requires.full)
     c.vertices-vertices.ensures.bounds)
@@ -62,12 +64,14 @@ returns-clause-coarse g c =
     (rw c.deref.ensures.value at c.in_ok-merge_nets.ensures.merged)
     ∙ coarse_is c.args.h.now c.in_ok-nets.nets c.in_ok-coarse.coarse c.args.map.now c.count_clusters-count.result c.in_ok-keys.keys.items
     c.sort_keys.new.keys.items
-    (ap (λ (x : Hyper). x.nets) c.in_ok-nets.ensures) c.in_ok-keys.ensures.each c.in_ok-keys.ensures.nets c.sort_keys.ensures.permutation c.sort_keys.ensures.sorted
+    (ap (λ (x : Hyper). x.nets) c.in_ok-nets.ensures) c.in_ok-keys.ensures.each c.in_ok-keys.ensures.nets
+    c.sort_keys.ensures.permutation c.sort_keys.ensures.sorted
     c.in_ok-coarse.ensures
     ∙ ap (contract c.args.h.now c.args.map.now) c.count_clusters-count.ensures
 
 pub returns-clause-all : goal.returns-clause-all
 returns-clause-all g c =
-    all_placed c.args.h.now c.in_ok-nets.nets c.args.map.now c.in_ok-keys.keys.items c.deref.result.now c.merge_nets.new.places (ap (λ (x : Hyper). x.nets) c.in_ok-nets.ensures)
+    all_placed c.args.h.now c.in_ok-nets.nets c.args.map.now c.in_ok-keys.keys.items c.deref.result.now c.merge_nets.new.places
+    (ap (λ (x : Hyper). x.nets) c.in_ok-nets.ensures)
     c.in_ok-keys.ensures.numbers
     (rw c.deref.ensures.value c.sort_keys.ensures.permutation) c.in_ok-merge_nets.ensures.all

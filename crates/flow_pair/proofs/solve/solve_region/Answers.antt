@@ -19,7 +19,8 @@ pub place_region-requires-clause-vertices : goal.place_region-requires-clause-ve
 place_region-requires-clause-vertices c =
     let p = c.args.p.now in
     let sound : IsHypergraph c.args.h.now = subst IsHypergraph c.requires.belongs c.blocks-blocks.ensures.parted.sound in
-    subst (All (λ v. v < vertex_count c.args.h.now)) (sym (c.slice.ensures ∙ c.in_ok-region.ensures.region)) (region_vertices c.args.h.now p.limit p.blocks c.args.a
+    subst (All (λ v. v < vertex_count c.args.h.now)) (sym (c.slice.ensures ∙ c.in_ok-region.ensures.region))
+    (region_vertices c.args.h.now p.limit p.blocks c.args.a
     c.args.b sound)
 
 pub build_short-requires-clause-rising : goal.build_short-requires-clause-rising
@@ -31,7 +32,8 @@ pub build_short-requires-clause-vertices : goal.build_short-requires-clause-vert
 build_short-requires-clause-vertices c =
     let p = c.args.p.now in
     let sound : IsHypergraph c.args.h.now = subst IsHypergraph c.requires.belongs c.blocks-blocks.ensures.parted.sound in
-    subst (All (λ v. v < vertex_count c.args.h.now)) (sym (c.slice-2.ensures ∙ c.in_ok-region.ensures.region)) (region_vertices c.args.h.now p.limit p.blocks c.args.a
+    subst (All (λ v. v < vertex_count c.args.h.now)) (sym (c.slice-2.ensures ∙ c.in_ok-region.ensures.region))
+    (region_vertices c.args.h.now p.limit p.blocks c.args.a
     c.args.b sound)
 
 pub overflow_cast-result : goal.overflow_cast-result

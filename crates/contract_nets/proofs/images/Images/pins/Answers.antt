@@ -112,7 +112,8 @@ returns-clause-rising c =
     subst (λ p. HasListAt p (c.args.e % s.size) (image s.clusters.value.now (net_of s.h.now c.args.e))) (sym c.part.view_is)
     (list_of s.h.now s.clusters.value.now s.size s.parts.items c.self.invariant c.args.e c.index-part.result.now low c.index-part.ensures)
     in
-    subst IsStrictlyIncreasing (sym (read_list (record { starts = c.part.inside.starts.items; pins = c.part.inside.pins.items }) (c.args.e % s.size)
+    subst IsStrictlyIncreasing (sym (read_list
+    (record { starts = c.part.inside.starts.items; pins = c.part.inside.pins.items }) (c.args.e % s.size)
     (image s.clusters.value.now (net_of s.h.now c.args.e)) c.deref.result.now c.index.result.now c.index-2.result.now one c.index.ensures c.index-2.ensures
     c.deref.ensures.value))
     (increasing-set_of (map (slice_index s.clusters.value.now) (net_of s.h.now c.args.e).pins))
@@ -128,7 +129,8 @@ returns-clause-below c =
     (list_of s.h.now s.clusters.value.now s.size s.parts.items c.self.invariant c.args.e c.index-part.result.now low c.index-part.ensures)
     in
     subst (λ x. All (λ i. i < vertex_count x) (slice_range c.deref.result.now c.index.result.now c.index-2.result.now)) c.self.view_is
-    (subst (All (λ i. i < vertex_count (over s.h.now s.clusters.value.now))) (sym (read_list (record { starts = c.part.inside.starts.items; pins = c.part.inside.pins.items }) (c.args.e % s.size)
+    (subst (All (λ i. i < vertex_count (over s.h.now s.clusters.value.now))) (sym (read_list
+    (record { starts = c.part.inside.starts.items; pins = c.part.inside.pins.items }) (c.args.e % s.size)
     (image s.clusters.value.now (net_of s.h.now c.args.e)) c.deref.result.now c.index.result.now c.index-2.result.now one c.index.ensures c.index-2.ensures
     c.deref.ensures.value))
     (image_over s.h.now s.clusters.value.now c.vertices-vertices.ensures.sound c.self.invariant.vertices c.args.e low))
