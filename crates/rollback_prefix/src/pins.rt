@@ -32,7 +32,7 @@ pub fn find_places(pins: &[u32], order: &[u32], places: &mut Vec<u32>) -> Result
 }
 
 /// Counts the pins in each block, and answers how many blocks have one.
-fn count_pins(blocks: &[u32], pins: &[u32], counts: &mut [u32]) -> u32
+fn count_pins(blocks: &[u32], pins: &[u32], counts: &mut [u32]) -> u64
     requires pins { All (λ v. v < length blocks.now) pins.now }
     requires few { length pins.now ≤ 2 ^ 25 }
     requires blocks { All (λ b. b < length counts.old) blocks.now }
@@ -44,14 +44,14 @@ fn count_pins(blocks: &[u32], pins: &[u32], counts: &mut [u32]) -> u32
     let mut touched = 0;
     for v in pins {
         let block = blocks[*v as usize] as usize;
-        touched += u32::from(counts[block] == 0);
+        touched += u64::from(counts[block] == 0);
         counts[block] += 1;
     }
     touched
 }
 
 /// Counts a pin in another block than before, and answers how many blocks have one then.
-fn shift_pin(counts: &mut [u32], touched: u32, from: u32, to: u32) -> u32
+fn shift_pin(counts: &mut [u32], touched: u64, from: u32, to: u32) -> u64
     requires from { from < length counts.old }
     requires to { to < length counts.old }
     requires pin { 0 < slice_index counts.old from }
@@ -61,10 +61,10 @@ fn shift_pin(counts: &mut [u32], touched: u32, from: u32, to: u32) -> u32
     ensures counts { counts.new ≡ counts_after counts.old from to }
     ensures touched { result ≡ counted counts.new }
 {
-    let joined = touched + u32::from(counts[to as usize] == 0);
+    let joined = touched + u64::from(counts[to as usize] == 0);
     counts[to as usize] += 1;
     counts[from as usize] -= 1;
-    joined - u32::from(counts[from as usize] == 0)
+    joined - u64::from(counts[from as usize] == 0)
 }
 
 /// Forgets the counts of the blocks of the pins.
@@ -120,9 +120,9 @@ pub fn add_net(
     let mut touched = count_pins(blocks, pins, counts);
     for place in places {
         let step = moves[*place as usize];
-        let before = weight * price(objective, u64::from(touched));
+        let before = weight * price(objective, touched);
         touched = shift_pin(counts, touched, step.from, step.to);
-        let after = weight * price(objective, u64::from(touched));
+        let after = weight * price(objective, touched);
         gains[*place as usize] += before as i64 - after as i64;
     }
     clear_blocks(blocks, pins, counts);
