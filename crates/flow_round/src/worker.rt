@@ -192,8 +192,54 @@ fn hand_all_over(
     }
 }
 
+/// Solves some pairs of a wave, all at once on the lent partition, and writes their ends into the table.
+fn solve_tasks<R: Threads + Sync, G: Gate>(
+    rt: &R,
+    gate: &G,
+    h: &Hypergraph,
+    p: &Partition,
+    wave: u32,
+    tasks: &[Task],
+    workers: &mut [Worker],
+    ends: &mut [Option<PairEnd>],
+) -> Result<(), NoMemory>
+    requires belongs { p.now.hyper ≡ h.now }
+    requires fits { Fits p.now.hyper p.now.k p.now.limit p.now.blocks }
+    requires tasks { All (IsTask h.now p.now) tasks.now }
+    requires wave { AreTasksOf wave tasks.now }
+    requires count { length tasks.now ≤ p.now.k }
+    requires some { 0 < length workers.old }
+    requires few { length workers.old ≤ 64 }
+    requires workers { AreWorkers h.now workers.old }
+    requires table { length ends.old ≡ p.now.k * p.now.k }
+    ensures workers { AreWorkers h.now workers.new }
+    ensures ends { OnOk result (GainsEnds h.now p.now wave ends.old ends.new) }
+{
+    let _blocks = p.blocks();
+    let count = tasks.len() as u32;
+    let all = workers.len() as u32;
+    each(
+        rt,
+        workers,
+        &|i, worker: &mut Worker|
+            requires { (i < all) × (all ≤ 64) × (count ≤ length tasks.now) × (p.now.hyper ≡ h.now)
+                × Fits p.now.hyper p.now.k p.now.limit p.now.blocks × All (IsTask h.now p.now) tasks.now
+                × (worker.now.solver ≡ h.now) }
+            ensures { (s : ℕ) → AreTasksOf s tasks.entry.now → IsDone h.entry.now p.entry.now s worker.exit.now }
+        {
+            let number = i as u32;
+            worker.run(gate, h, p, tasks, span_of(count, all, number), number);
+        },
+    );
+    if workers.iter().any(|worker| worker.failed) {
+        return Err(NoMemory);
+    }
+    hand_all_over(workers, h, p, wave, ends);
+    Ok(())
+}
+
 /// Solves the pairs of a wave that a net touches, all at once on the lent partition, and writes their
-/// ends into the table.
+/// ends into the table. No more workers start than there are pairs, and for one pair no thread.
 pub(crate) fn solve_wave<R: Threads + Sync, G: Gate>(
     rt: &R,
     gate: &G,
@@ -215,27 +261,11 @@ pub(crate) fn solve_wave<R: Threads + Sync, G: Gate>(
     ensures workers { AreWorkers h.now workers.new }
     ensures ends { OnOk result (GainsEnds h.now p.now wave ends.old ends.new) }
 {
-    let _blocks = p.blocks();
     let made = tasks_of(alloc, h, p, wave, cut)?;
     let tasks = made.as_slice();
-    let count = tasks.len() as u32;
-    let all = workers.len() as u32;
-    each(
-        rt,
-        workers,
-        &|i, worker: &mut Worker|
-            requires { (i < all) × (all ≤ 64) × (count ≤ length tasks.now) × (p.now.hyper ≡ h.now)
-                × Fits p.now.hyper p.now.k p.now.limit p.now.blocks × All (IsTask h.now p.now) tasks.now
-                × (worker.now.solver ≡ h.now) }
-            ensures { (s : ℕ) → AreTasksOf s tasks.entry.now → IsDone h.entry.now p.entry.now s worker.exit.now }
-        {
-            let number = i as u32;
-            worker.run(gate, h, p, tasks, span_of(count, all, number), number);
-        },
-    );
-    if workers.iter().any(|worker| worker.failed) {
-        return Err(NoMemory);
+    if tasks.is_empty() {
+        return Ok(());
     }
-    hand_all_over(workers, h, p, wave, ends);
-    Ok(())
+    let busy = tasks.len().min(workers.len());
+    solve_tasks(rt, gate, h, p, wave, tasks, &mut workers[..busy], ends)
 }
