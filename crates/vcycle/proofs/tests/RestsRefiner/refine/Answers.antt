@@ -10,7 +10,7 @@ returns-then-settled-clause-pass c = record {
     rounds = [];
     log = sym (append-nil c.args._log.now);
     pass = inl (c.settled.ensures.0 c.if-settled.true);
-    level = All-nil (λ (r : LoggedRound). r.level ≡ c.args._task.now.level);
+    level = All-nil (λ (r : LoggedRound). r.level ≡ c.args.task.now.level);
     count = refl;
     gain = refl;
   };
