@@ -1,20 +1,20 @@
 //! The nets over the clusters: each has the set of its pins' clusters for pins.
 
 ghost use Rattle.std.specs.Prelude.{◌≡◌, ℕ, ◌+◌, ◌*◌, ◌^◌, ◌<◌, ◌≤◌, map, length, All, slice_index, slice_index_or};
-ghost use Rattle.std.specs.Prelude.{IfOk, OnOk, vec_len};
+ghost use Rattle.std.specs.Prelude.{IfOk, OnOk, vec_len, []};
 ghost use Rattle.std.specs.List.Sorted.{IsStrictlyIncreasing};
 ghost use Rattle.std.specs.Ordering.{nat_cmp};
 ghost use Rattle.hg_defs.specs.Sorting.{set_of};
 ghost use Rattle.hg_defs.specs.Hypergraph.{vertex_count, net_count, net_of};
 ghost use Rattle.hg_defs.specs.Clustering.{cluster_count};
-ghost use Rattle.contract_nets.specs.Images.{over, IsPart};
+ghost use Rattle.contract_nets.specs.Images.{over, IsPart, IsEmptyPart};
 
 use hg_base::NoMemory;
 use incidence::Hypergraph;
 use std::alloc::{AllocError, Global};
 use std::marker::Model;
 use std::snapshot::Snapshot;
-use std::thread::{Threads, map_indices};
+use std::thread::{Threads, for_each_mut};
 
 /// The nets are cut into so many parts at most.
 const MOST_PARTS: u32 = 8;
@@ -52,7 +52,7 @@ impl<'a> Model for Images<'a> {
     ghost use Rattle.std.specs.Prelude.{replicate};
     ghost use Rattle.hg_defs.specs.Hypergraph.{Hyper};
     ghost use Rattle.hg_defs.specs.Clustering.{cluster_count};
-    ghost use Rattle.contract_nets.specs.Images.{over, ArePartsOf};
+        ghost use Rattle.contract_nets.specs.Images.{over, ArePartsOf};
 
     ghost Value = { Hyper };
 
@@ -117,7 +117,8 @@ pub(crate) fn map_nets<'a, R: Threads + Sync>(
     })
 }
 
-/// The parts of this size, or no memory for one.
+/// The parts of this size, or no memory for one. Their room is made here, since the memory that a
+/// thread takes stays with the thread's arena.
 fn map_parts<R: Threads + Sync>(
     rt: &R,
     alloc: Global,
@@ -131,17 +132,62 @@ fn map_parts<R: Threads + Sync>(
     ensures each { IfOk result (λ parts. (j : ℕ) (d : _) → j < vec_len parts →
         IfOk (slice_index_or parts.items j d) (IsPart h.now clusters.now size j)) }
 {
-    let count = h.nets().div_ceil(size) as usize;
-    let parts = map_indices(
+    let mut parts = empty_parts(alloc, h, size)?;
+    for_each_mut(
         rt,
-        alloc,
-        count,
-        &|j: usize| -> Result<Part, NoMemory>
-            requires { (j * size < net_count h.now) × (length clusters.now ≡ vertex_count h.now) }
-            ensures { IfOk result (IsPart h.entry.now clusters.entry.now size j) }
-        { map_part(alloc, h, clusters, size, j) },
-    )?;
+        parts.as_mut_slice(),
+        MOST_PARTS as usize,
+        &|j: usize, part: &mut Result<Part, NoMemory>|
+            requires { (j * size < net_count h.now) × (length clusters.now ≡ vertex_count h.now)
+                × IsEmptyPart part.now }
+            ensures { IfOk part.exit.now (IsPart h.entry.now clusters.entry.now size j) }
+        { fill_part(alloc, h, clusters, size, j, part) },
+    );
     Ok(parts)
+}
+
+/// Parts without lists, with room for those of all nets.
+fn empty_parts(
+    alloc: Global,
+    h: &Hypergraph,
+    size: u32,
+) -> Result<Vec<Result<Part, NoMemory>>, NoMemory>
+    requires { 0 < size }
+    ensures all { IfOk result (λ parts. net_count h.now ≤ vec_len parts * size) }
+    ensures begins { IfOk result (λ parts. (j : ℕ) → j < vec_len parts → j * size < net_count h.now) }
+    ensures empty { IfOk result (λ parts. All IsEmptyPart parts.items) }
+{
+    let nets = h.nets();
+    let mut parts = Vec::new(alloc);
+    for j in 0..nets.div_ceil(size) {
+        let count = size.min(nets - j * size);
+        let starts = Vec::with_capacity(alloc, count as usize + 1)?;
+        let pins = Vec::with_capacity(alloc, pin_sum(h, j * size, count))?;
+        parts.push(Ok(Part { starts, pins }))?;
+    }
+    Ok(parts)
+}
+
+/// Writes the lists of part `j` into their room.
+fn fill_part(
+    alloc: Global,
+    h: &Hypergraph,
+    clusters: &[u32],
+    size: u32,
+    j: usize,
+    part: &mut Result<Part, NoMemory>,
+)
+    requires vertices { length clusters.now ≡ vertex_count h.now }
+    requires begins { j * size < net_count h.now }
+    requires empty { IsEmptyPart part.old }
+    ensures { IfOk part.new (IsPart h.now clusters.now size j) }
+{
+    let Ok(room) = part else {
+        return;
+    };
+    if let Err(refused) = map_part(alloc, h, clusters, size, j, room) {
+        *part = Err(refused);
+    }
 }
 
 /// Part `j` of the nets.
@@ -151,24 +197,23 @@ fn map_part(
     clusters: &[u32],
     size: u32,
     j: usize,
-) -> Result<Part, NoMemory>
+    part: &mut Part,
+) -> Result<(), NoMemory>
     requires vertices { length clusters.now ≡ vertex_count h.now }
     requires begins { j * size < net_count h.now }
-    ensures { IfOk result (IsPart h.now clusters.now size j) }
+    requires empty { part.old ≡ record { starts = []; pins = [] } }
+    ensures { OnOk result (IsPart h.now clusters.now size j part.new) }
 {
     let nets = h.nets();
     let from = (j * size as usize) as u32;
-    let count = size.min(nets - from);
-    let mut starts = Vec::with_capacity(alloc, count as usize + 1)?;
-    let mut pins = Vec::with_capacity(alloc, pin_sum(h, from, count))?;
-    starts.push(0u32)?;
     let mut numbers = Vec::new(alloc);
-    for i in 0..count {
+    part.starts.push(0u32)?;
+    for i in 0..size.min(nets - from) {
         map_pins(&mut numbers, clusters, h.pins(from + i))?;
-        pins.extend_from_slice(numbers.as_slice())?;
-        starts.push(pins.len() as u32)?;
+        part.pins.extend_from_slice(numbers.as_slice())?;
+        part.starts.push(part.pins.len() as u32)?;
     }
-    Ok(Part { starts, pins })
+    Ok(())
 }
 
 /// How many pins some nets have together.

@@ -13,9 +13,9 @@ overflow_cast-len c =
     let i = c.loop-i.i in
     let from = c.args.j * c.args.size in
     let more = c.as_slice.result.now in
-    let pins = c.loop-i.pins.items in
+    let pins = c.loop-i.part-inside.pins.items in
     let is = c.as_slice.ensures.value ∙ c.in_ok-map_pins.ensures ∙ ap (λ (ps : List ℕ). set_of nat_cmp (map (slice_index cs) ps)) c.pins.ensures.value in
-    let f = few_more h cs from i c.loop-i.starts.items pins more (length pins + length more) c.loop-i.invariant (omega arith) is refl in
+    let f = few_more h cs from i c.loop-i.part-inside.starts.items pins more (length pins + length more) c.loop-i.invariant (omega arith) is refl in
     let t = total-take-le (λ e. length e.pins) h.nets (from + (i + 1)) in
     let b = c.nets-nets.ensures.bounds.pins in
     let s = length-append pins more in
@@ -30,8 +30,8 @@ loop-i-preserved c =
     let i = c.loop-i.i in
     let from = c.args.j * c.args.size in
     let more = c.as_slice.result.now in
-    let starts = c.loop-i.starts.items in
-    let pins = c.loop-i.pins.items in
+    let starts = c.loop-i.part-inside.starts.items in
+    let pins = c.loop-i.part-inside.pins.items in
     let is = c.as_slice.ensures.value ∙ c.in_ok-map_pins.ensures ∙ ap (λ (ps : List ℕ). set_of nat_cmp (map (slice_index cs) ps)) c.pins.ensures.value in
     subst (λ (xs : List ℕ). AreLists h cs from (i + 1) xs c.extend_from_slice.new.self.items) (sym c.in_ok-push-2.ensures.items)
     (subst (λ (xs : List ℕ). AreLists h cs from (i + 1) (starts ++ c.len.result ∷ []) xs) (sym c.in_ok-extend_from_slice.ensures.items)
