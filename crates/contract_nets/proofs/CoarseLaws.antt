@@ -1,21 +1,20 @@
 -- The merged nets are those of the contraction.
-use Rattle.std.proofs.Common.{◌≡◌, ℕ, ◌+◌, ◌^◌, ◌<◌, ◌≤◌, ◌⊎◌, inl, inr, Bool, true, false, true≢false}
+use Rattle.std.proofs.Common.{◌≡◌, ℕ, ◌+◌, ◌^◌, ◌≤◌, Bool, true, false, true≢false}
 use Rattle.std.proofs.Common.{if◌then◌else◌, cond, nat_le, List, [], ◌∷◌, length, map}
 use Rattle.std.proofs.Common.{filter, Contains, IsPermutation, IsSorted, All, nat_cmp, is_eq, refl, sym, ap, ap₂, ◌∙◌, subst, arith}
 use Rattle.std.specs.Cmp.{Equal-is}
 use Rattle.std.specs.Cmp.Lexicographic.{slice_cmp}
-use Rattle.std.proofs.lemmas.Bool.{leb-true, le-leb}
+use Rattle.std.proofs.lemmas.Bool.{le-leb}
 use Rattle.std.proofs.lemmas.List.Sorted.{IsPermutation-map, All-permutation}
-use Rattle.hg_defs.specs.Sums.{total}
 use Rattle.hg_defs.specs.Sorting.{set_of}
 use Rattle.std.specs.List.{range_with_len}
 use Rattle.std.proofs.lemmas.List.FromFn.{length-map-range_with_len}
-use Rattle.hg_defs.specs.Hypergraph.{Net, Hyper, vertex_count, IsHypergraph, IsWithinLimits}
+use Rattle.hg_defs.specs.Hypergraph.{Net, Hyper, IsHypergraph, IsWithinLimits}
 use Rattle.hg_defs.specs.Partition.{weight_in}
 use Rattle.hg_defs.specs.Contraction.{IsFull, fix_in, contract}
 use Rattle.hg_defs.proofs.ContractionLaws.{limits_kept}
 use Rattle.hg_defs.specs.Contraction.{image, images, merged_weight}
-use Rattle.hg_defs.proofs.SumLaws.{total-filter, total-map, total-permutation}
+use Rattle.hg_defs.proofs.SumLaws.{total-map, total-permutation}
 use Rattle.hg_defs.proofs.SortLaws.{Contains_head, Contains_later, lists_cmp_total, lists_exact, set_of-permutation}
 use Rattle.hg_defs.proofs.ContractionLaws.{Contains-from_images}
 use Rattle.contract_nets.specs.Merging.{mapped_net, is_kept, merged}
@@ -85,7 +84,7 @@ coarse_nets h clusters nets moved up =
 -- and from sorted keys
 pub coarse_from_keys : (h mapped : Hyper) (clusters : List ℕ) (keys sorted : List Key) → mapped.nets ≡ map (mapped_net clusters) h.nets →
     All (IsKey mapped) sorted
-    → map (net_of_key mapped) keys ≡ filter is_kept mapped.nets → IsPermutation keys sorted → IsSorted key_cmp sorted
+    → map (net_of_key mapped) keys ≡ filter is_kept mapped.nets → IsPermutation keys sorted → IsSorted (key_cmp mapped) sorted
     → merged (map (net_of_key mapped) sorted) ≡ map (λ i. record { weight = merged_weight h clusters i; pins = i }) (images h clusters)
 coarse_from_keys h mapped clusters keys sorted nets each kept moved up =
     coarse_nets h clusters (map (net_of_key mapped) sorted)
@@ -104,7 +103,7 @@ few_clusters h clusters count sound full limits =
 -- the vertices, and the merged nets
 module _ (h mapped coarse : Hyper) (clusters : List ℕ) (count : ℕ) (keys sorted : List Key) (nets : mapped.nets ≡ map (mapped_net clusters) h.nets)
     (each : All (IsKey mapped) keys)
-    (kept : map (net_of_key mapped) keys ≡ filter is_kept mapped.nets) (moved : IsPermutation keys sorted) (up : IsSorted key_cmp sorted)
+    (kept : map (net_of_key mapped) keys ≡ filter is_kept mapped.nets) (moved : IsPermutation keys sorted) (up : IsSorted (key_cmp mapped) sorted)
     (vertices : coarse ≡ record {
       weights = map (weight_in h.weights clusters) (range_with_len 0 count);
       nets = [];

@@ -1,5 +1,5 @@
 -- Full maps: a map that uses every number below a count, and no other.
-use Rattle.std.proofs.Common.{ℕ, ◌<◌, ◌≤◌, List, Contains, arith}
+use Rattle.std.proofs.Common.{ℕ, ◌<◌, List, Contains, arith}
 use Rattle.hg_defs.specs.Hypergraph.{Hyper}
 use Rattle.hg_defs.specs.Partition.{IsPartition}
 use Rattle.hg_defs.specs.Contraction.{IsFull}

@@ -1,19 +1,18 @@
 -- The places of nets are the ledger of the contraction.
-use Rattle.std.proofs.Common.{◌≡◌, ◌≢◌, ℕ, ◌+◌, ◌<◌, ◌≤◌, ◌⊎◌, inl, inr, Bool, true, false, true≢false, if◌then◌else◌, nat_eq, nat_le}
-use Rattle.std.proofs.Common.{List, [], ◌∷◌, length, map, filter, get_or, slice_index, Contains, IsPermutation, All, nat_cmp, is_eq}
-use Rattle.std.proofs.Common.{refl, sym, ap, ap₂, ◌∙◌, subst, arith, Ordering, Less, Equal, Greater}
+use Rattle.std.proofs.Common.{◌≡◌, ◌≢◌, ℕ, ◌+◌, ◌<◌, ◌≤◌, ◌⊎◌, inl, inr, Bool, true, false, true≢false, if◌then◌else◌, nat_eq}
+use Rattle.std.proofs.Common.{List, [], length, map, filter, get_or, slice_index, Contains, IsPermutation, All, nat_cmp, is_eq}
+use Rattle.std.proofs.Common.{refl, sym, ap, ◌∙◌, subst, arith}
 use Rattle.std.specs.List.{range_with_len}
 use Rattle.std.specs.Cmp.{Equal-is}
 use Rattle.std.specs.Cmp.Lexicographic.{slice_cmp}
 use Rattle.std.specs.Ordering.{eq_by_cmp}
-use Rattle.std.proofs.lemmas.Bool.{cases_lt, cases_eq, eq-eqb, ne_eqb, eqb-true, le-leb, leb-true}
+use Rattle.std.proofs.lemmas.Bool.{cases_lt, cases_eq, eq-eqb, ne_eqb, eqb-true, le-leb}
 use Rattle.std.proofs.lemmas.Cmp.{tied_itself}
 use Rattle.std.proofs.lemmas.List.{length-map, get_or-map}
 use Rattle.std.proofs.lemmas.List.Elements.{Contains-get_or, All-contains}
 use Rattle.std.proofs.lemmas.List.FromFn.{length-range_with_len, get_or-range_with_len}
 use Rattle.std.proofs.lemmas.List.Sorted.{Contains-permutation}
 use Rattle.std.proofs.lemmas.Map.Keys.{IsDistinct-from_sorted, apart_from_distinct}
-use Rattle.hg_defs.specs.Sums.{total, sum_below}
 use Rattle.hg_defs.specs.Hypergraph.{Net, Hyper, net_count, net_of}
 use Rattle.hg_defs.specs.Contraction.{image, images, merged_weight, contract}
 use Rattle.hg_defs.proofs.SumLaws.{total-by_index, total-range, sum_below-same}
@@ -25,14 +24,14 @@ use Rattle.contract_nets.specs.declared.ledger.Merged.{Merged}
 use Rattle.contract_nets.specs.declared.ledger.Merged.TheVariants.{Dropped, Into}
 use Rattle.contract_nets.specs.declared.ledger.TheConstants.{DROPPED}
 use Rattle.contract_nets.specs.Places.{read_place}
-use Rattle.contract_nets.specs.Merging.{mapped_net, is_kept, HasPinsAt, ArePlaces}
+use Rattle.contract_nets.specs.Merging.{mapped_net, is_kept, ArePlaces}
 use Rattle.contract_nets.specs.Keys.{Key}
 use Rattle.contract_nets.specs.Ledger.{place_of, Names, went_into, weight_into, IsLedger}
 
 -- a net of two clusters or more has a key
 pub all_placed : (h mapped : Hyper) (clusters : List ℕ) (keys sorted : List Key) (places : List ℕ) → mapped.nets ≡ map (mapped_net clusters) h.nets
-    → map (λ (k : Key). k.2) keys ≡ filter (λ e. is_kept (net_of mapped e)) (range_with_len 0 (net_count mapped)) → IsPermutation keys sorted
-    → All (λ (k : Key). slice_index places k.2 ≢ DROPPED) sorted
+    → map (λ (k : Key). k.1) keys ≡ filter (λ e. is_kept (net_of mapped e)) (range_with_len 0 (net_count mapped)) → IsPermutation keys sorted
+    → All (λ (k : Key). slice_index places k.1 ≢ DROPPED) sorted
     → (e : ℕ) → e < net_count h → 2 ≤ length (image clusters (net_of h e)) → slice_index places e ≢ DROPPED
 all_placed h mapped clusters keys sorted places nets numbers moved all e l wide =
     let count : net_count mapped ≡ net_count h = ap (λ (ns : List Net). length ns) nets ∙ length-map h.nets (mapped_net clusters) in
@@ -52,9 +51,9 @@ all_placed h mapped clusters keys sorted places nets numbers moved all e l wide 
     let number = subst (λ (xs : List ℕ). Contains xs e) (sym numbers) (Contains_filter (λ i. is_kept (net_of mapped i))
     (range_with_len 0 (net_count mapped)) e
     here kept) in
-    let key = Contains-from_map (λ (k : Key). k.2) keys e number in
+    let key = Contains-from_map (λ (k : Key). k.1) keys e number in
     subst (λ (i : ℕ). slice_index places i ≢ DROPPED) key.2
-    (All-contains (λ (k : Key). slice_index places k.2 ≢ DROPPED) sorted key.0 all (Contains-permutation keys sorted key.0 moved key.1))
+    (All-contains (λ (k : Key). slice_index places k.1 ≢ DROPPED) sorted key.0 all (Contains-permutation keys sorted key.0 moved key.1))
 
 module _ (h : Hyper) (clusters : List ℕ) (count : ℕ) where
   pins_at : ℕ → List ℕ

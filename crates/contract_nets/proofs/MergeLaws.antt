@@ -1,10 +1,10 @@
 -- Laws of merging equal neighbours.
-use Rattle.std.proofs.Common.{◌≡◌, ◌≢◌, ℕ, ◌+◌, ◌<◌, ◌≤◌, ◌^◌, ◌⊎◌, ⊎_elim, Bool, true, false, if◌then◌else◌, List, [], ◌∷◌, ◌++◌, length, map, take, drop}
-use Rattle.std.proofs.Common.{get_or, slice_index, slice_set, All, nat_cmp, is_eq, refl, sym, ap, ap₂, ◌∙◌, subst, arith, Ordering}
+use Rattle.std.proofs.Common.{◌≡◌, ◌≢◌, ℕ, ◌+◌, ◌<◌, ◌≤◌, ◌^◌, ⊎_elim, Bool, true, false, if◌then◌else◌, List, [], ◌∷◌, ◌++◌, length, map, take, drop}
+use Rattle.std.proofs.Common.{get_or, slice_index, slice_set, All, nat_cmp, is_eq, refl, sym, ap, ap₂, ◌∙◌, subst, arith}
 use Rattle.std.proofs.lemmas.Bool.{cases_eq}
 use Rattle.std.proofs.lemmas.Cmp.{tied_itself}
 use Rattle.std.proofs.lemmas.List.{append_assoc, length-map, map_push, length_push, get_or_push, get_or_append_left}
-use Rattle.std.proofs.lemmas.List.{get_or-set_same, get_or-set_other, drop_all, drop_more}
+use Rattle.std.proofs.lemmas.List.{get_or-set_same, get_or-set_other, drop_all}
 use Rattle.std.proofs.lemmas.List.Elements.{All-more, All-weaker}
 use Rattle.std.specs.Cmp.{Equal-is}
 use Rattle.std.specs.List.Sorted.{IsStrictlyIncreasing}
@@ -16,7 +16,7 @@ use Rattle.hg_defs.proofs.SumLaws.{total-append}
 use Rattle.hg_defs.proofs.SortLaws.{lists_cmp_total, lists_exact, set_of-increasing}
 use Rattle.contract_nets.specs.declared.ledger.TheConstants.{DROPPED}
 use Rattle.contract_nets.specs.Merging.{added, merged, HasPinsAt, ArePlaces}
-use Rattle.contract_nets.specs.Keys.{Key, pins_of, net_of_key, IsKey}
+use Rattle.contract_nets.specs.Keys.{Key, net_of_key, IsKey}
 use Rattle.contract_nets.proofs.RoomLaws.{HasRoom, room_before}
 
 abbrev before : ℕ → List ℕ → List Net → List Net
@@ -89,7 +89,7 @@ tied_from_different ps qs h = by (is_eq (slice_cmp nat_cmp ps qs)) refl
 -- ---- the loop
 
 abbrev pub pins : Hyper → Key → List ℕ
-pins nets key = (net_of nets key.2).pins
+pins nets key = (net_of nets key.1).pins
 
 abbrev pub lists : Hyper → Hyper → Key → List (List ℕ)
 lists nets coarse last = map (λ (e : Net). e.pins) coarse.nets ++ pins nets last ∷ []
@@ -100,13 +100,13 @@ pub record IsMerging (nets start : Hyper) (keys : List Key) (i : ℕ) (places : 
   pub rest : coarse ≡ record start { nets = coarse.nets }
   pub whole : coarse.nets ++ added weight (pins nets last) (merged (map (net_of_key nets) (drop i keys))) ≡ merged (map (net_of_key nets) keys)
   pub placed : ArePlaces nets.nets (lists nets coarse last) places
-  pub all : All (λ key. slice_index places key.2 ≢ DROPPED) (take i keys)
+  pub all : All (λ key. slice_index places key.1 ≢ DROPPED) (take i keys)
 
 pub IsMerging-start : (nets start : Hyper) (keys rest : List Key) (places : List ℕ) (first : Key) → keys ≡ first ∷ rest → IsKey nets first → start.nets ≡ []
     → ((e : ℕ) → e < length nets.nets → slice_index places e ≡ DROPPED) → IsMerging nets start keys 0 places start first 0
 IsMerging-start nets start keys rest places first same is none dropped =
     let f = net_of_key nets in
-    let n = net_of nets first.2 in
+    let n = net_of nets first.1 in
     let two : added 0 n.pins (merged (map f (first ∷ rest))) ≡ merged (map f (first ∷ rest)) = added_same 0 n.weight n.pins (merged (map f rest)) ∙
     ap (λ (w : ℕ). added w n.pins (merged (map f rest))) (let w = n.weight in let z : 0 + w ≡ w = omega arith in z) in
     record {
@@ -141,30 +141,30 @@ module _ (nets start : Hyper) (keys : List Key) (i : ℕ) (places : List ℕ) (c
       ∙ ap (λ (h : Hyper). record h { nets = coarse.nets ++ record { weight = weight; pins = pins nets last } ∷ [] }) m.rest
 
   module _ (key : Key) (next : drop i keys ≡ key ∷ drop (i + 1) keys) (is : IsKey nets key) where
-    whole_at_next : coarse.nets ++ added weight (pins nets last) (added (net_of nets key.2).weight (pins nets key)
+    whole_at_next : coarse.nets ++ added weight (pins nets last) (added (net_of nets key.1).weight (pins nets key)
         (merged (map (net_of_key nets) (drop (i + 1) keys)))) ≡ merged (map (net_of_key nets) keys)
     whole_at_next = ap (λ (ks : List Key). coarse.nets ++ added weight (pins nets last) (merged (map (net_of_key nets) ks))) (sym next) ∙ m.whole
 
-    pub weight_fits : weight + (net_of nets key.2).weight < 2 ^ 54
+    pub weight_fits : weight + (net_of nets key.1).weight < 2 ^ 54
     weight_fits =
         let rest = merged (map (net_of_key nets) (drop (i + 1) keys)) in
-        let a = total-append (λ (e : Net). e.weight) coarse.nets (added weight (pins nets last) (added (net_of nets key.2).weight (pins nets key) rest)) in
-        let b = weight_of_next weight (net_of nets key.2).weight (pins nets last) (pins nets key) rest in
+        let a = total-append (λ (e : Net). e.weight) coarse.nets (added weight (pins nets last) (added (net_of nets key.1).weight (pins nets key) rest)) in
+        let b = weight_of_next weight (net_of nets key.1).weight (pins nets last) (pins nets key) rest in
         let e = ap (total (λ (e : Net). e.weight)) whole_at_next in
         let l = limits.net_weight in
         omega arith
 
     module _ (other : pins nets last ≡ pins nets key → ⊥) where
-      whole_at_other : coarse.nets ++ record { weight = weight; pins = pins nets last } ∷ added (net_of nets key.2).weight (pins nets key)
+      whole_at_other : coarse.nets ++ record { weight = weight; pins = pins nets last } ∷ added (net_of nets key.1).weight (pins nets key)
           (merged (map (net_of_key nets) (drop (i + 1) keys))) ≡ merged (map (net_of_key nets) keys)
       whole_at_other =
-          ap (λ (es : List Net). coarse.nets ++ es) (sym (added_other weight (net_of nets key.2).weight (pins nets last) (pins nets key)
+          ap (λ (es : List Net). coarse.nets ++ es) (sym (added_other weight (net_of nets key.1).weight (pins nets last) (pins nets key)
           (merged (map (net_of_key nets) (drop (i + 1) keys))) (tied_from_different _ _ other)))
           ∙ whole_at_next
 
       pub room_at_other : HasRoom coarse.nets weight (length (pins nets last))
       room_at_other =
-          room_before (record start { nets = merged (map (net_of_key nets) keys) }) coarse.nets (added (net_of nets key.2).weight (pins nets key)
+          room_before (record start { nets = merged (map (net_of_key nets) keys) }) coarse.nets (added (net_of nets key.1).weight (pins nets key)
           (merged (map (net_of_key nets) (drop (i + 1) keys))))
           (record { weight = weight; pins = pins nets last }) limits (sym whole_at_other)
 
@@ -172,7 +172,7 @@ module _ (nets start : Hyper) (keys : List Key) (i : ℕ) (places : List ℕ) (c
       pub IsMerging-other : (pushed : Hyper) → pushed ≡ record start { nets = coarse.nets ++ record { weight = weight; pins = pins nets last } ∷ [] } →
           IsMerging nets start keys i places pushed key 0
       IsMerging-other pushed e =
-          let n = net_of nets key.2 in
+          let n = net_of nets key.1 in
           let rest = merged (map (net_of_key nets) (drop (i + 1) keys)) in
           let es : pushed.nets ≡ coarse.nets ++ record { weight = weight; pins = pins nets last } ∷ [] = ap (λ (h : Hyper). h.nets) e in
           let none : added 0 n.pins (added n.weight n.pins rest) ≡ added n.weight n.pins rest = added_same 0 n.weight n.pins rest ∙
@@ -212,24 +212,24 @@ module _ (nets start : Hyper) (keys : List Key) (i : ℕ) (places : List ℕ) (c
             pins_are = get_or_push (map (λ (e : Net). e.pins) coarse.nets) (pins nets last) [] number (omega arith) ∙ same;
           }
 
-      written : (u : ℕ) → u ≡ key.2 → slice_index (slice_set places key.2 number) u ≡ number
-      written u e = let k = is.net in let b : key.2 < length places = omega arith in ap (slice_index (slice_set places key.2 number)) e ∙
-          get_or-set_same places key.2 number 0 b
+      written : (u : ℕ) → u ≡ key.1 → slice_index (slice_set places key.1 number) u ≡ number
+      written u e = let k = is.net in let b : key.1 < length places = omega arith in ap (slice_index (slice_set places key.1 number)) e ∙
+          get_or-set_same places key.1 number 0 b
 
-      kept : (u : ℕ) → u ≢ key.2 → slice_index (slice_set places key.2 number) u ≡ slice_index places u
-      kept u o = get_or-set_other places key.2 u number 0 o
+      kept : (u : ℕ) → u ≢ key.1 → slice_index (slice_set places key.1 number) u ≡ slice_index places u
+      kept u o = get_or-set_other places key.1 u number 0 o
 
-      known : (u : ℕ) → slice_index places u ≢ DROPPED → slice_index (slice_set places key.2 number) u ≢ DROPPED
+      known : (u : ℕ) → slice_index places u ≢ DROPPED → slice_index (slice_set places key.1 number) u ≢ DROPPED
       known u there gone =
           ⊎_elim
-          (λ (e : u ≡ key.2). let w = written u e in absurd (omega arith))
-          (λ (o : u ≢ key.2). there (sym (kept u o) ∙ gone))
-          (cases_eq u key.2)
+          (λ (e : u ≡ key.1). let w = written u e in absurd (omega arith))
+          (λ (o : u ≢ key.1). there (sym (kept u o) ∙ gone))
+          (cases_eq u key.1)
 
-      pub IsMerging-same : (d : Key) → key ≡ get_or keys i d → IsMerging nets start keys (i + 1) (slice_set places key.2 number) coarse last
-          (weight + (net_of nets key.2).weight)
+      pub IsMerging-same : (d : Key) → key ≡ get_or keys i d → IsMerging nets start keys (i + 1) (slice_set places key.1 number) coarse last
+          (weight + (net_of nets key.1).weight)
       IsMerging-same d read =
-          let n = net_of nets key.2 in
+          let n = net_of nets key.1 in
           let rest = merged (map (net_of_key nets) (drop (i + 1) keys)) in
           record {
             unfinished = m.unfinished;
@@ -241,16 +241,16 @@ module _ (nets start : Hyper) (keys : List Key) (i : ℕ) (places : List ℕ) (c
                 ∙ whole_at_next;
             placed = λ u l there.
                 ⊎_elim
-                (λ (e : u ≡ key.2).
+                (λ (e : u ≡ key.1).
                 subst (λ (x : ℕ). HasPinsAt (lists nets coarse last) x (net_of nets u).pins) (sym (written u e))
                 (subst (λ (x : ℕ). HasPinsAt (lists nets coarse last) number (net_of nets x).pins) (sym e) place_is))
-                (λ (o : u ≢ key.2).
+                (λ (o : u ≢ key.1).
                 subst (λ (x : ℕ). HasPinsAt (lists nets coarse last) x (net_of nets u).pins) (sym (kept u o))
                 (m.placed u l (λ gone. there (kept u o ∙ gone))))
-                (cases_eq u key.2);
+                (cases_eq u key.1);
             all =
-                All-more (λ (k : Key). slice_index (slice_set places key.2 number) k.2 ≢ DROPPED) keys i d h
-                (All-weaker (λ (k : Key). slice_index places k.2 ≢ DROPPED) (λ (k : Key). slice_index (slice_set places key.2 number) k.2 ≢ DROPPED)
-                (λ k. known k.2) (take i keys) m.all)
-                (λ gone. let w = written (get_or keys i d).2 (ap (λ (k : Key). k.2) (sym read)) in absurd (omega arith));
+                All-more (λ (k : Key). slice_index (slice_set places key.1 number) k.1 ≢ DROPPED) keys i d h
+                (All-weaker (λ (k : Key). slice_index places k.1 ≢ DROPPED) (λ (k : Key). slice_index (slice_set places key.1 number) k.1 ≢ DROPPED)
+                (λ k. known k.1) (take i keys) m.all)
+                (λ gone. let w = written (get_or keys i d).1 (ap (λ (k : Key). k.1) (sym read)) in absurd (omega arith));
           }

@@ -1,7 +1,7 @@
 -- What must be left to add a net to others.
 use Rattle.std.proofs.Common.{◌≡◌, ℕ, ◌+◌, ◌*◌, ◌^◌, ◌<◌, ◌≤◌, List, [], ◌∷◌, ◌++◌, length, map, take, drop, get_or}
-use Rattle.std.proofs.Common.{slice_index, nat_cmp, All, refl, sym, ap, ◌∙◌, subst, arith}
-use Rattle.std.proofs.lemmas.List.{length-append, length-map, length_push, take-append-drop, drop_more, get_or_default}
+use Rattle.std.proofs.Common.{slice_index, nat_cmp, sym, ap, ◌∙◌, subst, arith}
+use Rattle.std.proofs.lemmas.List.{length-append, length-map, take-append-drop, drop_more}
 use Rattle.std.proofs.Math.Nat.{mul-le-mul_left}
 use Rattle.hg_defs.specs.Sums.{total}
 use Rattle.hg_defs.specs.Hypergraph.{Net, Hyper, net_count, net_of, IsWithinLimits}

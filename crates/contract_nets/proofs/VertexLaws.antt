@@ -1,6 +1,6 @@
 -- Laws of the weights and fixes of clusters, vertex by vertex.
-use Rattle.std.proofs.Common.{◌≡◌, ◌≢◌, ℕ, zero, suc, ◌+◌, ◌<◌, ◌≤◌, ◌⊎◌, ⊎_elim, Bool, true, false, not, ◌&&◌, cond, if◌then◌else◌, nat_eq, List, [], ◌∷◌}
-use Rattle.std.proofs.Common.{map, length, take, drop, set, get_or, replicate, slice_index, slice_set, refl, sym, ap, ◌∙◌, arith}
+use Rattle.std.proofs.Common.{◌≡◌, ◌≢◌, ℕ, zero, suc, ◌+◌, ◌<◌, ◌≤◌, ⊎_elim, Bool, true, false, not, ◌&&◌, if◌then◌else◌, nat_eq, List, [], ◌∷◌}
+use Rattle.std.proofs.Common.{map, length, take, drop, replicate, slice_index, slice_set, refl, sym, ap, ◌∙◌, arith}
 use Rattle.std.specs.List.{range_with_len}
 use Rattle.std.proofs.lemmas.Bool.{cases_eq, eq-eqb, ne_eqb}
 use Rattle.std.proofs.lemmas.List.{length-set, length-replicate, get_or-replicate, get_or-set_same, get_or-set_other, drop_more, drop_all}
@@ -9,7 +9,7 @@ use Rattle.hg_defs.specs.declared.objective.TheConstants.{FREE}
 use Rattle.hg_defs.specs.Sums.{total}
 use Rattle.hg_defs.specs.Partition.{weight_in}
 use Rattle.hg_defs.specs.Contraction.{fix_in}
-use Rattle.hg_defs.proofs.SumLaws.{weight_if, weight_if-same, weight_if-other, weight_in-take_more}
+use Rattle.hg_defs.proofs.SumLaws.{weight_if-same, weight_if-other, weight_in-take_more}
 
 pub total-zeros : (n : ℕ) → total (λ (w : ℕ). w) (replicate n 0) ≡ 0
 total-zeros zero = refl

@@ -65,7 +65,7 @@ fn merge(
     let count = count_clusters(map);
     let nets = map_nets(rt, alloc, h, map)?;
     let mut keys = keys_of(alloc, &nets)?;
-    sort_keys(rt, &mut keys);
+    sort_keys(rt, &nets, &mut keys);
     let mut coarse = vertices_of(alloc, h, map, count)?;
     merge_nets(&nets, &keys, &mut coarse, places)?;
     Ok(coarse)

@@ -7,6 +7,7 @@ ghost use Rattle.std.specs.Ordering.{nat_cmp};
 ghost use Rattle.hg_defs.specs.Sorting.{set_of};
 ghost use Rattle.hg_defs.specs.Hypergraph.{vertex_count, net_count, net_of};
 ghost use Rattle.hg_defs.specs.Clustering.{cluster_count};
+ghost use Rattle.contract_nets.specs.Keys.{rest_of};
 ghost use Rattle.contract_nets.specs.Images.{over, IsPart, IsEmptyPart};
 
 use hg_base::NoMemory;
@@ -52,7 +53,7 @@ impl<'a> Model for Images<'a> {
     ghost use Rattle.std.specs.Prelude.{replicate};
     ghost use Rattle.hg_defs.specs.Hypergraph.{Hyper};
     ghost use Rattle.hg_defs.specs.Clustering.{cluster_count};
-        ghost use Rattle.contract_nets.specs.Images.{over, ArePartsOf};
+    ghost use Rattle.contract_nets.specs.Images.{over, ArePartsOf};
 
     ghost Value = { Hyper };
 
@@ -81,6 +82,20 @@ impl Images<'_> {
         let part = &self.parts[(e / self.size) as usize];
         let at = (e % self.size) as usize;
         &part.pins[part.starts[at] as usize..part.starts[at + 1] as usize]
+    }
+
+    /// The clusters of a net behind the first two; none for a number that no net has.
+    pub(crate) fn rest(&self, e: u32) -> &[u32]
+        ensures { result.now ≡ rest_of self.now e }
+    {
+        if e >= self.nets() {
+            return &[];
+        }
+        let pins = self.pins(e);
+        if pins.len() < 2 {
+            return &[];
+        }
+        &pins[2..]
     }
 
     /// The weight of a net.

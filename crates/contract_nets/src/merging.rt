@@ -14,7 +14,7 @@ use hg_base::{FlatHyper, NoMemory};
 /// and writes the place of each net.
 pub(crate) fn merge_nets(
     nets: &Images<'_>,
-    keys: &[Key<'_>],
+    keys: &[Key],
     coarse: &mut FlatHyper,
     places: &mut [u32],
 ) -> Result<(), NoMemory>
@@ -27,7 +27,7 @@ pub(crate) fn merge_nets(
       nets = merged (map (net_of_key nets.now) keys.now);
     }) }
     ensures placed { OnOk result (ArePlaces nets.now.nets (map (λ e. e.pins) coarse.new.nets) places.new) }
-    ensures all { OnOk result (All (λ key. slice_index places.new key.2 ≢ DROPPED) keys.now) }
+    ensures all { OnOk result (All (λ key. slice_index places.new key.1 ≢ DROPPED) keys.now) }
 {
     let Some(first) = keys.first() else {
         return Ok(());
@@ -35,13 +35,13 @@ pub(crate) fn merge_nets(
     let mut last = *first;
     let mut weight = 0;
     for key in keys {
-        if !have_same_pins(key, &last) {
-            coarse.push_net(weight, nets.pins(last.2))?;
+        if !have_same_pins(nets, key, &last) {
+            coarse.push_net(weight, nets.pins(last.1))?;
             last = *key;
             weight = 0;
         }
-        weight += nets.net_weight(key.2);
-        places[key.2 as usize] = coarse.nets();
+        weight += nets.net_weight(key.1);
+        places[key.1 as usize] = coarse.nets();
     }
-    coarse.push_net(weight, nets.pins(last.2))
+    coarse.push_net(weight, nets.pins(last.1))
 }

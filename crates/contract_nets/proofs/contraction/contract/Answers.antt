@@ -1,10 +1,9 @@
 -- The places are the ledger.
-use Rattle.std.proofs.Common.{◌≡◌, ◌≢◌, ℕ, ◌<◌, ◌≤◌, List, length, map, drop, slice_index, replicate, refl, sym, ap, ◌∙◌, subst, arith}
-use Rattle.std.proofs.lemmas.List.{take_at, length-replicate}
-use Rattle.hg_defs.specs.Hypergraph.{Net, Hyper, net_count, net_of}
+use Rattle.std.proofs.Common.{◌≡◌, length, map, drop, sym, ap, ◌∙◌, subst}
+use Rattle.std.proofs.lemmas.List.{take_at}
+use Rattle.hg_defs.specs.Hypergraph.{Net, Hyper, net_count}
 use Rattle.hg_defs.specs.Contraction.{contract}
 use Rattle.hg_defs.specs.Clustering.{cluster_count}
-use Rattle.contract_nets.specs.declared.ledger.Merged.{Merged}
 use Rattle.contract_nets.specs.Places.{read_place}
 use Rattle.contract_nets.specs.Ledger.{IsLedger}
 use Rattle.contract_nets.specs.Merging.{mapped_net, ArePlaces}

@@ -1,5 +1,5 @@
 -- The numbers so far, and those to come, give the count.
-use Rattle.std.proofs.Common.{◌≡◌, ◌≤◌, ◌^◌, max, drop}
+use Rattle.std.proofs.Common.{◌≡◌, max, drop}
 use Rattle.hg_defs.specs.Clustering.{cluster_count}
 use Rattle.contract_nets.proofs.contraction.count_clusters.Given as goal
 

@@ -1,23 +1,23 @@
 -- Each key, one after the other.
-use Rattle.std.proofs.Common.{Some, Option, Result, Ok, Err, nat_cmp, take, rules, ◌≡◌, ◌≢◌, ℕ, ◌+◌, ◌<◌, ◌≤◌, ◌^◌, Bool, true, false, true≢false, List, []}
-use Rattle.std.proofs.Common.{◌∷◌, ◌++◌, length, map, drop, get_or, slice_index, slice_set, replicate, All, Bor, refl, sym, ap, ◌∙◌, subst, arith}
+use Rattle.std.proofs.Common.{Some, Option, Result, Ok, Err, nat_cmp, ◌≡◌, ◌≢◌, ℕ, ◌+◌, ◌≤◌, true≢false, List, []}
+use Rattle.std.proofs.Common.{◌∷◌, ◌++◌, length, map, drop, get_or, slice_index, slice_set, All, refl, sym, ap, ◌∙◌, subst, arith}
 use Rattle.std.proofs.lemmas.List.{take_all, map_push, drop_more, get_or-replicate, length-replicate}
 use Rattle.std.specs.List.{slice_get}
 use Rattle.std.specs.List.Sorted.{IsStrictlyIncreasing}
 use Rattle.hg_defs.specs.Sorting.{set_of}
 use Rattle.std.specs.Result.{OnOk}
 use Rattle.std.proofs.lemmas.List.Elements.{All-head}
-use Rattle.hg_defs.specs.Hypergraph.{Net, Hyper, net_count, net_of, IsWithinLimits}
+use Rattle.hg_defs.specs.Hypergraph.{Net, Hyper, net_count, IsWithinLimits}
 use Rattle.contract_nets.specs.declared.ledger.TheConstants.{DROPPED}
-use Rattle.contract_nets.specs.Merging.{added, merged, ArePlaces}
-use Rattle.contract_nets.specs.Keys.{Key, pins_of, net_of_key, IsKey}
+use Rattle.contract_nets.specs.Merging.{merged, ArePlaces}
+use Rattle.contract_nets.specs.Keys.{Key, net_of_key, IsKey}
 use Rattle.contract_nets.proofs.MergeLaws.{pins, IsMerging, IsMerging-start, IsMerging-other, IsMerging-same, whole_at_end}
 use Rattle.contract_nets.proofs.MergeLaws.{room_at_end, room_at_other, pushed_nets, weight_fits}
 use Rattle.contract_nets.proofs.merging.merge_nets.Goals as goal
 use Rattle.contract_nets.proofs.merging.merge_nets.Goals.{then-not-have_same_pins+in_ok-push_net, else-not-have_same_pins}
 
 abbrev no_key : Key
-no_key = (0, record { ref_ptr = (0, 0); now = [] }, 0)
+no_key = (0, 0)
 
 OnOk-then : {T E P Q : Type 0} (r : Result T E) → OnOk r P → (P → Q) → OnOk r Q
 OnOk-then (Ok x) h f = f h
@@ -112,7 +112,7 @@ loop-key-preserved c =
       )
     ]
     in
-    subst (λ (x : ℕ). IsMerging nets start keys (i + 1) (slice_set places key.2 c.nets.result) joined.coarse joined.last (joined.weight + x))
+    subst (λ (x : ℕ). IsMerging nets start keys (i + 1) (slice_set places key.1 c.nets.result) joined.coarse joined.last (joined.weight + x))
     (sym c.net_weight-weight.ensures.value)
     (IsMerging-same nets start keys i places joined.coarse joined.last joined.weight both.0 c.requires.limits key next is both.1 c.nets.result
     c.nets.ensures.count c.nets.ensures.bounds.nets c.loop-key-test.true
@@ -157,8 +157,8 @@ module _ (nets start coarse pushed : Hyper) (keys : List Key) (i : ℕ) (places 
       (record { weight = weight; pins = pins nets last })))
       m.placed
 
-  all_end : All (λ (key : Key). slice_index places key.2 ≢ DROPPED) keys
-  all_end = subst (All (λ (key : Key). slice_index places key.2 ≢ DROPPED)) (take_all i keys done) m.all
+  all_end : All (λ (key : Key). slice_index places key.1 ≢ DROPPED) keys
+  all_end = subst (All (λ (key : Key). slice_index places key.1 ≢ DROPPED)) (take_all i keys done) m.all
 
 pub returns-clause-merged : goal.returns-clause-merged
 returns-clause-merged c =

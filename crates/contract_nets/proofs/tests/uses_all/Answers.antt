@@ -1,5 +1,5 @@
 -- The next number was found in the map.
-use Rattle.std.proofs.Common.{ℕ, get_or, Contains, below_more}
+use Rattle.std.proofs.Common.{get_or, Contains, below_more}
 use Rattle.std.proofs.lemmas.Bool.{eqb-true}
 use Rattle.contract_nets.proofs.tests.uses_all.Goals as goal
 

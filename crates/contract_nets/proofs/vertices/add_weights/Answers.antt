@@ -1,10 +1,9 @@
 -- The cluster of a vertex becomes heavier by the vertex.
-use Rattle.std.proofs.Common.{◌≡◌, ℕ, ◌+◌, ◌<◌, ◌≤◌, ◌^◌, List, length, map, take, slice_index, slice_set, All, refl, sym, ap, ap₂, ◌∙◌, arith}
+use Rattle.std.proofs.Common.{◌≡◌, ℕ, ◌+◌, ◌<◌, List, length, map, slice_index, slice_set, All, refl, ap, ap₂, ◌∙◌, arith}
 use Rattle.std.specs.List.{range_with_len}
 use Rattle.std.proofs.lemmas.List.FromFn.{length-map-range_with_len}
 use Rattle.hg_defs.specs.Sums.{total}
 use Rattle.hg_defs.specs.Hypergraph.{Hyper, vertex_count}
-use Rattle.hg_defs.specs.Partition.{weight_in}
 use Rattle.hg_defs.proofs.SumLaws.{total-take_more, total_more-le}
 use Rattle.contract_nets.proofs.VertexLaws.{total-zeros, zeros_are, weight_in-set_more}
 use Rattle.contract_nets.proofs.vertices.add_weights.Goals as goal
