@@ -18,7 +18,7 @@ use Rattle.move_table.specs.declared.place.NetPlace.{NetPlace}
 use Rattle.move_table.specs.declared.view.Terms.{Terms}
 use Rattle.move_table.specs.Places.{words_at_net, net_place, word_count}
 use Rattle.move_table.specs.Standing.{terms_setup, IsTerms}
-use Rattle.move_table.specs.Opening.{SameOutside, IsPinCounted, IsNetFilled, AreNetsFilled}
+use Rattle.move_table.specs.Opening.{IsPinCounted, IsNetFilled, AreNetsFilled}
 use Rattle.move_table.proofs.PlaceLaws.{word_within, net_place_next}
 use Rattle.pin_plain.proofs.FieldLaws.{raise_count}
 
@@ -159,8 +159,8 @@ filled_same blocks pins k place old new h s c = record {
 
 -- one net more
 pub nets_more : (t : Terms) (e : ℕ) (old new : List ℕ) → AreNetsFilled t e old → IsNetFilled t.part.blocks (net_of t.part.hyper e).pins t.part.k
-    (record { start = net_place (terms_setup t) e; bits = net_bits t.part.hyper e }) new → SameOutside (net_place (terms_setup t) e)
-    (net_place (terms_setup t) (e + 1)) old new → AreNetsFilled t (e + 1) new
+    (record { start = net_place (terms_setup t) e; bits = net_bits t.part.hyper e }) new →
+    ((i : ℕ) → i < net_place (terms_setup t) e → slice_index new i ≡ slice_index old i) → AreNetsFilled t (e + 1) new
 nets_more t e old new h own same i l =
     elim (cases_lt i e) [
       | inl q ↦
@@ -169,9 +169,9 @@ nets_more t e old new h own same i l =
           filled_same t.part.blocks (net_of t.part.hyper i).pins t.part.k (record { start = net_place (terms_setup t) i; bits = net_bits t.part.hyper i })
           old
           new (h i q)
-          (same (net_place (terms_setup t) i) (inl (omega arith)))
+          (same (net_place (terms_setup t) i) (omega arith))
           (λ b m. let w = word_within (length (net_of t.part.hyper i).pins) t.part.k b m in
-          same (net_place (terms_setup t) i + 1 + b / fields_of (net_bits t.part.hyper i)) (inl (omega arith)))
+          same (net_place (terms_setup t) i + 1 + b / fields_of (net_bits t.part.hyper i)) (omega arith))
       | inr q ↦
           let here : i ≡ e = omega arith in
           subst (λ j. IsNetFilled t.part.blocks (net_of t.part.hyper j).pins t.part.k

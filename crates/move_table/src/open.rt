@@ -1,7 +1,7 @@
 //! How a round is opened: where its words stand, what they hold, and its passes.
 
 ghost use Rattle.std.specs.Prelude.{◌≡◌, ◌≢◌, ◌⊎◌, ℕ, ◌+◌, ◌-◌, ◌*◌, ◌/◌, ◌%◌, ◌^◌, ◌<◌, ◌≤◌, length, All};
-ghost use Rattle.std.specs.Prelude.{slice_index, IfOk, replicate, nat_eq, if◌then◌else◌};
+ghost use Rattle.std.specs.Prelude.{slice_index, IfOk, OnOk, nat_eq, if◌then◌else◌};
 ghost use Rattle.hg_defs.specs.Hypergraph.{net_count, vertex_count};
 ghost use Rattle.hg_defs.specs.Partition.{block_of, load};
 ghost use Rattle.hg_defs.specs.Pins.{pins_in};
@@ -110,26 +110,55 @@ fn count_net(words: &mut [u64], place: NetPlace, pins: &[u32], blocks: &[u32], k
     }
 }
 
-/// Counts the pins of all nets.
-fn count_nets(words: &mut [u64], nets: &[NetPlace], hyper: &Hypergraph, terms: &Terms)
+/// Has zeros behind the words, up to a place at least.
+fn reach(words: &mut Vec<u64>, end: usize) -> Result<(), NoMemory>
+    ensures long { OnOk result (end ≤ length words.new.items) }
+    ensures few { OnOk result ((n : ℕ) → length words.old.items ≤ n → end ≤ n → length words.new.items ≤ n) }
+    ensures same { OnOk result ((i : ℕ) → slice_index words.new.items i ≡ slice_index words.old.items i) }
+{
+    if words.len() < end {
+        words.resize(end, 0)?;
+    }
+    Ok(())
+}
+
+/// How many words to begin with: with few blocks all of them at once, and with more those before the
+/// nets, whose own are then filled as soon as they are there, while they are near.
+fn first_words(k: u32, before: usize, all: usize) -> usize
+    requires { before ≤ all }
+    ensures some { before ≤ result }
+    ensures most { result ≤ all }
+{
+    if k <= 4 { all } else { before }
+}
+
+/// Counts the pins of all nets, whose words come behind the others where they aren't there yet.
+fn count_nets(
+    words: &mut Vec<u64>,
+    nets: &[NetPlace],
+    hyper: &Hypergraph,
+    terms: &Terms,
+) -> Result<(), NoMemory>
     requires terms { IsTerms terms.now }
     requires belongs { hyper.now ≡ terms.now.part.hyper }
     requires places { HasNetPlaces (terms_setup terms.now) nets.now }
-    requires wide { length words.old ≡ word_count (terms_setup terms.now) }
-    requires zeros { (i : ℕ) → net_place (terms_setup terms.now) 0 ≤ i → slice_index words.old i ≡ 0 }
-    ensures filled { AreNetsFilled terms.now (net_count hyper.now) words.new }
-    ensures others { SameOutside (net_place (terms_setup terms.now) 0) (length words.old) words.old words.new }
+    requires before { net_place (terms_setup terms.now) 0 ≤ length words.old.items }
+    requires most { length words.old.items ≤ word_count (terms_setup terms.now) }
+    requires zeros { (i : ℕ) → net_place (terms_setup terms.now) 0 ≤ i → slice_index words.old.items i ≡ 0 }
+    ensures wide { OnOk result (length words.new.items ≡ word_count (terms_setup terms.now)) }
+    ensures filled { OnOk result (AreNetsFilled terms.now (net_count hyper.now) words.new.items) }
+    ensures others { OnOk result ((i : ℕ) → i < net_place (terms_setup terms.now) 0 →
+        slice_index words.new.items i ≡ slice_index words.old.items i) }
 {
     let k = terms.part.k();
     for e in 0..hyper.nets() {
-        count_net(
-            words,
-            nets[e as usize],
-            hyper.pins(e),
-            terms.part.blocks(),
-            k,
-        );
+        let place = nets[e as usize];
+        let pins = hyper.pins(e);
+        let counts = words_of(pins.len() as u32, k);
+        reach(words, place.start as usize + 1 + counts as usize)?;
+        count_net(words.as_mut_slice(), place, pins, terms.part.blocks(), k);
     }
+    Ok(())
 }
 
 /// The words at the opening.
@@ -148,10 +177,13 @@ pub(crate) fn fill(
         (table_readings (terms_setup terms.now) words.items)) }
 {
     let n = hyper.vertices() as usize;
-    let mut words = vec![in alloc; 0u64; layout.words as usize]?;
-    let all = words.as_mut_slice();
-    write_names(all, n + 2, terms.part.blocks());
-    write_loads(all, 2 * n + 2, terms);
-    count_nets(all, layout.nets.as_slice(), hyper, terms);
+    let k = terms.part.k();
+    let all = layout.words as usize;
+    let mut words = Vec::with_capacity(alloc, all)?;
+    reach(&mut words, first_words(k, 2 * n + 2 + k as usize, all))?;
+    let here = words.as_mut_slice();
+    write_names(here, n + 2, terms.part.blocks());
+    write_loads(here, 2 * n + 2, terms);
+    count_nets(&mut words, layout.nets.as_slice(), hyper, terms)?;
     Ok(words)
 }
