@@ -1,27 +1,26 @@
 -- Laws of wishes that are granted, one after the other.
 use Rattle.std.proofs.Common.{◌≡◌, ◌≢◌, ℕ, zero, suc, ◌+◌, ◌<◌, ◌≤◌, Bool, true, false, if◌then◌else◌, nat_eq, nat_le}
 use Rattle.std.proofs.Common.{List, [], ◌∷◌, ◌++◌, map, drop, length, get_or, All, AllPairs, Contains, Option, Some}
-use Rattle.std.proofs.Common.{not, ◌&&◌, inl, inr, ℤ, pos, ◌-ℤ◌, ap₂, ◌^◌, FitsSigned, to_z, of_z}
+use Rattle.std.proofs.Common.{not, ◌&&◌, inl, inr, pos, ◌-◌, ◌^◌, set}
 use Rattle.std.proofs.Common.{refl, sym, ap, subst, ◌∙◌, arith, get_or-set_other}
-use Rattle.std.proofs.lemmas.List.{append_assoc, append-nil, drop_more, length-map, get_or-map}
+use Rattle.std.proofs.lemmas.List.{append_assoc, append-nil, drop_more, length-map, get_or-map, map-append}
 use Rattle.std.proofs.lemmas.List.Elements.{All-head, All-tail}
-use Rattle.std.specs.Int.{w64}
-use Rattle.std.proofs.lemmas.Int.{ints, to_z-of_z}
 use Rattle.std.proofs.lemmas.Bool.{leb-true}
 use Rattle.hg_defs.specs.declared.moves.Move.{Move}
 use Rattle.hg_defs.specs.Hypergraph.{Hyper, IsWithinLimits, vertex_count, weight_of, is_free}
-use Rattle.hg_defs.specs.Partition.{block_of, load}
-use Rattle.hg_defs.specs.Cost.{cost}
-use Rattle.hg_defs.specs.Moves.{moved, gain, is_allowed, move_of}
+use Rattle.hg_defs.specs.Partition.{IsPartition, block_of, load}
+use Rattle.hg_defs.specs.Moves.{moved, is_allowed, move_of}
 use Rattle.hg_defs.specs.MoveLaws.{IsBestBlock}
 use Rattle.hg_defs.specs.Replay.{replay}
 use Rattle.hg_defs.specs.Synchronous.{wish, saving, wishing, granted_move, granted, sync_moves}
 use Rattle.hg_defs.specs.SynchronousLaws.{SavesFirst}
 use Rattle.hg_defs.proofs.MoveLaws.{best_block_is, is_allowed_from}
-use Rattle.hg_defs.proofs.ReplayLaws.{replay-append}
+use Rattle.hg_defs.proofs.ReplayLaws.{replay-append, length-replay}
 use Rattle.hg_defs.proofs.SynchronousLaws.{wishes_are_best, wishes_by_saving}
-use Rattle.hg_base.proofs.CountLaws.{cost-lt}
+use Rattle.pin_plain.specs.Parted.{IsLoaded, loads_after}
+use Rattle.rollback_prefix.proofs.LoadLaws.{weight_held, loaded_moved, load_small, joined_small}
 use Rattle.det_sync.specs.Wishes.{Wish, AreWishes}
+use Rattle.det_sync.specs.Rounds.{unbooked}
 
 abbrev pub vertices_of : List Wish → List ℕ
 vertices_of ws = map (λ (w : Wish). w.1) ws
@@ -91,6 +90,9 @@ module _ (h : Hyper) (k l : ℕ) (p : List ℕ) where
     is_still : All (λ v. block_of q v ≡ block_of p v) (w.1 ∷ vertices_of (drop (i + 1) ws))
     is_still = subst (All (λ v. block_of q v ≡ block_of p v)) now_first g.still
 
+    pub still_here : block_of q w.1 ≡ block_of p w.1
+    still_here = All-head (λ v. block_of q v ≡ block_of p v) w.1 (vertices_of (drop (i + 1) ws)) is_still
+
     rest_apart : AllPairs (λ u v. u ≢ v) (vertices_of (drop (i + 1) ws))
     rest_apart a b d n m = is_apart (suc a) (suc b) d (omega arith) (omega arith)
 
@@ -124,7 +126,7 @@ module _ (h : Hyper) (k l : ℕ) (p : List ℕ) where
       granting_made = record {
         rest =
             append_assoc made (move_of h q w.1 w.2 ∷ []) (granted h k l p (moved q w.1 w.2) (vertices_of (drop (i + 1) ws)))
-            ∙ next true (granted_best q w.1 w.2 best (All-head (λ v. block_of q v ≡ block_of p v) w.1 (vertices_of (drop (i + 1) ws)) is_still) room);
+            ∙ next true (granted_best q w.1 w.2 best still_here room);
         blocks = ap (λ r. moved r w.1 w.2) g.blocks ∙ sym (replay-append p made (move_of h q w.1 w.2 ∷ []));
         apart = rest_apart;
         still = λ a d m. get_or-set_other q w.1 (get_or (vertices_of (drop (i + 1) ws)) a d) w.2 0
@@ -142,12 +144,101 @@ module _ (h : Hyper) (k l : ℕ) (p : List ℕ) where
       none (x ∷ xs) zero m = absurd (omega arith)
       none (x ∷ xs) (suc j) m = none xs j (omega arith)
 
--- a move as it is recorded
-pub move_made : (h : Hyper) (q : List ℕ) (v b from : ℕ) (booked : ℤ) → IsWithinLimits h → from ≡ block_of q v → booked ≡ gain h q v b
-    → record { vertex = v; from = from; to = b; worker = 0; booked = to_z w64 (of_z w64 booked) } ≡ move_of h q v b
-move_made h q v b from booked bounds e f =
-    ap₂ (λ (a : ℕ) (z : ℤ). record { vertex = v; from = a; to = b; worker = 0; booked = z }) e
-    (to_z-of_z w64 booked (small booked (cost h q) (cost h (moved q v b)) f (cost-lt h q bounds) (cost-lt h (moved q v b) bounds)) ∙ f)
-  where
-    small : (z : ℤ) (x y : ℕ) → z ≡ pos x -ℤ pos y → x < 2 ^ 57 → y < 2 ^ 57 → FitsSigned w64 z
-    small z x y e a b = omega (arith, ints)
+-- loads that are written, one after the other
+pub loads_written : (loads : List ℕ) (from to a x b w : ℕ) → a ≡ get_or loads from 0 → x ≡ w → b ≡ get_or (set loads from (a - x)) to 0
+    → set (set loads from (a - x)) to (b + x) ≡ loads_after loads from to w
+loads_written loads from to a x b w e f there =
+    ap (λ y. set (set loads from (a - x)) to (y + x)) there
+    ∙ ap (λ y. set (set loads from (y - x)) to (get_or (set loads from (y - x)) to 0 + x)) e
+    ∙ ap (loads_after loads from to) f
+
+-- ---- by their loads, and before their gains are known
+
+pub replay_unbooked : (p : List ℕ) (ms : List Move) → replay p (map unbooked ms) ≡ replay p ms
+replay_unbooked p [] = refl
+replay_unbooked p (m ∷ ms) = replay_unbooked (set p m.vertex m.to) ms
+
+-- the wishes before place i were granted, where there was room, by these moves, after which the blocks have these loads
+pub record IsGranted (h : Hyper) (k l : ℕ) (p : List ℕ) (ws : List Wish) (i : ℕ) (moves : List Move) (loads : List ℕ) : Type 0 where
+  pub made : List Move
+  pub same : moves ≡ map unbooked made
+  pub granting : IsGranting h k l p ws i made (replay p made)
+  pub loaded : IsLoaded h k (replay p made) loads
+
+module _ (h : Hyper) (k l : ℕ) (p : List ℕ) (ws : List Wish) where
+  pub granted_first : (moves : List Move) (loads : List ℕ) → AreWishes h k l p ws → moves ≡ [] → IsLoaded h k p loads → IsGranted h k l p ws 0 moves loads
+  granted_first moves loads are none loaded = record {
+    made = [];
+    same = none;
+    granting = granting_first h k l p ws are;
+    loaded = loaded;
+  }
+
+  pub granted_whole : (i : ℕ) (moves : List Move) (loads : List ℕ) → length ws ≤ i → IsGranted h k l p ws i moves loads →
+      moves ≡ map unbooked (sync_moves h k l p)
+  granted_whole i moves loads end g = g.same ∙ ap (map unbooked) (granting_all h k l p ws i g.made (replay p g.made) end g.granting)
+
+  module _ (i : ℕ) (moves : List Move) (loads : List ℕ) (g : IsGranted h k l p ws i moves loads) (low : i < length ws) (w : Wish)
+      (here : get_or ws i w ≡ w) (wished : wish h k l p w.1 ≡ Some w.2) (inside : w.1 < vertex_count h) (whole : IsPartition h k p) where
+    pub goes_below : w.2 < k
+    goes_below = (best_block_is h k l p w.1 w.2 inside wished).allowed.block
+
+    pub load_there : IsWithinLimits h → get_or loads w.2 0 < 2 ^ 54
+    load_there bounds = load_small h k (replay p g.made) loads w.2 bounds g.loaded goes_below
+
+    pub granted_refused : l < get_or loads w.2 0 + weight_of h w.1 → IsGranted h k l p ws (i + 1) moves loads
+    granted_refused full = record {
+      made = g.made;
+      same = g.same;
+      granting =
+          granting_refused h k l p ws i g.made (replay p g.made) g.granting low w here wished inside
+          (let is = g.loaded.each w.2 goes_below in omega arith);
+      loaded = g.loaded;
+    }
+
+    module _ (from : ℕ) (is : from ≡ block_of p w.1) where
+      pub comes_below : from < k
+      comes_below = subst (λ b. b < k) (sym is) (whole.blocks w.1 0 (let n = whole.vertices in omega arith))
+
+      stands : from ≡ block_of (replay p g.made) w.1
+      stands = is ∙ sym (still_here h k l p ws i g.made (replay p g.made) g.granting low w here wished inside)
+
+      long : length (replay p g.made) ≡ vertex_count h
+      long = length-replay p g.made ∙ whole.vertices
+
+      pub weight_there : weight_of h w.1 ≤ get_or loads from 0
+      weight_there =
+          let held = weight_held h (replay p g.made) w.1 long inside in
+          let known = g.loaded.each from comes_below in
+          let there = ap (load h (replay p g.made)) stands in
+          omega arith
+
+      pub weight_joins : IsWithinLimits h → get_or (set loads from (get_or loads from 0 - weight_of h w.1)) w.2 0 + weight_of h w.1 < 2 ^ 64
+      weight_joins bounds =
+          let small = load_small h k (replay p g.made) loads from bounds g.loaded comes_below in
+          let there = weight_there in
+          joined_small loads from w.2 (weight_of h w.1) (let n = g.loaded.all in let low = comes_below in omega arith) small
+          (load_small h k (replay p g.made) loads w.2 bounds g.loaded goes_below) (omega arith)
+
+      pub granted_made : (next : List Move) (last : List ℕ) → get_or loads w.2 0 + weight_of h w.1 ≤ l
+          → next ≡ moves ++ record { vertex = w.1; from = from; to = w.2; worker = 0; booked = pos 0 } ∷ []
+          → last ≡ loads_after loads from w.2 (weight_of h w.1) → IsGranted h k l p ws (i + 1) next last
+      granted_made next last room pushed e =
+          let q = replay p g.made in
+          let one = move_of h q w.1 w.2 ∷ [] in
+          record {
+            made = g.made ++ one;
+            same =
+                pushed
+                ∙ ap (λ (ms : List Move). ms ++ record { vertex = w.1; from = from; to = w.2; worker = 0; booked = pos 0 } ∷ []) g.same
+                ∙ ap (λ (b : ℕ). map unbooked g.made ++ record { vertex = w.1; from = b; to = w.2; worker = 0; booked = pos 0 } ∷ []) stands
+                ∙ sym (map-append unbooked g.made one);
+            granting =
+                subst (λ (r : List ℕ). IsGranting h k l p ws (i + 1) (g.made ++ one) r) (sym (replay-append p g.made one))
+                (granting_made h k l p ws i g.made q g.granting low w here wished inside
+                (let known = g.loaded.each w.2 goes_below in omega arith));
+            loaded =
+                subst (λ (r : List ℕ). IsLoaded h k r last) (sym (replay-append p g.made one))
+                (subst (λ (ls : List ℕ). IsLoaded h k (moved q w.1 w.2) ls) (sym e)
+                (loaded_moved h k q loads w.1 from w.2 g.loaded long inside stands comes_below goes_below));
+          }

@@ -1,26 +1,32 @@
 -- Laws of the moves of a synchronous round: what they save, and that they may be rolled back.
-use Rattle.std.proofs.Common.{◌≡◌, ℕ, zero, suc, ◌+◌, ◌<◌, ◌≤◌, ◌^◌, List, length, take, get_or, set}
-use Rattle.std.proofs.Common.{All, ℤ, pos, ◌+ℤ◌, ◌-ℤ◌, sym, ap, subst, ◌∙◌, arith}
+use Rattle.std.proofs.Common.{◌≡◌, ℕ, zero, suc, ◌+◌, ◌<◌, ◌≤◌, ◌^◌, ◌⊎◌, inl, inr, true, false, List, length, map, take, get_or, set}
+use Rattle.std.proofs.Common.{All, ℤ, pos, ◌+ℤ◌, ◌-ℤ◌, ◌≤ℤ◌, ◌<ℤ◌, sym, ap, subst, ◌∙◌, arith}
+use lib.Signed.{lt_z}
 use Rattle.std.proofs.Common.{FitsSigned, to_z, of_z}
 use Rattle.std.specs.Int.{w64}
 use Rattle.std.proofs.lemmas.Int.{ints, to_z-of_z}
-use Rattle.std.proofs.lemmas.List.{take_all, take-take, length-take-le}
-use Rattle.std.proofs.lemmas.List.Elements.{Contains-get_or}
+use Rattle.std.proofs.lemmas.Bool.{cases_eq}
+use Rattle.std.proofs.lemmas.List.{take_all, take-take, take-map, length-take-le, get_or-take, length-map, get_or-map, same_lists}
+use Rattle.std.proofs.lemmas.List.Elements.{All-map, All-take}
 use Rattle.hg_defs.specs.declared.moves.Move.{Move}
 use Rattle.hg_defs.specs.Sums.{total_z}
-use Rattle.hg_defs.specs.Hypergraph.{Hyper, IsWithinLimits}
+use Rattle.hg_defs.specs.Hypergraph.{Hyper, IsWithinLimits, vertex_count}
 use Rattle.hg_defs.specs.Partition.{IsPartition, Fits}
 use Rattle.hg_defs.specs.Cost.{cost}
-use Rattle.hg_defs.specs.Replay.{replay, replay_first, undone, best_prefix}
-use Rattle.hg_defs.specs.Synchronous.{sync_moves, sync}
-use Rattle.pin_plain.specs.Parted.{Parted}
+use Rattle.hg_defs.specs.Moves.{IsAllowed}
+use Rattle.hg_defs.specs.MoveLaws.{AreAllowedInTurn}
+use Rattle.hg_defs.specs.Replay.{replay, replay_first, best_prefix}
+use Rattle.hg_defs.specs.Synchronous.{sync_moves}
 use Rattle.hg_defs.proofs.SumLaws.{total_z-take_more}
-use Rattle.hg_defs.proofs.ReplayLaws.{replay_first_more, replay-once, best_prefix_is}
-use Rattle.hg_defs.proofs.UndoLaws.{moves_are_undone}
-use Rattle.hg_defs.proofs.SynchronousLaws.{sync_moves-wishes, sync_moves-distinct, sync_moves-booked, sync_moves-from}
+use Rattle.hg_defs.proofs.MoveLaws.{replay-fits}
+use Rattle.hg_defs.proofs.ReplayLaws.{replay_first_more, replay_first-take}
+use Rattle.hg_defs.proofs.SynchronousLaws.{sync_moves-allowed, sync_moves-wishes, sync_moves-distinct, sync_moves-booked, sync_moves-from}
 use Rattle.hg_base.proofs.CountLaws.{cost-lt}
-use Rattle.rollback_prefix.specs.Steps.{EndAt}
-use Rattle.det_sync.specs.Rounds.{StaysCost}
+use Rattle.round_log.proofs.FewMoves.{few_moves}
+use Rattle.rollback_prefix.specs.Steps.{Starts, StartFrom, AreReplayGains}
+use Rattle.rollback_prefix.proofs.BestLaws.{best_is}
+use Rattle.det_sync.specs.Rounds.{StaysCost, unbooked, AreBooked, saved_first, IsMostSaved}
+use Rattle.det_sync.proofs.GrantLaws.{replay_unbooked}
 
 abbrev pub no_move : Move
 no_move = record { vertex = 0; from = 0; to = 0; worker = 0; booked = pos 0 }
@@ -130,79 +136,151 @@ module _ (h : Hyper) (k l : ℕ) (p : List ℕ) where
   pub whole_moves : take (length (sync_moves h k l p)) (sync_moves h k l p) ≡ sync_moves h k l p
   whole_moves = take_all (length (sync_moves h k l p)) (sync_moves h k l p) (omega arith)
 
-  pub kept_within : Fits h k l p → best_prefix h k l p (sync_moves h k l p) ≤ length (sync_moves h k l p)
-  kept_within fits = (best_prefix_is h k l p (sync_moves h k l p) fits).within
-
   module _ (whole : IsPartition h k p) where
-    inside : All (λ (m : Move). m.vertex < length p) (sync_moves h k l p)
-    inside i d low = let v = (sync_moves-wishes h k l p i d low).allowed.vertex in let n = whole.vertices in omega arith
+    -- each prefix of them fits
+    prefix_fits : Fits h k l p → (j : ℕ) → j ≤ length (sync_moves h k l p) → Fits h k l (replay_first p (sync_moves h k l p) j)
+    prefix_fits fits j high = replay-fits h k l p (take j (sync_moves h k l p)) whole fits allowed
+      where
+        allowed : AreAllowedInTurn h k l p (take j (sync_moves h k l p))
+        allowed i d low =
+            let long = length-take-le j (sync_moves h k l p) high in
+            let m = get_or-take j (sync_moves h k l p) i d (omega arith) in
+            subst (λ (q : List ℕ). IsAllowed h k l q (get_or (take j (sync_moves h k l p)) i d).vertex (get_or (take j (sync_moves h k l p)) i d).to)
+            (sym (replay_first-take p (sync_moves h k l p) i j (omega arith)))
+            (subst (λ (n : Move). IsAllowed h k l (replay_first p (sync_moves h k l p) i) n.vertex n.to) (sym m)
+            (sync_moves-allowed h k l p i d (omega arith)))
 
-    pub sync_undone : undone (replay p (sync_moves h k l p)) (sync_moves h k l p) ≡ p
-    sync_undone = moves_are_undone p (sync_moves h k l p) (sync_moves-distinct h k l p) inside (sync_moves-from h k l p)
+    -- so the best prefix is the one that saves most
+    pub most_is_best : Fits h k l p → (j : ℕ) → IsMostSaved (sync_moves h k l p) (length (sync_moves h k l p)) j →
+        j ≡ best_prefix h k l p (sync_moves h k l p)
+    most_is_best fits j m = best_is h k l p (sync_moves h k l p) (length (sync_moves h k l p)) j (omega arith) (omega arith) fits (record {
+      within = m.within;
+      fits = prefix_fits fits j m.within;
+      cheapest = λ x low f. cheaper (saved_first (sync_moves h k l p) x) (saved_first (sync_moves h k l p) j) (cost h p)
+          (cost h (replay_first p (sync_moves h k l p) x)) (cost h (replay_first p (sync_moves h k l p) j))
+          (saves_first x low) (saves_first j m.within) (m.most x low);
+      shortest = λ x low f. let high = m.within in
+          dearer (saved_first (sync_moves h k l p) x) (saved_first (sync_moves h k l p) j) (cost h p)
+          (cost h (replay_first p (sync_moves h k l p) x)) (cost h (replay_first p (sync_moves h k l p) j))
+          (saves_first x (omega arith)) (saves_first j m.within) (m.shortest x low);
+    })
+      where
+        cheaper : (s t : ℤ) (a x y : ℕ) → s ≡ pos a -ℤ pos x → t ≡ pos a -ℤ pos y → s ≤ℤ t → y ≤ x
+        cheaper s t a x y e f m = omega (arith, ints)
 
-    -- the partition stands after all of them
-    pub sync_ends : EndAt h k (replay p (sync_moves h k l p)) (sync_moves h k l p)
-    sync_ends = record {
-      once = sync_moves-distinct h k l p;
-      each = λ i d low.
+        dearer : (s t : ℤ) (a x y : ℕ) → s ≡ pos a -ℤ pos x → t ≡ pos a -ℤ pos y → s <ℤ t → y < x
+        dearer s t a x y e f m = omega (arith, ints)
+
+    -- before their gains are known they can be replayed
+    pub unbooked_start : StartFrom h k p (map unbooked (sync_moves h k l p))
+    unbooked_start = record {
+      once = λ i j d m n e.
+          let long = length-map (sync_moves h k l p) unbooked in
+          sync_moves-distinct h k l p i j d m (omega arith)
+          (ap (λ (x : Move). x.vertex) (sym (get_or-map unbooked (sync_moves h k l p) i d d (omega arith))) ∙ e
+          ∙ ap (λ (x : Move). x.vertex) (get_or-map unbooked (sync_moves h k l p) j d d (omega arith)));
+      each = All-map (Starts h k p) unbooked (sync_moves h k l p) (λ i d low.
           let best = sync_moves-wishes h k l p i d low in
-          let from = sync_moves-from h k l p i d low in
           record {
             vertex = best.allowed.vertex;
-            from = subst (λ b. b < k) (sym from) (whole.blocks (get_or (sync_moves h k l p) i d).vertex 0 (inside i d low));
+            from = sync_moves-from h k l p i d low;
             to = best.allowed.block;
-            stands = sym (replay-once p (sync_moves h k l p) (get_or (sync_moves h k l p) i d) (sync_moves-distinct h k l p) inside
-                (Contains-get_or (sync_moves h k l p) i d low));
-          };
+          });
     }
 
--- ---- a round, on the partitions before it, after all moves, and after the best prefix of them
+  -- booked with what they gain as they are replayed they are the moves of the round
+  pub booked_are : (moves next : List Move) (gains : List ℤ) → moves ≡ map unbooked (sync_moves h k l p) → AreReplayGains h p moves gains →
+      AreBooked moves gains next → next ≡ sync_moves h k l p
+  booked_are moves next gains are gained booked = same_lists next (sync_moves h k l p) (booked.size ∙ many) each
+    where
+      many : length moves ≡ length (sync_moves h k l p)
+      many = ap length are ∙ length-map (sync_moves h k l p) unbooked
 
-module _ (h : Hyper) (first now : Parted) (ms steps : List Move) (whole : IsPartition h first.k first.blocks)
-    (fits : Fits h first.k first.limit first.blocks) (are : ms ≡ sync_moves h first.k first.limit first.blocks)
-    (all_made : now ≡ record first { blocks = replay first.blocks ms }) (lent : steps ≡ ms) where
-  pub steps_are : steps ≡ sync_moves h first.k first.limit first.blocks
-  steps_are = lent ∙ are
+      reached : (j : ℕ) → replay_first p moves j ≡ replay_first p (sync_moves h k l p) j
+      reached j =
+          ap (λ (ms : List Move). replay p (take j ms)) are ∙ ap (replay p) (take-map unbooked j (sync_moves h k l p))
+          ∙ replay_unbooked p (take j (sync_moves h k l p))
 
-  now_blocks : now.blocks ≡ replay first.blocks (sync_moves h first.k first.limit first.blocks)
-  now_blocks = ap (λ (x : Parted). x.blocks) all_made ∙ ap (replay first.blocks) are
+      gain_is : (i : ℕ) (d : Move) → i < length (sync_moves h k l p) → get_or gains i (pos 0) ≡ (get_or (sync_moves h k l p) i d).booked
+      gain_is i d low =
+          gained.each i (let n = many in omega arith)
+          ∙ ap (λ (q : List ℕ). pos (cost h q) -ℤ pos (cost h (replay_first p moves (i + 1)))) (reached i)
+          ∙ ap (λ (q : List ℕ). pos (cost h (replay_first p (sync_moves h k l p) i)) -ℤ pos (cost h q))
+          (reached (i + 1) ∙ replay_first_more p (sync_moves h k l p) i d low)
+          ∙ sym (sync_moves-booked h k l p i d low).booked
 
-  pub ends_at : EndAt h now.k now.blocks steps
-  ends_at =
-      subst (λ (n : ℕ). EndAt h n now.blocks steps) (sym (ap (λ (x : Parted). x.k) all_made))
-      (subst (λ (q : List ℕ). EndAt h first.k q steps) (sym now_blocks)
-      (subst (EndAt h first.k (replay first.blocks (sync_moves h first.k first.limit first.blocks))) (sym steps_are)
-      (sync_ends h first.k first.limit first.blocks whole)))
+      each : (i : ℕ) (d : Move) → i < length next → get_or next i d ≡ get_or (sync_moves h k l p) i d
+      each i d inside =
+          let size = booked.size in
+          let n = many in
+          let low : i < length (sync_moves h k l p) = omega arith in
+          booked.each i d (omega arith)
+          ∙ ap (λ (m : Move). record m { booked = get_or gains i (pos 0) })
+          (ap (λ (ms : List Move). get_or ms i d) are ∙ get_or-map unbooked (sync_moves h k l p) i d d low)
+          ∙ ap (λ (z : ℤ). record (get_or (sync_moves h k l p) i d) { booked = z }) (gain_is i d low)
 
-  pub undone_at : undone now.blocks steps ≡ first.blocks
-  undone_at =
-      ap (λ (q : List ℕ). undone q steps) now_blocks
-      ∙ ap (undone (replay first.blocks (sync_moves h first.k first.limit first.blocks))) steps_are
-      ∙ sync_undone h first.k first.limit first.blocks whole
+  pub few_sync : length (sync_moves h k l p) ≤ vertex_count h
+  few_sync = few_moves (vertex_count h) (sync_moves h k l p) (λ i d low. (sync_moves-wishes h k l p i d low).allowed.vertex)
+      (sync_moves-distinct h k l p)
 
-  pub fits_before : Fits h now.k now.limit (undone now.blocks steps)
-  fits_before =
-      subst (Fits h now.k now.limit) (sym undone_at)
-      (subst (λ (n : ℕ). Fits h n now.limit first.blocks) (sym (ap (λ (x : Parted). x.k) all_made))
-      (subst (λ (n : ℕ). Fits h first.k n first.blocks) (sym (ap (λ (x : Parted). x.limit) all_made)) fits))
+  pub makes_inside : (n : ℕ) (moves : List Move) → moves ≡ take n (sync_moves h k l p)
+      → All (λ (m : Move). m.vertex < vertex_count h) moves × All (λ (m : Move). m.to < k) moves
+  makes_inside n moves are = (
+    subst (All (λ (m : Move). m.vertex < vertex_count h)) (sym are) (All-take (λ (m : Move). m.vertex < vertex_count h) n (sync_moves h k l p)
+        (λ i d low. (sync_moves-wishes h k l p i d low).allowed.vertex)),
+    subst (All (λ (m : Move). m.to < k)) (sym are) (All-take (λ (m : Move). m.to < k) n (sync_moves h k l p)
+        (λ i d low. (sync_moves-wishes h k l p i d low).allowed.block)),
+  )
 
-  module _ (kept : ℕ) (kept_is : kept ≡ best_prefix h now.k now.limit (undone now.blocks steps) steps) where
-    pub kept_best : kept ≡ best_prefix h first.k first.limit first.blocks (sync_moves h first.k first.limit first.blocks)
-    kept_best =
-        kept_is
-        ∙ ap (λ (q : List ℕ). best_prefix h now.k now.limit q steps) undone_at
-        ∙ ap (λ (n : ℕ). best_prefix h n now.limit first.blocks steps) (ap (λ (x : Parted). x.k) all_made)
-        ∙ ap (λ (n : ℕ). best_prefix h first.k n first.blocks steps) (ap (λ (x : Parted). x.limit) all_made)
-        ∙ ap (best_prefix h first.k first.limit first.blocks) steps_are
+-- ---- the prefix that saves most
 
-    pub kept_low : kept ≤ length (sync_moves h first.k first.limit first.blocks)
-    kept_low = let within = kept_within h first.k first.limit first.blocks fits in let e = kept_best in omega arith
+module _ (moves : List Move) where
+  pub most_first : IsMostSaved moves 0 0
+  most_first = record {
+    within = omega arith;
+    most = λ x low. let e : x ≡ 0 = omega arith in equal (saved_first moves x) (saved_first moves 0) (ap (saved_first moves) e);
+    shortest = λ x low. absurd (omega arith);
+  }
+    where
+      equal : (s t : ℤ) → s ≡ t → s ≤ℤ t
+      equal s t e = omega (arith, ints)
 
-    pub end_is : (end : Parted) → end ≡ record now { blocks = replay_first (undone now.blocks steps) steps kept }
-        → end ≡ record first { blocks = sync h first.k first.limit first.blocks }
-    end_is end e =
-        e
-        ∙ ap (λ (q : List ℕ). record now { blocks = replay_first q steps kept }) undone_at
-        ∙ ap (λ (xs : List Move). record now { blocks = replay_first first.blocks xs kept }) steps_are
-        ∙ ap (λ (n : ℕ). record now { blocks = replay_first first.blocks (sync_moves h first.k first.limit first.blocks) n }) kept_best
-        ∙ ap (λ (x : Parted). record x { blocks = sync h first.k first.limit first.blocks }) all_made
+  -- the next prefix saves more, or it doesn't
+  pub most_new : (i j : ℕ) → IsMostSaved moves i j → saved_first moves j <ℤ saved_first moves (i + 1) → IsMostSaved moves (i + 1) (i + 1)
+  most_new i j m more = record {
+    within = omega arith;
+    most = λ x low. by x low (cases_eq x (i + 1));
+    shortest = λ x low. less (saved_first moves x) (saved_first moves j) (saved_first moves (i + 1)) (m.most x (omega arith)) more;
+  }
+    where
+      less : (s t u : ℤ) → s ≤ℤ t → t <ℤ u → s <ℤ u
+      less s t u a b = omega (arith, ints)
+
+      weaker : (s t : ℤ) → s <ℤ t → s ≤ℤ t
+      weaker s t a = omega (arith, ints)
+
+      equal : (s t : ℤ) → s ≡ t → s ≤ℤ t
+      equal s t e = omega (arith, ints)
+
+      by : (x : ℕ) → x ≤ i + 1 → (x ≡ i + 1) ⊎ (x ≡ i + 1 → ⊥) → saved_first moves x ≤ℤ saved_first moves (i + 1)
+      by x low (inl e) = equal (saved_first moves x) (saved_first moves (i + 1)) (ap (saved_first moves) e)
+      by x low (inr q) = weaker (saved_first moves x) (saved_first moves (i + 1))
+          (less (saved_first moves x) (saved_first moves j) (saved_first moves (i + 1)) (m.most x (omega arith)) more)
+
+  pub most_same : (i j : ℕ) → IsMostSaved moves i j → saved_first moves (i + 1) ≤ℤ saved_first moves j → IsMostSaved moves (i + 1) j
+  most_same i j m less = record {
+    within = let w = m.within in omega arith;
+    most = λ x low. by x low (cases_eq x (i + 1));
+    shortest = m.shortest;
+  }
+    where
+      by : (x : ℕ) → x ≤ i + 1 → (x ≡ i + 1) ⊎ (x ≡ i + 1 → ⊥) → saved_first moves x ≤ℤ saved_first moves j
+      by x low (inl e) = subst (λ y. saved_first moves y ≤ℤ saved_first moves j) (sym e) less
+      by x low (inr q) = m.most x (omega arith)
+
+-- a lower cost is one that saves more
+pub saves_more : (c d b s t : ℤ) → c ≡ b -ℤ s → d ≡ b -ℤ t → lt_z c d ≡ true → t <ℤ s
+saves_more c d b s t e f less = omega (arith, ints)
+
+pub saves_no_more : (c d b s t : ℤ) → c ≡ b -ℤ s → d ≡ b -ℤ t → lt_z c d ≡ false → s ≤ℤ t
+saves_no_more c d b s t e f less = omega (arith, ints)

@@ -142,5 +142,5 @@ module _ (h : Hyper) (k l : ℕ) (p : List ℕ) where
   }
 
 -- what was written back into a list as long
-pub written : (n : ℕ) (new old : List Wish) → length new ≡ n → take n (new ++ drop (length new) old) ≡ new
+pub written : {X : Type 0} → (n : ℕ) (new old : List X) → length new ≡ n → take n (new ++ drop (length new) old) ≡ new
 written n new old e = take-append-le n new (drop (length new) old) (omega arith) ∙ take_all n new (omega arith)

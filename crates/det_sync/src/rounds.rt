@@ -1,6 +1,6 @@
 //! Synchronous rounds: all vertices wish at once, and the best wishes are granted while there is room.
 
-ghost use Rattle.std.specs.Prelude.{◌≡◌, ℕ, ◌+◌, ◌-◌, ◌<◌, ◌≤◌, ◌^◌, ◌∷◌, length, take, replicate, IfOk, OnOk};
+ghost use Rattle.std.specs.Prelude.{◌≡◌, ℕ, ◌+◌, ◌-◌, ◌<◌, ◌≤◌, ◌^◌, ◌∷◌, length, map, take, replicate, All, IfOk, OnOk};
 ghost use Rattle.std.specs.Prelude.{OnErr, ℤ, pos, ◌-ℤ◌, ◌≤ℤ◌, ◌<ℤ◌};
 ghost use Rattle.hg_defs.specs.Sums.{total_z};
 ghost use Rattle.hg_defs.specs.Hypergraph.{vertex_count};
@@ -10,13 +10,14 @@ ghost use Rattle.hg_defs.specs.Moves.{IsSettled};
 ghost use Rattle.hg_defs.specs.Replay.{replay};
 ghost use Rattle.hg_defs.specs.Synchronous.{sync_moves, sync};
 ghost use Rattle.det_sync.specs.Wishes.{AreWishes};
-ghost use Rattle.det_sync.specs.Rounds.{LogsSync, LogsSynced, StaysCost};
+ghost use Rattle.pin_plain.specs.Parted.{IsLoaded};
+ghost use Rattle.det_sync.specs.Rounds.{LogsSync, LogsSynced, StaysCost, unbooked, AreBooked, IsMostSaved};
 
 use crate::wishes::wishes_of;
 use hg_base::{Gains, Items, Move, NoMemory};
 use incidence::Hypergraph;
 use pin_plain::{BestMove, Partition};
-use rollback_prefix::roll_back;
+use rollback_prefix::recalculate;
 use round_log::{Kind, LoggedRound, RoundList};
 use std::alloc::{AllocError, Global};
 use std::thread::Threads;
@@ -24,50 +25,115 @@ use std::thread::Threads;
 /// A level has so many rounds at most.
 const MOST_ROUNDS: u32 = 8;
 
-/// Makes those of the wishes, one after the other, for which there still is room, and answers the
-/// moves. Each is booked with its gain in its turn.
-fn grant(
+/// The load of each block.
+fn loads_of(alloc: Global, p: &Partition) -> Result<Vec<u64>, AllocError>
+    ensures { IfOk result (λ loads. IsLoaded p.now.hyper p.now.k p.now.blocks loads.items) }
+{
+    let mut loads = Vec::with_capacity(alloc, p.k() as usize)?;
+    for b in 0..p.k() {
+        loads.push(p.weight(b))?;
+    }
+    Ok(loads)
+}
+
+/// The moves of those of the wishes for which there still is room, one after the other. What they
+/// book isn't known yet.
+///
+/// Whether there is room follows from the loads alone, so that no net is looked at.
+fn admit(
     alloc: Global,
     h: &Hypergraph,
-    p: &mut Partition,
+    p: &Partition,
     wishes: &[BestMove],
 ) -> Result<Vec<Move>, AllocError>
-    requires belongs { p.old.hyper ≡ h.now }
-    requires wishes { AreWishes h.now p.old.k p.old.limit p.old.blocks wishes.now }
-    ensures moves { IfOk result (λ moves. moves.items ≡ sync_moves h.now p.old.k p.old.limit p.old.blocks) }
-    ensures partition { IfOk result (λ moves. p.new ≡ record p.old { blocks = replay p.old.blocks moves.items }) }
+    requires belongs { p.now.hyper ≡ h.now }
+    requires wishes { AreWishes h.now p.now.k p.now.limit p.now.blocks wishes.now }
+    ensures { IfOk result (λ moves. moves.items ≡ map unbooked (sync_moves h.now p.now.k p.now.limit p.now.blocks)) }
 {
     let _vertices = h.vertices();
+    let blocks = p.blocks();
+    let mut loads = loads_of(alloc, p)?;
     let mut moves = Vec::new(alloc);
     'wishes: for (_, v, to) in wishes {
-        if p.weight(*to) + h.vertex_weight(*v) > p.limit() {
+        let weight = h.vertex_weight(*v);
+        if loads[*to as usize] + weight > p.limit() {
             continue;
         }
-        let booked = p.gain(h, *v, *to);
-        let blocks = p.blocks();
         let from = blocks[*v as usize];
-        p.shift(h, *v, *to);
+        loads[from as usize] -= weight;
+        loads[*to as usize] += weight;
         moves.push(Move {
             vertex: *v,
             from,
             to: *to,
             worker: 0,
-            booked,
+            booked: 0,
         })?;
     }
     Ok(moves)
 }
 
-/// The cost after moves, each of which saves what it books, from a partition of this cost on.
-fn cost_after(before: u64, moves: &[Move]) -> u64
+/// Books each move with its gain.
+fn book(moves: &mut [Move], gains: &[i64])
+    requires { length gains.now ≡ length moves.old }
+    ensures { AreBooked moves.old gains.now moves.new }
+{
+    for i in 0..moves.len() {
+        moves[i].booked = gains[i];
+    }
+}
+
+/// The moves that grant the wishes, one after the other, while there is room. Each is booked with its
+/// gain in its turn.
+///
+/// The gains are those of all moves as they are replayed, net by net, many nets at the same time.
+fn grant<R: Threads + Sync>(
+    rt: &R,
+    alloc: Global,
+    h: &Hypergraph,
+    p: &Partition,
+    wishes: &[BestMove],
+) -> Result<Vec<Move>, NoMemory>
+    requires belongs { p.now.hyper ≡ h.now }
+    requires wishes { AreWishes h.now p.now.k p.now.limit p.now.blocks wishes.now }
+    ensures { IfOk result (λ moves. moves.items ≡ sync_moves h.now p.now.k p.now.limit p.now.blocks) }
+{
+    let mut moves = admit(alloc, h, p, wishes)?;
+    let gains = recalculate(rt, alloc, h, p.k(), p.blocks(), moves.as_slice())?;
+    book(moves.as_mut_slice(), gains.slice());
+    Ok(moves)
+}
+
+/// The shortest of the cheapest prefixes of moves, each of which saves what it books, from a partition
+/// of this cost on: its length, the cost after it, and that after all moves.
+fn best_of(before: u64, moves: &[Move]) -> (usize, u64, u64)
     requires { (i : ℕ) → i ≤ length moves.now → StaysCost (pos before -ℤ total_z (λ m. m.booked) (take i moves.now)) }
-    ensures { pos result ≡ pos before -ℤ total_z (λ m. m.booked) moves.now }
+    ensures kept { IsMostSaved moves.now (length moves.now) result.0 }
+    ensures after { pos result.1 ≡ pos before -ℤ total_z (λ m. m.booked) (take result.0 moves.now) }
+    ensures made { pos result.2 ≡ pos before -ℤ total_z (λ m. m.booked) moves.now }
 {
     let mut cost = before as i64;
-    for step in moves {
-        cost -= step.booked;
+    let (mut kept, mut least) = (0, cost);
+    for i in 0..moves.len() {
+        cost -= moves[i].booked;
+        if cost < least {
+            kept = i + 1;
+            least = cost;
+        }
     }
-    cost as u64
+    (kept, least as u64, cost as u64)
+}
+
+/// Makes moves, one after the other.
+fn make(h: &Hypergraph, p: &mut Partition, moves: &[Move])
+    requires belongs { p.old.hyper ≡ h.now }
+    requires vertices { All (λ m. m.vertex < vertex_count h.now) moves.now }
+    requires blocks { All (λ m. m.to < p.old.k) moves.now }
+    ensures { p.new ≡ record p.old { blocks = replay p.old.blocks moves.now } }
+{
+    for step in moves {
+        p.shift(h, step.vertex, step.to);
+    }
 }
 
 /// What the workers of a synchronous round book: the first of them all that was saved.
@@ -108,17 +174,16 @@ fn grant_best<R: Threads + Sync>(
     ensures refused { OnErr result (log.new ≡ log.old) }
 {
     let _parted = p.blocks();
-    let moves = grant(alloc, h, p, wishes)?;
+    let moves = grant(rt, alloc, h, p, wishes)?;
     let steps = moves.as_slice();
-    let kept = roll_back(rt, alloc, h, p, steps)?;
-    let made = cost_after(before, steps);
-    let after = cost_after(before, &steps[..kept as usize]);
+    let (kept, after, made) = best_of(before, steps);
     let gains = gains_of(alloc, before, made, workers)?;
+    make(h, p, &steps[..kept]);
     log.push(LoggedRound {
         kind: Kind::Label,
         level,
         moves: Items::from_vec(moves),
-        kept,
+        kept: kept as u32,
         gains,
         before,
         made,

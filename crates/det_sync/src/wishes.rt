@@ -16,8 +16,18 @@ use std::thread::Threads;
 /// The wishes of some of the vertices, or no memory to tell them.
 type PartWishes = Result<Vec<BestMove>, NoMemory>;
 
-/// A part has so many vertices at least, but for the last one: to start a thread for it costs as much.
-const LEAST_VERTICES: usize = 1024;
+/// A part has as many vertices as are on so many nets, at least: to start a thread costs as much as to
+/// look at them.
+const LEAST_NETS: usize = 1024;
+
+/// How many vertices a part has at least, but for the last one. On coarse levels, where many nets run
+/// over few vertices, they are fewer than elsewhere.
+fn least_vertices(h: &Hypergraph) -> usize
+    ensures { 0 < result }
+{
+    let (vertices, nets) = (h.vertices() as usize, h.nets() as usize);
+    (LEAST_NETS * vertices / nets.max(1)).max(1)
+}
 
 /// The wishes of part `j` of the vertices, which are cut into parts of a size.
 fn wishes_at(alloc: Global, h: &Hypergraph, p: &Partition, size: usize, j: usize) -> PartWishes
@@ -80,7 +90,7 @@ fn all_wishes<R: Threads + Sync>(
 {
     let size = (h.vertices() as usize)
         .div_ceil(workers as usize)
-        .max(LEAST_VERTICES);
+        .max(least_vertices(h));
     let parts = wishes_by_part(rt, alloc, h, p, size)?;
     let mut wishes = Vec::new(alloc);
     for part in parts.as_slice() {
