@@ -14,6 +14,7 @@ use std::test::Fail;
 use std::thread::Threads;
 
 mod counting;
+mod drawn;
 
 /// Seven vertices, four nets of weights 2, 3, 8 and 7.
 const FIRST: &[u8] = b"4 7 1\n2 1 2\n3 1 7 5 6\n8 5 6 4\n7 2 3 4\n";
