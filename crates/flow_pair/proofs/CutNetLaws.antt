@@ -5,6 +5,7 @@ use Rattle.std.proofs.Common.{◌||◌, refl, sym, ap, subst, ◌∙◌, arith, 
 use Rattle.std.proofs.Common.{length-set, get_or-set_same, get_or-set_other}
 use Rattle.std.specs.List.{list_any, flat_map, range_with_len}
 use Rattle.std.specs.Ordering.{nat_cmp}
+use Rattle.std.specs.Set.{is_member}
 use Rattle.std.proofs.lemmas.Bool.{and_parts, or_cases, eqb-true, eq-eqb, cases_eq}
 use Rattle.std.proofs.lemmas.Cmp.{nat_cmp_total}
 use Rattle.std.proofs.lemmas.List.Elements.{All-nil, All-cons, All-append, All-contains, Contains-append_left, Contains-append_right, Contains-append_cases}
@@ -223,6 +224,18 @@ second_holds h p a b list other s =
     λ e low t.
     let both = and_parts (has_pin p (net_of h e) a) (has_pin p (net_of h e) b) t in
     s.all a other e low (ap (λ x. x && has_pin p (net_of h e) a) both.1 ∙ both.0)
+
+-- and so in what both lists have
+pub common_holds : (h : Hyper) (p : List ℕ) (a b : ℕ) (firsts seconds : List ℕ) → a ≢ b → HoldsCutOf h p a firsts → HoldsCutOf h p b seconds
+    → HoldsTouching h p a b (filter (is_member nat_eq seconds) firsts)
+common_holds h p a b firsts seconds apart x y =
+    λ e low t. Contains_filter (is_member nat_eq seconds) firsts e (x.all b (λ s. apart (sym s)) e low t)
+    (member_true seconds e (second_holds h p a b seconds apart y e low t))
+
+pub common_below : (n : ℕ) (firsts seconds : List ℕ) → All (λ e. e < n) firsts → All (λ e. e < n) (filter (is_member nat_eq seconds) firsts)
+common_below n firsts seconds all =
+    all_of (λ e. e < n) (filter (is_member nat_eq seconds) firsts)
+    (λ e c. All-contains (λ e. e < n) firsts e all (Contains-from_filter (is_member nat_eq seconds) firsts e c).0)
 
 or_second : (x y : Bool) → y ≡ true → (x || y) ≡ true
 or_second true y f = refl

@@ -1,15 +1,17 @@
 -- Forming a region: vertices taken one after the other.
-use Rattle.std.proofs.Common.{◌≡◌, ◌≢◌, ℕ, ◌+◌, ◌-◌, ◌<◌, ◌≤◌, Bool, true, false, not, nat_eq, nat_lt, List, [], ◌∷◌, ◌++◌, length, filter, drop}
-use Rattle.std.proofs.Common.{get_or, refl, sym, ap, ◌∙◌, arith}
+use Rattle.std.proofs.Common.{◌≡◌, ◌≢◌, ℕ, ◌+◌, ◌-◌, ◌<◌, ◌≤◌, Bool, true, false, not, nat_eq, nat_le, nat_lt, if◌then◌else◌, List, [], ◌∷◌, ◌++◌, length, filter, drop}
+use Rattle.std.proofs.Common.{get_or, refl, sym, ap, ◌∙◌, arith, All, true≢false}
 use Rattle.std.specs.List.{list_any}
 use Rattle.std.proofs.lemmas.List.{drop_more, drop_all, append-nil}
-use Rattle.std.proofs.lemmas.Bool.{lt-ltb, eqb-true, eqb-false}
-use Rattle.hg_defs.specs.Hypergraph.{Hyper, vertices}
+use Rattle.std.proofs.lemmas.Bool.{lt-ltb, lt-leb, eqb-true, eqb-false}
+use Rattle.std.proofs.lemmas.List.Elements.{All-head, All-tail, All-append}
+use Rattle.hg_defs.specs.Hypergraph.{Hyper, vertices, vertex_count, weight_of}
 use Rattle.hg_defs.specs.Partition.{block_of, load}
 use Rattle.hg_defs.specs.Pins.{pins_in}
 use Rattle.round_log.specs.Rounds.{taken, is_near, is_next, side}
-use Rattle.flow_pair.specs.Sides.{TakesAll}
+use Rattle.flow_pair.specs.Sides.{TakesAll, WeighsAtLeast}
 use Rattle.flow_pair.proofs.PairLaws.{has_pin-count}
+use Rattle.flow_pair.proofs.NetLaws.{kept_below}
 
 -- ---- a net with pins in a block
 
@@ -48,3 +50,32 @@ side_taken h l p a b room left rest near next start mid end e f r first second =
     sym (append-nil end) ∙ last ∙ ap (λ xs. mid ++ taken h left xs) (append-nil next) ∙ first next
     ∙ ap (λ n. start ++ taken h n (near ++ next)) r ∙ ap (λ xs. start ++ taken h (l - load h p b) (xs ++ next)) e
     ∙ ap (λ xs. start ++ taken h (l - load h p b) (filter (is_near h p a b) (vertices h) ++ xs)) f
+
+-- where no vertex has room, none is taken
+taken_none : (h : Hyper) (least room : ℕ) (vs : List ℕ) → WeighsAtLeast h least → room < least → All (λ v. v < vertex_count h) vs → taken h room vs ≡ []
+taken_none h least room [] weighs short below = refl
+taken_none h least room (v ∷ vs) weighs short below =
+    by (nat_le (weight_of h v) room) (lt-leb (weight_of h v) room (let w = weighs v (All-head (λ u. u < vertex_count h) v vs below) in omega arith))
+    (taken_none h least room vs weighs short (All-tail (λ u. u < vertex_count h) v vs below))
+  where
+    by : (t : Bool) → t ≡ false → taken h room vs ≡ [] → (let later = taken h (if t then room - weight_of h v else room) vs in if t then v ∷ later else later) ≡ []
+    by true e rest = absurd (true≢false e)
+    by false e rest = rest
+
+-- so a side is empty where there is no room for any, and ends with the near ones where none is left
+pub side_none : (h : Hyper) (l : ℕ) (p : List ℕ) (a b room least : ℕ) (start : List ℕ) → WeighsAtLeast h least → room ≡ l - load h p b → room < least
+    → start ≡ start ++ side h l p a b
+side_none h l p a b room least start weighs r short =
+    let none = taken_none h least (l - load h p b) (filter (is_near h p a b) (vertices h) ++ filter (is_next h p a b) (vertices h)) weighs (omega arith)
+    (All-append (λ v. v < vertex_count h) (filter (is_near h p a b) (vertices h)) (filter (is_next h p a b) (vertices h))
+    (kept_below (is_near h p a b) (vertex_count h)) (kept_below (is_next h p a b) (vertex_count h))) in
+    sym (append-nil start) ∙ ap (λ xs. start ++ xs) (sym none)
+
+pub side_near : (h : Hyper) (l : ℕ) (p : List ℕ) (a b room left least : ℕ) (near start end : List ℕ) → WeighsAtLeast h least
+    → near ≡ filter (is_near h p a b) (vertices h) → room ≡ l - load h p b → TakesAll h room near start end left → left < least
+    → end ≡ start ++ side h l p a b
+side_near h l p a b room left least near start end weighs e r first short =
+    let next = filter (is_next h p a b) (vertices h) in
+    let none = taken_none h least left next weighs short (kept_below (is_next h p a b) (vertex_count h)) in
+    let last : end ++ [] ≡ start ++ taken h room (near ++ next) = ap (λ xs. end ++ xs) (sym none) ∙ first next in
+    sym (append-nil end) ∙ last ∙ ap (λ n. start ++ taken h n (near ++ next)) r ∙ ap (λ xs. start ++ taken h (l - load h p b) (xs ++ next)) e

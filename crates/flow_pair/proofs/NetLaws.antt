@@ -279,6 +279,94 @@ module _ (h : Hyper) (p : List ℕ) (a b : ℕ) (region : List ℕ) where
           (Contains_filter (λ i. has_pin p (net_of h i) a && has_pin p (net_of h i) b) (range_with_len 0 (net_count h)) e
           (Contains_range 0 (net_count h) e (omega arith) (omega arith)) (sym (joins_outside p a b region (net_of h e) f) ∙ t))
 
+-- the nets with a pin in the region, and those that touch both blocks without one
+abbrev pub inside_numbers : Hyper → List ℕ → List ℕ
+inside_numbers h region = set_of nat_cmp (flat_map (nets_of h) region)
+
+abbrev pub other_numbers : Hyper → List ℕ → ℕ → ℕ → List ℕ → List ℕ
+other_numbers h p a b region = filter (λ e. not (is_member nat_eq (inside_numbers h region) e)) (touching_nets h p a b)
+
+module _ (h : Hyper) (region : List ℕ) where
+  inside_below : (e : ℕ) → Contains (inside_numbers h region) e → (e < net_count h) × (list_any (is_member nat_eq region) (net_of h e).pins ≡ true)
+  inside_below e c =
+      let v = Contains-from_flat_map (nets_of h) region e (Contains-from_set_of nat_cmp_total nat_cmp_exact (flat_map (nets_of h) region) e c) in
+      let on = Contains-from_filter (is_on h v.0) (range_with_len 0 (net_count h)) e v.2 in (
+        Contains-from_range (net_count h) e on.0,
+        any_from (is_member nat_eq region) (net_of h e).pins v.0 (member_of (net_of h e).pins v.0 on.1) (member_true region v.0 v.1),
+      )
+
+  inside_from : (e : ℕ) → e < net_count h → list_any (is_member nat_eq region) (net_of h e).pins ≡ true → Contains (inside_numbers h region) e
+  inside_from e low t =
+      let v = any_is (is_member nat_eq region) (net_of h e).pins t in
+      Contains-set_of nat_cmp_total nat_cmp_exact (flat_map (nets_of h) region) e
+      (Contains-flat_map (nets_of h) region v.0 e (member_of region v.0 v.2)
+      (Contains_filter (is_on h v.0) (range_with_len 0 (net_count h)) e (Contains_range 0 (net_count h) e (omega arith) (omega arith))
+      (member_true (net_of h e).pins v.0 v.1)))
+
+  pub inside_all : All (λ e. e < net_count h) (inside_numbers h region)
+  inside_all = all_of (λ e. e < net_count h) (inside_numbers h region) (λ e c. (inside_below e c).0)
+
+  pub inside_each : All (λ e. e < net_count h) (flat_map (nets_of h) region)
+  inside_each = all_from_set (λ e. e < net_count h) (flat_map (nets_of h) region) inside_all
+
+  pub inside_rises : IsStrictlyIncreasing (inside_numbers h region)
+  inside_rises = increasing-set_of (flat_map (nets_of h) region)
+
+  pub inside_listed : map (net_of h) (inside_numbers h region) ≡ filter (λ e. list_any (is_member nat_eq region) e.pins) h.nets
+  inside_listed =
+      ap (map (net_of h)) (rising_is_filter (inside_numbers h region) (λ e. list_any (is_member nat_eq region) (net_of h e).pins) (net_count h)
+      inside_rises inside_below inside_from)
+      ∙ sym (filter-map (net_of h) (λ e. list_any (is_member nat_eq region) e.pins) (range_with_len 0 (net_count h)))
+      ∙ ap (filter (λ e. list_any (is_member nat_eq region) e.pins)) (sym (nets_by_number h))
+
+  module _ (p : List ℕ) (a b : ℕ) where
+    pub other_all : All (λ e. e < net_count h) (other_numbers h p a b region)
+    other_all =
+        all_of (λ e. e < net_count h) (other_numbers h p a b region)
+        (λ e c. touching_below h p a b e (Contains-from_filter (λ i. not (is_member nat_eq (inside_numbers h region) i)) (touching_nets h p a b) e c).0)
+
+    pub other_listed : map (net_of h) (other_numbers h p a b region)
+        ≡ filter (λ e. (has_pin p e a && has_pin p e b) && not (list_any (is_member nat_eq region) e.pins)) h.nets
+    other_listed =
+        ap (map (net_of h)) (rising_is_filter (other_numbers h p a b region)
+        (λ e. (has_pin p (net_of h e) a && has_pin p (net_of h e) b) && not (list_any (is_member nat_eq region) (net_of h e).pins)) (net_count h)
+        (IsStrictlyIncreasing-filter away (touching_nets h p a b) (kept_rises touches (net_count h))) to from)
+        ∙ sym (filter-map (net_of h) (λ e. (has_pin p e a && has_pin p e b) && not (list_any (is_member nat_eq region) e.pins)) (range_with_len 0 (net_count h)))
+        ∙ ap (filter (λ e. (has_pin p e a && has_pin p e b) && not (list_any (is_member nat_eq region) e.pins))) (sym (nets_by_number h))
+      where
+        touches : ℕ → Bool
+        touches e = has_pin p (net_of h e) a && has_pin p (net_of h e) b
+
+        away : ℕ → Bool
+        away e = not (is_member nat_eq (inside_numbers h region) e)
+
+        inner : ℕ → Bool
+        inner e = list_any (is_member nat_eq region) (net_of h e).pins
+
+        to : (e : ℕ) → Contains (other_numbers h p a b region) e → (e < net_count h) × ((touches e && not (inner e)) ≡ true)
+        to e c =
+            let x = Contains-from_filter away (touching_nets h p a b) e c in
+            let low = touching_below h p a b e x.0 in
+            (low, both_true (touches e) (not (inner e)) (Contains-from_filter touches (range_with_len 0 (net_count h)) e x.0).1 (outer (inner e) refl))
+          where
+            outer : (t : Bool) → inner e ≡ t → not t ≡ true
+            outer true f =
+                let x = Contains-from_filter away (touching_nets h p a b) e c in
+                sym (ap not (member_true (inside_numbers h region) e (inside_from e (touching_below h p a b e x.0) f))) ∙ x.1
+            outer false f = refl
+
+        from : (e : ℕ) → e < net_count h → (touches e && not (inner e)) ≡ true → Contains (other_numbers h p a b region) e
+        from e low t =
+            let both = and_parts (touches e) (not (inner e)) t in
+            Contains_filter away (touching_nets h p a b) e
+            (Contains_filter touches (range_with_len 0 (net_count h)) e (Contains_range 0 (net_count h) e (omega arith) (omega arith)) both.0)
+            (kept (is_member nat_eq (inside_numbers h region) e) refl both.1)
+          where
+            kept : (t : Bool) → is_member nat_eq (inside_numbers h region) e ≡ t → not (inner e) ≡ true → not t ≡ true
+            kept true f n =
+                sym (ap not (inside_below e (member_of (inside_numbers h region) e f)).1) ∙ n
+            kept false f n = refl
+
 -- few nets with few pins
 pub joined_few : (h : Hyper) (test : Net → Bool) (nets : List ℕ) → map (net_of h) nets ≡ filter test h.nets
     → (length nets ≤ net_count h) × (total (λ e. length (net_of h e).pins) nets ≤ pin_count h)

@@ -1,8 +1,8 @@
 -- The arcs of the solver's network, one after the other.
 use Rattle.std.proofs.Common.{◌≡◌, ◌⊎◌, inl, inr, ℕ, suc, ◌+◌, ◌*◌, ◌<◌, ◌≤◌, Bool, true, false, ◌&&◌, ◌||◌, not, nat_eq, nat_lt}
-use Rattle.std.proofs.Common.{if◌then◌else◌, List, [], ◌∷◌, ◌++◌, length, map, replicate, drop, All, get_or, refl, sym, ap, ap₂, ◌∙◌, subst, arith}
+use Rattle.std.proofs.Common.{if◌then◌else◌, List, [], ◌∷◌, ◌++◌, length, filter, map, replicate, drop, All, get_or, refl, sym, ap, ap₂, ◌∙◌, subst, arith}
 use Rattle.std.proofs.Common.{slice_index, append_assoc}
-use Rattle.std.specs.List.{position_or_len}
+use Rattle.std.specs.List.{list_any, position_or_len}
 use Rattle.std.specs.Set.{is_member}
 use Rattle.std.proofs.lemmas.Bool.{cases_lt, lt-ltb, le-ltb}
 use Rattle.std.proofs.lemmas.List.{drop_more, drop_all, append-nil, length-append}
@@ -11,14 +11,15 @@ use Rattle.flow_net.specs.declared.network.Arc.{Arc}
 use Rattle.flow_net.specs.Flow.{FlowNetwork}
 use Rattle.hg_defs.specs.Sums.{total}
 use Rattle.hg_defs.specs.Hypergraph.{Net, Hyper, net_of}
-use Rattle.hg_defs.proofs.SumLaws.{total-le, total-scale}
+use Rattle.hg_defs.proofs.SumLaws.{total-le, total-scale, total-map}
 use Rattle.hg_defs.proofs.ContractionLaws.{total-filter-le}
-use Rattle.round_log.specs.Rounds.{leaves, pair_price}
+use Rattle.round_log.specs.Rounds.{leaves, pair_price, has_pin}
 use Rattle.flow_pair.specs.PairNetwork.{unbounded, net_price, joins, joined_nets, has_pin_outside, IsIdle}
 use Rattle.flow_pair.specs.ShortNetwork.{inner_nodes, arcs_to_each, arcs_from_each, source_arcs, sink_arcs, inner_arcs, end_arcs}
-use Rattle.flow_pair.specs.ShortNetwork.{outer_count, inner_count, end_count, short_arcs, short_count, all_short_arcs, fixed_price, short_network}
-use Rattle.flow_pair.proofs.RegionLaws.{member-position}
+use Rattle.flow_pair.specs.ShortNetwork.{outer_count, inner_count, end_count, short_arcs, short_count, all_short_arcs, fixed_price, inside_nets, short_network}
+use Rattle.flow_pair.proofs.RegionLaws.{member-position, joins_inside, joins_outside}
 use Rattle.flow_pair.proofs.CheapestLaws.{different, price-le}
+use Rattle.flow_pair.proofs.NetLaws.{other_numbers, other_listed}
 
 -- ---- a pin noted
 
@@ -189,9 +190,99 @@ module _ (h : Hyper) (p : List ℕ) (a b : ℕ) (region : List ℕ) where
       ∙ append_assoc before.arcs (short_arcs h p a b region before.nodes e) (all_short_arcs h p a b region (before.nodes + short_count p a b region e) rest)
       ∙ ap (λ xs. before.arcs ++ all_short_arcs h p a b region before.nodes (map (net_of h) xs)) (sym (drop_more nets i 0 l)) ∙ t
 
+  -- the nets that join without a pin in the region have no arcs
+  abbrev pub inner : Net → Bool
+  inner e = list_any (is_member nat_eq region) e.pins
+
+  short_inside : (at : ℕ) (nets : List Net)
+      → all_short_arcs h p a b region at (filter (joins p a b region) nets) ≡ all_short_arcs h p a b region at (filter inner nets)
+  short_inside at [] = refl
+  short_inside at (e ∷ nets) = by (inner e) (joins p a b region e) refl refl (λ n. short_inside n nets)
+    where
+      rest : List Net → ℕ → List Arc
+      rest xs n = all_short_arcs h p a b region n xs
+
+      Same : Type 0
+      Same = (n : ℕ) → rest (filter (joins p a b region) nets) n ≡ rest (filter inner nets) n
+
+      cut : (A B : Bool) → (A && B) ≡ true → Same
+          → end_arcs A B (unbounded h) (net_price h p a b e) at (inner_nodes region e.pins) ++ rest (filter (joins p a b region) nets)
+          (at + end_count A B (inner_nodes region e.pins))
+          ≡ rest (filter inner nets) at
+      cut true true z r = ap (rest (filter (joins p a b region) nets)) (let z : at + 0 ≡ at = omega arith in z) ∙ r at
+      cut true false z r = absurd (different (sym z))
+      cut false B z r = absurd (different (sym z))
+
+      by : (s t : Bool) → inner e ≡ s → joins p a b region e ≡ t → Same
+          → rest (if t then e ∷ filter (joins p a b region) nets else filter (joins p a b region) nets) at
+          ≡ rest (if s then e ∷ filter inner nets else filter inner nets) at
+      by true true f g r = ap (λ xs. short_arcs h p a b region at e ++ xs) (r (at + short_count p a b region e))
+      by true false f g r = absurd (different (sym (joins_inside p a b region e f) ∙ g))
+      by false false f g r = r at
+      by false true f g r =
+          cut (has_pin_outside p region e a) (has_pin_outside p region e b)
+          (sym (ap (λ m. m || (has_pin_outside p region e a && has_pin_outside p region e b)) f) ∙ g) r
+
+  count_inside : (nets : List Net) → total (short_count p a b region) (filter (joins p a b region) nets) ≡ total (short_count p a b region) (filter inner nets)
+  count_inside [] = refl
+  count_inside (e ∷ nets) = by (inner e) (joins p a b region e) refl refl (count_inside nets)
+    where
+      count : Net → ℕ
+      count = short_count p a b region
+
+      cut : (A B : Bool) (nodes : List ℕ) → (A && B) ≡ true → end_count A B nodes ≡ 0
+      cut true true nodes z = refl
+      cut true false nodes z = absurd (different (sym z))
+      cut false B nodes z = absurd (different (sym z))
+
+      by : (s t : Bool) → inner e ≡ s → joins p a b region e ≡ t → total count (filter (joins p a b region) nets) ≡ total count (filter inner nets)
+          → total count (if t then e ∷ filter (joins p a b region) nets else filter (joins p a b region) nets) ≡ total count
+          (if s then e ∷ filter inner nets else filter inner nets)
+      by true true f g r = ap (λ n. count e + n) r
+      by true false f g r = absurd (different (sym (joins_inside p a b region e f) ∙ g))
+      by false false f g r = r
+      by false true f g r =
+          let none = cut (has_pin_outside p region e a) (has_pin_outside p region e b) (inner_nodes region e.pins)
+          (sym (ap (λ m. m || (has_pin_outside p region e a && has_pin_outside p region e b)) f) ∙ g) in
+          omega arith
+
+  -- and what they pay is fixed
+  abbrev pub other : Net → Bool
+  other e = (has_pin p e a && has_pin p e b) && not (inner e)
+
+  pub fixed_split : (nets : List Net) → total (fixed_price h p a b region) (filter (joins p a b region) nets)
+      ≡ total (fixed_price h p a b region) (filter inner nets) + total (net_price h p a b) (filter other nets)
+  fixed_split [] = refl
+  fixed_split (e ∷ nets) = by (inner e) (joins p a b region e) (has_pin p e a && has_pin p e b) refl refl refl (fixed_split nets)
+    where
+      fixed : Net → ℕ
+      fixed = fixed_price h p a b region
+
+      price : Net → ℕ
+      price = net_price h p a b
+
+      paid : (A : Bool) → (has_pin_outside p region e a && has_pin_outside p region e b) ≡ A → A ≡ true → (if A then price e else 0) ≡ price e
+      paid true x z = refl
+      paid false x z = absurd (different (sym z))
+
+      by : (s t u : Bool) → inner e ≡ s → joins p a b region e ≡ t → (has_pin p e a && has_pin p e b) ≡ u
+          → total fixed (filter (joins p a b region) nets) ≡ total fixed (filter inner nets) + total price (filter other nets)
+          → total fixed (if t then e ∷ filter (joins p a b region) nets else filter (joins p a b region) nets)
+          ≡ total fixed (if s then e ∷ filter inner nets else filter inner nets) + total price (if u && not s then e ∷ filter other nets else filter other nets)
+      by true true true f g u r = omega arith
+      by true true false f g u r = omega arith
+      by true false u f g x r = absurd (different (sym (joins_inside p a b region e f) ∙ g))
+      by false true true f g x r =
+          let same : fixed e ≡ price e = paid (has_pin_outside p region e a && has_pin_outside p region e b) refl
+          (sym (ap (λ m. m || (has_pin_outside p region e a && has_pin_outside p region e b)) f) ∙ g) in
+          omega arith
+      by false true false f g x r = absurd (different (sym g ∙ (joins_outside p a b region e f ∙ x)))
+      by false false true f g x r = absurd (different (sym x ∙ (sym (joins_outside p a b region e f) ∙ g)))
+      by false false false f g x r = r
+
   -- all of them
   pub short-made : (network : FlowNetwork) (nets : List ℕ) (i : ℕ) → length nets ≤ i
-      → map (net_of h) nets ≡ joined_nets h p a b region
+      → map (net_of h) nets ≡ inside_nets h region
       → network.nodes + total (short_count p a b region) (map (net_of h) (drop i nets)) ≡ 2 + length region + total (short_count p a b region)
       (map (net_of h) nets)
       → network.arcs ++ all_short_arcs h p a b region network.nodes (map (net_of h) (drop i nets)) ≡ all_short_arcs h p a b region (2 + length region)
@@ -206,18 +297,17 @@ module _ (h : Hyper) (p : List ℕ) (a b : ℕ) (region : List ℕ) where
       all_nodes =
           sum-all (short_count p a b region) nets i network.nodes (2 + length region + total (short_count p a b region) (map (net_of h) nets)) least nodes
           ∙ ap (λ xs. 2 + length region + total (short_count p a b region) xs) is
+          ∙ ap (λ n. 2 + length region + n) (sym (count_inside h.nets))
 
       all_arcs : network.arcs ≡ all_short_arcs h p a b region (2 + length region) (joined_nets h p a b region)
       all_arcs =
           sym (append-nil network.arcs)
           ∙ ap (λ xs. network.arcs ++ all_short_arcs h p a b region network.nodes (map (net_of h) xs)) (sym (drop_all i nets least))
-          ∙ arcs ∙ ap (all_short_arcs h p a b region (2 + length region)) is
+          ∙ arcs ∙ ap (all_short_arcs h p a b region (2 + length region)) is ∙ sym (short_inside (2 + length region) h.nets)
 
   -- what is fixed is less than what no net can pay
-  pub fixed-small : (nets : List ℕ) → map (net_of h) nets ≡ joined_nets h p a b region
-      → total (fixed_price h p a b region) (map (net_of h) nets) < unbounded h
-  fixed-small nets is =
-      let all = ap (total (fixed_price h p a b region)) is in
+  fixed-small : total (fixed_price h p a b region) (joined_nets h p a b region) < unbounded h
+  fixed-small =
       let part = total-filter-le (fixed_price h p a b region) (joins p a b region) h.nets in
       let each = total-le (fixed_price h p a b region) (λ (e : Net). 2 * e.weight) h.nets (λ i d l. one (get_or h.nets i d)) in
       let twice = total-scale 2 (λ (e : Net). e.weight) h.nets in
@@ -229,3 +319,12 @@ module _ (h : Hyper) (p : List ℕ) (a b : ℕ) (region : List ℕ) where
           by : (t : Bool) → pair_price h.objective (leaves p a b e) e.weight ≤ 2 * e.weight → (if t then net_price h p a b e else 0) ≤ 2 * e.weight
           by true l = l
           by false l = omega arith
+
+  pub inside-small : total (fixed_price h p a b region) (inside_nets h region) + total (net_price h p a b) (filter other h.nets) < unbounded h
+  inside-small = let all = fixed_split h.nets in let small = fixed-small in omega arith
+
+  pub others_pay : (nets : List ℕ) → nets ≡ other_numbers h p a b region
+      → total (λ e. net_price h p a b (net_of h e)) nets ≡ total (net_price h p a b) (filter other h.nets)
+  others_pay nets is =
+      sym (total-map (net_price h p a b) (net_of h) nets) ∙ ap (λ es. total (net_price h p a b) (map (net_of h) es)) is
+      ∙ ap (total (net_price h p a b)) (other_listed h region p a b)

@@ -2,8 +2,9 @@
 -- end of a net at most in each block, a net of two ends is an arc between them, and a net that is cut whatever the region does is a part of a fixed cost.
 -- Of four vertices in a row in the blocks a, a, b, b with nets of weights 1, 5, 1 between neighbours and the middle two as region, nodes 2 and 3, it has
 -- the arcs 0 to 2 of 1, 2 to 3 of 5, 3 to 2 of 5 and 3 to 1 of 1.
-use Rattle.std.specs.Prelude.{ℕ, ◌+◌, List, [], ◌∷◌, ◌++◌, length, replicate, Bool, true, false, ◌&&◌, nat_eq, nat_lt, if◌then◌else◌}
-use Rattle.std.specs.List.{position_or_len}
+use Rattle.std.specs.Prelude.{ℕ, ◌+◌, List, [], ◌∷◌, ◌++◌, length, filter, replicate, Bool, true, false, ◌&&◌, nat_eq, nat_lt, if◌then◌else◌}
+use Rattle.std.specs.List.{list_any, position_or_len}
+use Rattle.std.specs.Set.{is_member}
 use Rattle.hg_defs.specs.Sums.{total}
 use Rattle.hg_defs.specs.Hypergraph.{Net, Hyper}
 use Rattle.flow_net.specs.declared.network.Arc.{Arc}
@@ -83,6 +84,10 @@ short_count p a b region e = end_count (has_pin_outside p region e a) (has_pin_o
 abbrev pub all_short_arcs : Hyper → List ℕ → ℕ → ℕ → List ℕ → ℕ → List Net → List Arc
 all_short_arcs h p a b region at [] = []
 all_short_arcs h p a b region at (e ∷ nets) = short_arcs h p a b region at e ++ all_short_arcs h p a b region (at + short_count p a b region e) nets
+
+-- the nets with a pin in the region; the others that join have no arcs
+abbrev pub inside_nets : Hyper → List ℕ → List Net
+inside_nets h region = filter (λ e. list_any (is_member nat_eq region) e.pins) h.nets
 
 -- what a net pays in every assignment, and what all pay
 abbrev pub fixed_price : Hyper → List ℕ → ℕ → ℕ → List ℕ → Net → ℕ

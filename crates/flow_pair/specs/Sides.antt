@@ -1,8 +1,8 @@
 -- The lists that a region is formed of.
-use Rattle.std.specs.Prelude.{◌≡◌, ℕ, List, ◌++◌, length, filter, Bool, ◌&&◌, nat_eq, nat_le}
+use Rattle.std.specs.Prelude.{◌≡◌, ◌<◌, ◌≤◌, ℕ, List, ◌++◌, length, filter, slice_index, Bool, ◌&&◌, nat_eq, nat_le}
 use Rattle.std.specs.List.{range_with_len}
 use Rattle.std.specs.Set.{is_member}
-use Rattle.hg_defs.specs.Hypergraph.{Hyper, net_count, net_of, is_free}
+use Rattle.hg_defs.specs.Hypergraph.{Hyper, vertex_count, net_count, net_of, weight_of, is_free}
 use Rattle.hg_defs.specs.Incidence.{nets_of}
 use Rattle.hg_defs.specs.Partition.{block_of}
 use Rattle.round_log.specs.Rounds.{has_pin, taken}
@@ -27,6 +27,10 @@ is_small h e = nat_le (length (net_of h e).pins) 1000
 abbrev pub small_nets : Hyper → ℕ → List ℕ
 small_nets h v = filter (is_small h) (nets_of h v)
 
+-- each vertex weighs as much at least
+abbrev pub WeighsAtLeast : Hyper → ℕ → Type 0
+WeighsAtLeast h least = (v : ℕ) → v < vertex_count h → least ≤ weight_of h v
+
 -- vertices were taken where there was room for them: the room that is left, and what may be taken later
 abbrev pub TakesAll : Hyper → ℕ → List ℕ → List ℕ → List ℕ → ℕ → Type 0
 TakesAll h room vertices before after left = (vs : List ℕ) → after ++ taken h left vs ≡ before ++ taken h room (vertices ++ vs)
@@ -34,3 +38,8 @@ TakesAll h room vertices before after left = (vs : List ℕ) → after ++ taken 
 -- the same numbers, how often ever
 abbrev pub HasMembersOf : List ℕ → List ℕ → Type 0
 HasMembersOf xs ys = (x : ℕ) → is_member nat_eq xs x ≡ is_member nat_eq ys x
+
+-- the spot of a number tells a place of a list at which it stands
+pub record IsNoted (spots list : List ℕ) (x : ℕ) : Type 0 where
+  pub place : slice_index spots x < length list
+  pub stands : slice_index list (slice_index spots x) ≡ x

@@ -1,6 +1,6 @@
 //! The cut nets of a partition, block by block.
 
-ghost use Rattle.std.specs.Prelude.{◌≡◌, ◌≢◌, ◌⊎◌, ℕ, ◌<◌, [], All, Contains, IfOk, OnOk, length};
+ghost use Rattle.std.specs.Prelude.{◌≡◌, ◌≢◌, ◌⊎◌, ℕ, ◌<◌, ◌≤◌, [], All, Contains, IfOk, OnOk, length};
 ghost use Rattle.std.specs.Prelude.{replicate, slice_index_or, IsTrue};
 ghost use Rattle.hg_defs.specs.Hypergraph.{vertex_count, net_count, net_of};
 ghost use Rattle.hg_defs.specs.Partition.{block_of};
@@ -8,6 +8,7 @@ ghost use Rattle.flow_pair.specs.CutNets.{AreCutLists, KeepNets, with_nets};
 ghost use Rattle.flow_pair.specs.Sides.{touching_nets};
 
 use crate::cut::{add_nets_of, cut_nets_of, nets_between};
+use crate::distinct::common_of;
 use flow_net::NoMemory;
 use hg_base::{Move, Verts};
 use incidence::Hypergraph;
@@ -129,25 +130,12 @@ impl CutNets {
         Ok(CutNets { lists })
     }
 
-    /// The shorter one of the lists of two blocks.
-    fn shorter(&self, a: u32, b: u32) -> &[u32]
-        requires first { a < length self.now }
-        requires second { b < length self.now }
-        ensures { (result.now ≡ slice_index_or self.now a []) ⊎ (result.now ≡ slice_index_or self.now b []) }
-    {
-        let firsts = self.lists[a as usize].slice();
-        let seconds = self.lists[b as usize].slice();
-        if firsts.len() < seconds.len() {
-            firsts
-        } else {
-            seconds
-        }
-    }
-
-    /// The nets that touch both blocks of a pair, in rising order.
-    pub fn between(
+    /// The nets that touch both blocks of a pair, in rising order. Each net has a spot, in which anything may
+    /// stand.
+    pub(crate) fn between(
         &self,
         alloc: Global,
+        spots: &mut [usize],
         h: &Hypergraph,
         p: &Partition,
         a: u32,
@@ -157,9 +145,14 @@ impl CutNets {
         requires cut { AreCutLists h.now p.now.k p.now.blocks self.now }
         requires order { a < b }
         requires second { b < p.now.k }
-        ensures { IfOk result (λ nets. nets.items ≡ touching_nets h.now p.now.blocks a b) }
+        requires spots { net_count h.now ≤ length spots.old }
+        ensures size { length spots.new ≡ length spots.old }
+        ensures nets { IfOk result (λ nets. nets.items ≡ touching_nets h.now p.now.blocks a b) }
     {
-        nets_between(alloc, h, p, a, b, self.shorter(a, b))
+        let firsts = self.lists[a as usize].slice();
+        let seconds = self.lists[b as usize].slice();
+        let both = common_of(alloc, spots, firsts, seconds)?;
+        nets_between(alloc, h, p, a, b, both.as_slice())
     }
 
     /// Adds the nets of vertices that moved between two blocks to the lists of both.

@@ -2,8 +2,12 @@
 
 ghost use Rattle.std.specs.Prelude.{◌≡◌, ◌≢◌, ◌+◌, ◌*◌, ◌^◌, ◌<◌, ◌≤◌, List, [], ◌∷◌, ◌++◌};
 ghost use Rattle.std.specs.Prelude.{length, map, All, IfOk, OnOk};
+ghost use Rattle.std.specs.List.{flat_map};
 ghost use Rattle.std.specs.List.Sorted.{IsStrictlyIncreasing};
+ghost use Rattle.std.specs.Ordering.{nat_cmp};
 ghost use Rattle.hg_defs.specs.Hypergraph.{vertex_count, net_count, net_of};
+ghost use Rattle.hg_defs.specs.Incidence.{nets_of};
+ghost use Rattle.hg_defs.specs.Sorting.{set_of};
 ghost use Rattle.flow_pair.specs.PairNetwork.{pin_arcs, net_arcs, joined_nets, pair_network, AreOfPair};
 ghost use Rattle.flow_pair.specs.PairNetwork.{Extends, IsIdle};
 ghost use Rattle.flow_pair.specs.Sides.{touching_nets};
@@ -105,6 +109,23 @@ pub(crate) fn nets_of_pair(
         pair.entry.blocks.now pair.entry.first pair.entry.second pair.entry.region.now) }
 {
     let mut nets = Vec::from_slice(alloc, touching)?;
+    for v in pair.region {
+        nets.extend_from_slice(pair.h.nets_of(*v))?;
+    }
+    Ok(distinct_of_many(spots, nets))
+}
+
+/// The nets that hold a vertex of the region.
+pub(crate) fn nets_of_region(
+    alloc: Global,
+    spots: &mut [usize],
+    pair: Pair<'_>,
+) -> Result<Vec<u32>, NoMemory>
+    requires spots { net_count pair.h.now ≤ length spots.old }
+    ensures nets { IfOk result (λ nets. nets.items ≡ set_of nat_cmp (flat_map (nets_of pair.entry.h.now)
+        pair.entry.region.now)) }
+{
+    let mut nets = Vec::new(alloc);
     for v in pair.region {
         nets.extend_from_slice(pair.h.nets_of(*v))?;
     }

@@ -45,7 +45,7 @@ impl Course {
         ensures no_dearer { OnOk result (self.new.cost ≤ self.old.cost) }
     {
         let _blocks = self.part.blocks();
-        let nets = self.cut.between(alloc, h, &self.part, a, b)?;
+        let nets = self.solver.nets_between(h, &self.part, &self.cut, a, b)?;
         let found = self.solver.solve(h, &self.part, a, b, nets.as_slice())?;
         let Some(end) = found else {
             return Ok(());

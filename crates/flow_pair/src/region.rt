@@ -10,7 +10,7 @@ ghost use Rattle.hg_defs.specs.Hypergraph.{vertex_count, net_count, net_of};
 ghost use Rattle.hg_defs.specs.Partition.{load, Fits};
 ghost use Rattle.hg_defs.specs.Sorting.{set_of};
 ghost use Rattle.round_log.specs.Rounds.{side, region};
-ghost use Rattle.flow_pair.specs.Sides.{touching_nets, is_free_in, free_pins, is_small, small_nets, TakesAll};
+ghost use Rattle.flow_pair.specs.Sides.{touching_nets, is_free_in, free_pins, is_small, small_nets, TakesAll, WeighsAtLeast};
 
 use crate::distinct::{distinct, distinct_of_many, push_if};
 use crate::pair::contains;
@@ -22,6 +22,17 @@ use std::alloc::Global;
 
 /// The most pins of a net through which a region grows.
 const MOST_PINS: usize = 1000;
+
+/// The least weight of a vertex, or the greatest number where there is none.
+pub(crate) fn least_weight(h: &Hypergraph) -> u64
+    ensures { WeighsAtLeast h.now result }
+{
+    let mut least = u64::MAX;
+    for v in 0..h.vertices() {
+        least = least.min(h.vertex_weight(v));
+    }
+    least
+}
 
 /// Whether a vertex is free and in a block.
 fn may_leave(h: &Hypergraph, blocks: &[u32], block: u32, v: u32) -> bool
@@ -115,7 +126,7 @@ fn small_nets_of(
 }
 
 /// The numbers of a list that aren't among some others, which rise.
-fn without(alloc: Global, list: &[u32], others: &[u32]) -> Result<Vec<u32>, NoMemory>
+pub(crate) fn without(alloc: Global, list: &[u32], others: &[u32]) -> Result<Vec<u32>, NoMemory>
     requires { IsStrictlyIncreasing others.now }
     ensures { IfOk result (λ left. left.items ≡ filter (λ v. not (is_member nat_eq others.now v)) list.now) }
 {
@@ -157,7 +168,8 @@ fn take_all(
 }
 
 /// Appends what one block may send to the other one: free vertices on the nets that touch both, and
-/// then those on small nets that hold one of these.
+/// then those on small nets that hold one of these. Where there is no room for the lightest vertex, no
+/// more of them are looked for.
 fn take_side(
     alloc: Global,
     spots: &mut [usize],
@@ -166,22 +178,31 @@ fn take_side(
     from: u32,
     to: u32,
     nets: &[u32],
+    least: u64,
     list: &mut Vec<u32>,
 ) -> Result<(), NoMemory>
     requires belongs { p.now.hyper ≡ h.now }
     requires fits { Fits p.now.hyper p.now.k p.now.limit p.now.blocks }
     requires to { to < p.now.k }
     requires nets { nets.now ≡ touching_nets h.now p.now.blocks from to }
+    requires least { WeighsAtLeast h.now least }
     requires spots { (vertex_count h.now ≤ length spots.old) × (net_count h.now ≤ length spots.old) }
     ensures size { length spots.new ≡ length spots.old }
     ensures side { OnOk result (list.new.items ≡ list.old.items ++ side h.now p.now.limit p.now.blocks from to) }
 {
     let blocks = p.blocks();
+    let room = p.limit() - p.weight(to);
+    if room < least {
+        return Ok(());
+    }
     let near = free_on(alloc, spots, h, blocks, from, nets)?;
+    let left = take_all(h, near.as_slice(), room, list)?;
+    if left < least {
+        return Ok(());
+    }
     let small = small_nets_of(alloc, spots, h, near.as_slice())?;
     let reached = free_on(alloc, spots, h, blocks, from, small.as_slice())?;
     let next = without(alloc, reached.as_slice(), near.as_slice())?;
-    let left = take_all(h, near.as_slice(), p.limit() - p.weight(to), list)?;
     take_all(h, next.as_slice(), left, list)?;
     Ok(())
 }
@@ -195,18 +216,20 @@ pub(crate) fn form_region(
     a: u32,
     b: u32,
     nets: &[u32],
+    least: u64,
 ) -> Result<Verts, NoMemory>
     requires belongs { p.now.hyper ≡ h.now }
     requires fits { Fits p.now.hyper p.now.k p.now.limit p.now.blocks }
     requires order { a < b }
     requires blocks { b < p.now.k }
     requires nets { nets.now ≡ touching_nets h.now p.now.blocks a b }
+    requires least { WeighsAtLeast h.now least }
     requires spots { (vertex_count h.now ≤ length spots.old) × (net_count h.now ≤ length spots.old) }
     ensures size { length spots.new ≡ length spots.old }
     ensures region { IfOk result (λ list. list ≡ region h.now p.now.limit p.now.blocks a b) }
 {
     let mut list = Vec::new(alloc);
-    take_side(alloc, spots, h, p, a, b, nets, &mut list)?;
-    take_side(alloc, spots, h, p, b, a, nets, &mut list)?;
+    take_side(alloc, spots, h, p, a, b, nets, least, &mut list)?;
+    take_side(alloc, spots, h, p, b, a, nets, least, &mut list)?;
     Ok(Verts::from_vec(distinct(list)))
 }

@@ -6,16 +6,18 @@ ghost use Rattle.std.specs.Prelude.{nat_eq, length, map, All, IfOk, OnOk};
 ghost use Rattle.std.specs.List.Sorted.{IsStrictlyIncreasing};
 ghost use Rattle.std.specs.Set.{is_member};
 ghost use Rattle.hg_defs.specs.Hypergraph.{vertex_count, net_count, net_of};
+ghost use Rattle.hg_defs.specs.Sums.{total};
 ghost use Rattle.hg_defs.specs.Partition.{block_of};
-ghost use Rattle.flow_pair.specs.PairNetwork.{has_pin_outside, joined_nets, unbounded};
+ghost use Rattle.flow_pair.specs.PairNetwork.{has_pin_outside, net_price, unbounded};
 ghost use Rattle.flow_pair.specs.PairNetwork.{Extends, IsIdle, ArePlaces};
 ghost use Rattle.flow_pair.specs.ShortNetwork.{inner_nodes, arcs_to_each, arcs_from_each, source_arcs, sink_arcs};
 ghost use Rattle.flow_pair.specs.ShortNetwork.{inner_arcs, outer_count, inner_count, short_arcs, short_count};
-ghost use Rattle.flow_pair.specs.ShortNetwork.{fixed_price, fixed_cost, short_network};
+ghost use Rattle.flow_pair.specs.ShortNetwork.{inside_nets, fixed_price, fixed_cost, short_network};
 ghost use Rattle.flow_pair.specs.Sides.{touching_nets};
 
-use crate::network::{bare_network, nets_of_pair};
+use crate::network::{bare_network, nets_of_region};
 use crate::pair::Pair;
+use crate::region::without;
 use flow_net::{Network, NoMemory};
 use incidence::Hypergraph;
 use pin_plain::Partition;
@@ -221,7 +223,7 @@ fn add_short(
     Ok(0)
 }
 
-/// Adds some nets. Answers what they pay whatever the region does.
+/// Adds the nets with a pin in the region. Answers what they pay whatever the region does.
 fn add_all_short(
     alloc: Global,
     pair: Pair<'_>,
@@ -229,15 +231,14 @@ fn add_all_short(
     nets: &[u32],
 ) -> Result<u64, NoMemory>
     requires nets { All (λ e. e < net_count pair.h.now) nets.now }
-    requires joined { map (net_of pair.h.now) nets.now ≡ joined_nets pair.h.now pair.blocks.now pair.first pair.second
-        pair.region.now }
+    requires inside { map (net_of pair.h.now) nets.now ≡ inside_nets pair.h.now pair.region.now }
     requires nodes { network.old.nodes ≡ 2 + length pair.region.now }
     requires arcs { network.old.arcs ≡ [] }
     requires flows { network.old.flows ≡ [] }
     ensures network { OnOk result (network.new ≡ short_network pair.entry.h.now pair.entry.blocks.now pair.entry.first
         pair.entry.second pair.entry.region.now) }
-    ensures fixed { IfOk result (λ fixed. fixed ≡ fixed_cost pair.entry.h.now pair.entry.blocks.now pair.entry.first
-        pair.entry.second pair.entry.region.now) }
+    ensures fixed { IfOk result (λ fixed. fixed ≡ total (fixed_price pair.entry.h.now pair.entry.blocks.now
+        pair.entry.first pair.entry.second pair.entry.region.now) (inside_nets pair.entry.h.now pair.entry.region.now)) }
 {
     let _nets = pair.h.nets();
     let mut nodes = Vec::new(alloc);
@@ -246,6 +247,21 @@ fn add_all_short(
         fixed += add_short(pair, network, &mut nodes, *e)?;
     }
     Ok(fixed)
+}
+
+/// What some nets pay that touch both blocks.
+fn price_of(pair: Pair<'_>, nets: &[u32]) -> u64
+    requires nets { All (λ e. e < net_count pair.h.now) nets.now }
+    requires bounded { total (λ e. net_price pair.h.now pair.blocks.now pair.first pair.second (net_of pair.h.now e))
+        nets.now ≤ 2 ^ 56 }
+    ensures { result ≡ total (λ e. net_price pair.entry.h.now pair.entry.blocks.now pair.entry.first pair.entry.second
+        (net_of pair.entry.h.now e)) nets.entry.now }
+{
+    let mut price = 0;
+    for e in nets {
+        price += pair.net_price(*e);
+    }
+    price
 }
 
 /// The short network of a region of two blocks, given the places of its vertices and the nets that touch both.
@@ -282,8 +298,10 @@ pub(crate) fn build_short(
         places,
         most,
     };
-    let nets = nets_of_pair(alloc, spots, pair, touching)?;
+    let nets = nets_of_region(alloc, spots, pair)?;
+    let others = without(alloc, touching, nets.as_slice())?;
     let mut network = bare_network(alloc, pair)?;
-    let fixed = add_all_short(alloc, pair, &mut network, nets.as_slice())?;
+    let inside = add_all_short(alloc, pair, &mut network, nets.as_slice())?;
+    let fixed = inside + price_of(pair, others.as_slice());
     Ok(ShortNetwork { network, fixed })
 }

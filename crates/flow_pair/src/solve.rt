@@ -5,13 +5,15 @@ ghost use Rattle.std.specs.Prelude.{if◌then◌else◌, IfOk, IfSome, IsNone};
 ghost use Rattle.hg_defs.specs.Partition.{Fits};
 ghost use Rattle.flow_net.specs.Flow.{is_in};
 ghost use Rattle.round_log.specs.Rounds.{touching};
+ghost use Rattle.flow_pair.specs.CutNets.{AreCutLists};
 ghost use Rattle.flow_pair.specs.PairEnds.{IsPairEnd};
 ghost use Rattle.flow_pair.specs.PairNetwork.{unbounded};
-ghost use Rattle.flow_pair.specs.Sides.{touching_nets};
+ghost use Rattle.flow_pair.specs.Sides.{touching_nets, WeighsAtLeast};
 
 use crate::cut::touching_nets_of;
+use crate::cut_nets::CutNets;
 use crate::pair::{more_than_all, place_region};
-use crate::region::form_region;
+use crate::region::{form_region, least_weight};
 use crate::short::build_short;
 use flow_net::{NoMemory, Workspace};
 use hg_base::{Blocks, Verts};
@@ -58,6 +60,7 @@ fn solve_region(
     b: u32,
     nets: &[u32],
     most: u64,
+    least: u64,
 ) -> Result<PairEnd, NoMemory>
     requires belongs { p.now.hyper ≡ h.now }
     requires fits { Fits p.now.hyper p.now.k p.now.limit p.now.blocks }
@@ -66,13 +69,14 @@ fn solve_region(
     requires nets { nets.now ≡ touching_nets h.now p.now.blocks a b }
     requires most { most ≡ unbounded h.now }
     requires bounded { most ≤ 2 ^ 56 }
+    requires least { WeighsAtLeast h.now least }
     ensures { IfOk result (IsPairEnd h.now p.now.k p.now.limit p.now.blocks a b) }
 {
     let _blocks = p.blocks();
     let most_spots = h.vertices().max(h.nets()) as usize;
     spots.resize(most_spots, 0)?;
     let spots = spots.as_mut_slice();
-    let region = form_region(alloc, spots, h, p, a, b, nets)?;
+    let region = form_region(alloc, spots, h, p, a, b, nets, least)?;
     place_region(h, region.slice(), places)?;
     let places = places.as_slice();
     let mut short = build_short(alloc, spots, h, p, a, b, region.slice(), places, nets, most)?;
@@ -98,18 +102,21 @@ pub struct PairSolver {
     spots: Vec<usize>,
     /// More than all nets can pay.
     most: u64,
+    /// The least weight of a vertex.
+    least: u64,
 }
 
 impl Model for PairSolver {
     ghost use Rattle.std.specs.Prelude.{◌≡◌, ◌≤◌, ◌^◌};
     ghost use Rattle.hg_defs.specs.Hypergraph.{Hyper};
     ghost use Rattle.flow_pair.specs.PairNetwork.{unbounded};
+    ghost use Rattle.flow_pair.specs.Sides.{WeighsAtLeast};
 
     ghost Value = { Hyper };
 
     ghost view = { λ s. s.hyper.value };
 
-    ghost invariant = { λ s. (s.most ≡ unbounded s.hyper.value) × (s.most ≤ 2 ^ 56) };
+    ghost invariant = { λ s. (s.most ≡ unbounded s.hyper.value) × (s.most ≤ 2 ^ 56) × WeighsAtLeast s.hyper.value s.least };
 }
 
 impl PairSolver {
@@ -124,7 +131,30 @@ impl PairSolver {
             places: Vec::new(alloc),
             spots: Vec::new(alloc),
             most: more_than_all(h),
+            least: least_weight(h),
         }
+    }
+
+    /// The nets that touch both blocks of a pair, in rising order, looked for among the cut nets.
+    pub fn nets_between(
+        &mut self,
+        h: &Hypergraph,
+        p: &Partition,
+        cut: &CutNets,
+        a: u32,
+        b: u32,
+    ) -> Result<Vec<u32>, NoMemory>
+        requires hyper { self.old ≡ h.now }
+        requires belongs { p.now.hyper ≡ h.now }
+        requires cut { AreCutLists h.now p.now.k p.now.blocks cut.now }
+        requires order { a < b }
+        requires second { b < p.now.k }
+        ensures hyper { self.new ≡ self.old }
+        ensures nets { IfOk result (λ nets. nets.items ≡ touching_nets h.now p.now.blocks a b) }
+    {
+        let most_spots = h.vertices().max(h.nets()) as usize;
+        self.spots.resize(most_spots, 0)?;
+        cut.between(self.alloc, self.spots.as_mut_slice(), h, p, a, b)
     }
 
     /// The cheapest assignment of the region of a pair of blocks to the two, found by a maximum flow,
@@ -161,6 +191,7 @@ impl PairSolver {
             b,
             nets,
             self.most,
+            self.least,
         )?;
         Ok(Some(end))
     }

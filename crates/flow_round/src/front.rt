@@ -26,7 +26,7 @@ pub(crate) struct Front {
 
 impl Front {
     /// Finds the end of a pair, where no worker found it: no net touches both blocks then.
-    fn find(&mut self, alloc: Global, h: &Hypergraph, a: u32, b: u32) -> Result<(), NoMemory>
+    fn find(&mut self, h: &Hypergraph, a: u32, b: u32) -> Result<(), NoMemory>
         requires front { IsFront h.now self.old }
         requires below { IsPairBelow self.old.part.k (a, b) }
         requires end { MayHaveEnd h.now self.old.part self.old.ends.items (a, b) }
@@ -41,7 +41,7 @@ impl Front {
         if end_of(self.ends.as_slice(), place).is_some() {
             return Ok(());
         }
-        let nets = self.cut.between(alloc, h, &self.part, a, b)?;
+        let nets = self.solver.nets_between(h, &self.part, &self.cut, a, b)?;
         let end = self.solver.solve(h, &self.part, a, b, nets.as_slice())?;
         put_end(self.ends.as_mut_slice(), place, end);
         Ok(())
@@ -89,7 +89,7 @@ impl Front {
         for a in 0..k {
             let _blocks = self.part.blocks();
             if let Some(b) = partner_of(k, wave, a) {
-                self.find(alloc, h, a, b)?;
+                self.find(h, a, b)?;
                 self.apply(alloc, h, a, b)?;
             }
         }
@@ -124,6 +124,7 @@ impl Front {
                 h,
                 &self.part,
                 &self.cut,
+                &mut self.solver,
                 wave,
                 workers,
                 self.ends.as_mut_slice(),

@@ -67,9 +67,12 @@ fn tasks_of(
     p: &Partition,
     wave: u32,
     cut: &CutNets,
+    solver: &mut PairSolver,
 ) -> Result<Vec<Task>, NoMemory>
     requires belongs { p.now.hyper ≡ h.now }
     requires cut { AreCutLists h.now p.now.k p.now.blocks cut.now }
+    requires solver { solver.old ≡ h.now }
+    ensures solver { solver.new ≡ solver.old }
     ensures tasks { IfOk result (λ tasks. All (IsTask h.now p.now) tasks.items) }
     ensures wave { IfOk result (λ tasks. AreTasksOf wave tasks.items) }
     ensures few { IfOk result (λ tasks. length tasks.items ≤ p.now.k) }
@@ -80,7 +83,7 @@ fn tasks_of(
         let Some(second) = partner_of(k, wave, first) else {
             continue;
         };
-        let nets = cut.between(alloc, h, p, first, second)?;
+        let nets = solver.nets_between(h, p, cut, first, second)?;
         if !nets.is_empty() {
             tasks.push(Task {
                 first,
@@ -247,6 +250,7 @@ pub(crate) fn solve_wave<R: Threads + Sync, G: Gate>(
     h: &Hypergraph,
     p: &Partition,
     cut: &CutNets,
+    solver: &mut PairSolver,
     wave: u32,
     workers: &mut [Worker],
     ends: &mut [Option<PairEnd>],
@@ -254,14 +258,16 @@ pub(crate) fn solve_wave<R: Threads + Sync, G: Gate>(
     requires belongs { p.now.hyper ≡ h.now }
     requires fits { Fits p.now.hyper p.now.k p.now.limit p.now.blocks }
     requires cut { AreCutLists h.now p.now.k p.now.blocks cut.now }
+    requires solver { solver.old ≡ h.now }
     requires some { 0 < length workers.old }
     requires few { length workers.old ≤ 64 }
     requires workers { AreWorkers h.now workers.old }
     requires table { length ends.old ≡ p.now.k * p.now.k }
+    ensures solver { solver.new ≡ solver.old }
     ensures workers { AreWorkers h.now workers.new }
     ensures ends { OnOk result (GainsEnds h.now p.now wave ends.old ends.new) }
 {
-    let made = tasks_of(alloc, h, p, wave, cut)?;
+    let made = tasks_of(alloc, h, p, wave, cut, solver)?;
     let tasks = made.as_slice();
     if tasks.is_empty() {
         return Ok(());

@@ -3,16 +3,15 @@ use Rattle.std.proofs.lemmas.List.{length-append}
 use Rattle.hg_defs.specs.Hypergraph.{net_of}
 use Rattle.hg_defs.specs.Sums.{total}
 use Rattle.hg_defs.proofs.SumLaws.{total-take_more, total_more-le}
-use Rattle.flow_pair.specs.PairNetwork.{joins}
 use Rattle.flow_pair.specs.ShortNetwork.{short_arcs, short_count, fixed_price}
 use Rattle.flow_pair.proofs.NetLaws.{joined_few}
-use Rattle.flow_pair.proofs.ShortArcLaws.{short-rest, short-few, short_count-few, short-made, sum-rest, sum-part, sum-all, fixed-small}
+use Rattle.flow_pair.proofs.ShortArcLaws.{short-rest, short-few, short_count-few, short-made, sum-rest, sum-part, sum-all, inner, inside-small}
 use Rattle.flow_pair.proofs.short.add_all_short.Goals as goal
 
 pub add_short-requires-clause-few : goal.add_short-requires-clause-few
 add_short-requires-clause-few c =
     let s = c.args.pair in
-    let few = joined_few s.h.now (joins s.blocks.now s.first s.second s.region.now) c.args.nets.now c.requires.joined in
+    let few = joined_few s.h.now (inner s.h.now s.blocks.now s.first s.second s.region.now) c.args.nets.now c.requires.inside in
     let high = c.loop-e.invariant.high in
     let test = c.loop-e-test.true in
     let small = s.small in
@@ -26,7 +25,7 @@ add_short-requires-clause-room c =
     let bounds = c.nets-nets.ensures.bounds in
     let nets = bounds.nets in
     let pins = bounds.pins in
-    let all = joined_few h (joins s.blocks.now s.first s.second s.region.now) c.args.nets.now c.requires.joined in
+    let all = joined_few h (inner h s.blocks.now s.first s.second s.region.now) c.args.nets.now c.requires.inside in
     let more = total_more-le (λ e. length (net_of h e).pins) c.args.nets.now c.loop-e.e-index 0 c.loop-e-test.true in
     let few = c.loop-e.invariant.few in
     let test = c.loop-e-test.true in
@@ -40,7 +39,8 @@ overflow_add-fixed c =
     let price = fixed_price h s.blocks.now s.first s.second s.region.now in
     let part = sum-part h s.blocks.now s.first s.second s.region.now price nets c.loop-e.e-index c.loop-e.fixed (total price (map (net_of h) nets))
     c.loop-e-test.true c.loop-e.invariant.fixed in
-    let small = fixed-small h s.blocks.now s.first s.second s.region.now nets c.requires.joined in
+    let small = inside-small h s.blocks.now s.first s.second s.region.now in
+    let same = ap (total price) c.requires.inside in
     let most = s.above in
     let bound = s.bounded in
     let here = c.in_ok-fixed.ensures.fixed in
@@ -81,7 +81,7 @@ pub returns-clause-network : goal.returns-clause-network
 returns-clause-network c =
     let s = c.args.pair in
     let i = c.loop-e.invariant in
-    short-made s.h.now s.blocks.now s.first s.second s.region.now c.loop-e.network c.args.nets.now c.loop-e.e-index c.loop-e-test.false c.requires.joined
+    short-made s.h.now s.blocks.now s.first s.second s.region.now c.loop-e.network c.args.nets.now c.loop-e.e-index c.loop-e-test.false c.requires.inside
     i.nodes i.arcs i.idle
 
 pub returns-clause-fixed : goal.returns-clause-fixed
@@ -89,4 +89,4 @@ returns-clause-fixed c =
     let s = c.args.pair in
     let price = fixed_price s.h.now s.blocks.now s.first s.second s.region.now in
     sum-all s.h.now s.blocks.now s.first s.second s.region.now price c.args.nets.now c.loop-e.e-index c.loop-e.fixed _ c.loop-e-test.false
-    c.loop-e.invariant.fixed ∙ ap (total price) c.requires.joined
+    c.loop-e.invariant.fixed ∙ ap (total price) c.requires.inside

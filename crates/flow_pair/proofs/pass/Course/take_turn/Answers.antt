@@ -75,7 +75,7 @@ returns-clause-course c =
           (subst (AreCutLists h p.k c.record_round.new.p.blocks) (sym c.in_ok-add_nets_of.ensures)
           (lists_after h p.k p.blocks c.record_round.new.p.blocks c.args.a c.args.b c.slice.result.now c.args.self.now.cut c.requires.course.cut_is
           (omega (arith, order, second)) second (omega (arith, order)) rearranged replayed));
-      solver_is = c.in_ok-found.ensures.hyper ∙ c.requires.course.solver_is;
+      solver_is = c.in_ok-found.ensures.hyper ∙ c.nets_between.ensures.hyper ∙ c.requires.course.solver_is;
     }
 
 pub returns-clause-no_dearer : goal.returns-clause-no_dearer
