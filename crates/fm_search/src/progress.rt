@@ -1,5 +1,6 @@
 //! How far a round has come. It decides when the workers stop, and nothing else.
 
+use crate::shared::Apart;
 use std::sync::atomic::Ordering::SeqCst;
 use std::sync::atomic::{AtomicBool, AtomicI64, AtomicU64};
 
@@ -9,22 +10,26 @@ const MOST_IN_VAIN: u64 = 2500;
 /// What the workers of a round tell each other.
 #[derive(Drop)]
 pub(crate) struct Progress {
+    before: Apart,
     stopped: AtomicBool,
     moves: AtomicU64,
     saved: AtomicI64,
     best: AtomicI64,
     best_moves: AtomicU64,
+    behind: Apart,
 }
 
 impl Progress {
     /// Nothing was moved yet.
     pub(crate) fn new() -> Self {
         Progress {
+            before: [0; 16],
             stopped: AtomicBool::new(false),
             moves: AtomicU64::new(0),
             saved: AtomicI64::new(0),
             best: AtomicI64::new(0),
             best_moves: AtomicU64::new(0),
+            behind: [0; 16],
         }
     }
 

@@ -56,6 +56,7 @@ fn workers_of(
         workers.push(Worker {
             mover: Mover::of(pass),
             desk,
+            apart: [0; 16],
         })?;
     }
     Ok(workers)
@@ -77,7 +78,11 @@ fn passes_of(
 {
     let mut passes = Vec::with_capacity(alloc, workers.len())?;
     'workers: for worker in workers {
-        let Worker { mover, desk } = worker;
+        let Worker {
+            mover,
+            desk,
+            apart: _,
+        } = worker;
         passes.push(mover.into_pass())?;
         desks.push(desk)?;
     }
@@ -139,6 +144,7 @@ pub(crate) fn race<H: Threads + Sync, G: Gate>(
         h,
         k,
         limit,
+        others: task.workers > 1,
         seeds: seeds.as_slice(),
         first,
         progress: &progress,

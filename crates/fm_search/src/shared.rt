@@ -7,14 +7,18 @@ use crate::progress::Progress;
 use incidence::Hypergraph;
 use move_table::Round;
 
-/// The round, its hypergraph, its number of blocks and its limit, the seeds with the place of the first one
-/// that is drawn, and how far the round has come.
+/// Room between what one worker writes and what others read, so that no line of the cache holds both.
+pub(crate) type Apart = [u64; 16];
+
+/// The round, its hypergraph, its number of blocks and its limit, whether there are several workers, the seeds with
+/// the place of the first one that is drawn, and how far the round has come.
 #[derive(Drop)]
 pub(crate) struct Shared<'a> {
     pub(crate) round: &'a Round<'a>,
     pub(crate) h: &'a Hypergraph,
     pub(crate) k: u32,
     pub(crate) limit: u64,
+    pub(crate) others: bool,
     pub(crate) seeds: &'a [u32],
     pub(crate) first: u32,
     pub(crate) progress: &'a Progress,

@@ -9,7 +9,7 @@ use crate::change::Change;
 use crate::desk::Desk;
 use crate::mover::{Mover, Outcome};
 use crate::reading::{Choice, scored};
-use crate::shared::Shared;
+use crate::shared::{Apart, Shared};
 use crate::streak::Streak;
 use crew::Gate;
 use gain_heap::Offer;
@@ -23,10 +23,12 @@ const MOST_PINS: usize = 1000;
 pub(crate) struct Worker {
     pub(crate) mover: Mover,
     pub(crate) desk: Desk,
+    pub(crate) apart: Apart,
 }
 
 impl Worker {
-    /// Reads the gains of a vertex anew, and tells where it gains most.
+    /// Reads the gains of a vertex anew, and tells where it gains most. One that another worker has moved by now
+    /// isn't read: it stands in another block than at the opening.
     fn look(&mut self, shared: &Shared<'_>, v: u32, block: u32) -> Result<Option<Choice>, NoMemory>
         requires fit { IsFit shared.now.round.now shared.now.h.now shared.now.k self.old.mover self.old.desk }
         requires vertex { v < vertex_count shared.now.h.now }
@@ -36,6 +38,10 @@ impl Worker {
         ensures block { IfOk result (λ choice. IfSome choice (λ c. c.to < shared.now.k)) }
         ensures other { IfOk result (λ choice. IfSome choice (λ c. c.to ≢ block)) }
     {
+        if shared.others && self.mover.block(shared.round, v) != block {
+            self.desk.leave(v);
+            return Ok(None);
+        }
         Ok(if self.desk.read(shared, &mut self.mover, v, block)? {
             self.desk.choose(shared, &mut self.mover, v, block)
         } else {
