@@ -464,16 +464,29 @@ fn has_left_one(closed: &Closed, moved: bool) -> bool {
         && closed.gains() == [-5, 0].as_slice()
 }
 
+/// Moves vertex 0 where there is room for its move, closes, and says whether it moved.
+fn try_memory(
+    rt: &impl Abort,
+    alloc: Global,
+    h: &Hypergraph,
+    p: Partition,
+) -> Result<(Closed, bool), Fail>
+    requires belongs { p.hyper ≡ h.now }
+    requires fits { Fits p.hyper p.k p.limit p.blocks }
+{
+    let (round, mut first, second) = opened(rt, alloc, h, p)?;
+    let grant = take(rt, &round, &mut first, 0, 1, 0)?;
+    let moved = end_grant(&round, &mut first, grant, true);
+    Ok((closed(alloc, round, first, second)?, moved))
+}
+
 /// With ample memory the move is made and the first close answers. Where room for the move is
 /// refused nothing has moved, and where a close is refused the next one leaves the same.
 #[test]
 fn refused_memory(rt: HostRuntime) -> Result<(), Fail> {
     let h = one_net(rt.alloc(), Objective::Connectivity)?;
     let p = parted(&rt, rt.alloc(), &h, 2, 2, vec![in rt.alloc(); 0u32; 2]?)?;
-    let (round, mut first, second) = opened(&rt, rt.alloc(), &h, p)?;
-    let grant = take(&rt, &round, &mut first, 0, 1, 0)?;
-    let moved = end_grant(&round, &mut first, grant, true);
-    let closed = closed(rt.alloc(), round, first, second)?;
+    let (closed, moved) = try_memory(&rt, rt.alloc(), &h, p)?;
     assert!(rt; has_left_one(&closed, moved));
     Ok(())
 }
