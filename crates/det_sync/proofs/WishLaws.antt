@@ -1,12 +1,12 @@
 -- Laws of wishes: part by part, and in their order.
-use Rattle.std.proofs.Common.{◌≡◌, ℕ, zero, suc, ◌+◌, ◌-◌, ◌*◌, ◌<◌, ◌≤◌, ◌⊎◌, inl, inr, List, [], ◌∷◌, ◌++◌}
-use Rattle.std.proofs.Common.{map, filter, cond, take, drop, All, IsPermutation, min}
+use Rattle.std.proofs.Common.{◌≡◌, ℕ, zero, suc, ◌+◌, ◌-◌, ◌<◌, ◌≤◌, ◌⊎◌, inl, inr, List, [], ◌∷◌, ◌++◌}
+use Rattle.std.proofs.Common.{map, filter, cond, take, drop, All, IsPermutation}
 use Rattle.std.proofs.Common.{Option, Some, None, option_map, option_to_list, is_some, get_or, length}
 use Rattle.std.proofs.Common.{IsSorted, Ordering, Less, Equal, Greater, is_lt, nat_cmp, false, refl, sym, ap, ap₂, ◌∙◌, subst, arith}
 use Rattle.std.specs.List.{range_with_len}
 use Rattle.std.specs.Ordering.{ordering_then}
 use Rattle.std.proofs.lemmas.Bool.{cases_lt}
-use Rattle.std.proofs.lemmas.List.{append_assoc, append-nil, length-map, get_or-map, take_all, take-append-le}
+use Rattle.std.proofs.lemmas.List.{append_assoc, length-map, get_or-map, take_all, take-append-le, length_push, get_or_append_left, get_or_push}
 use Rattle.std.proofs.lemmas.List.Elements.{All-nil, All-cons}
 use Rattle.std.proofs.lemmas.List.Sorted.{All-permutation, IsPermutation-map}
 use Rattle.hg_defs.specs.Sorting.{sorted}
@@ -16,7 +16,7 @@ use Rattle.hg_defs.specs.Moves.{best_block}
 use Rattle.hg_defs.specs.Synchronous.{wish, saving}
 use Rattle.hg_defs.proofs.SortLaws.{sort_is, heavier_first_total, heavier_first_exact}
 use Rattle.pin_plain.specs.BestMoves.{ranked, best_moves}
-use Rattle.det_sync.specs.Wishes.{Wish, AreWishes}
+use Rattle.det_sync.specs.Wishes.{Wish, AreWishes, AreCuts, part_at}
 
 -- ---- parts
 
@@ -37,47 +37,92 @@ module _ (h : Hyper) (k l : ℕ) (p : List ℕ) where
       ∙ sym (append_assoc (option_to_list (option_map (ranked h p u) (best_block h l p u k))) (best_moves h k l p us) (best_moves h k l p vs))
 
   -- the wishes of the parts so far, and those of one more
-  pub parts_more : (n size i : ℕ) (old part : List Wish) → old ≡ best_moves h k l p (range_with_len 0 (min (i * size) n))
-      → part ≡ best_moves h k l p (range_with_len (i * size) (min size (n - i * size)))
-      → old ++ part ≡ best_moves h k l p (range_with_len 0 (min ((i + 1) * size) n))
-  parts_more n size i old part is next = by (cases_lt n (i * size))
+  pub parts_more : (cuts : List ℕ) (n i : ℕ) (old part : List Wish) → AreCuts n cuts → i + 1 < length cuts
+      → old ≡ best_moves h k l p (range_with_len 0 (get_or cuts i 0)) → part ≡ best_moves h k l p (part_at cuts i)
+      → old ++ part ≡ best_moves h k l p (range_with_len 0 (get_or cuts (i + 1) 0))
+  parts_more cuts n i old part are low is next =
+      joined (get_or cuts i 0) (get_or cuts (i + 1) 0) (are.rising i low) is next
     where
-      by : (n < i * size) ⊎ (i * size ≤ n) → old ++ part ≡ best_moves h k l p (range_with_len 0 (min ((i + 1) * size) n))
-      by (inl past) =
-          let product : (i + 1) * size ≡ i * size + size = omega arith in
-          let none : min size (n - i * size) ≡ 0 = nothing (i * size) past in
-          let same : min (i * size) n ≡ min ((i + 1) * size) n = whole (i * size) ((i + 1) * size) past (omega arith) in
-          ap (λ xs. old ++ xs) (next ∙ ap (λ m. best_moves h k l p (range_with_len (i * size) m)) none)
-          ∙ append-nil old
-          ∙ is
-          ∙ ap (λ m. best_moves h k l p (range_with_len 0 m)) same
-        where
-          nothing : (a : ℕ) → n < a → min size (n - a) ≡ 0
-          nothing a past = omega arith
-
-          whole : (a b : ℕ) → n < a → a ≤ b → min a n ≡ min b n
-          whole a b past low = omega arith
-      by (inr low) =
-          let product : (i + 1) * size ≡ i * size + size = omega arith in
-          let here : min (i * size) n ≡ i * size = inside (i * size) low in
-          let start : 0 + i * size ≡ i * size = omega arith in
-          let all : i * size + min size (n - i * size) ≡ min ((i + 1) * size) n = reach (i * size) ((i + 1) * size) product low in
-          ap (λ xs. xs ++ part) (is ∙ ap (λ m. best_moves h k l p (range_with_len 0 m)) here)
-          ∙ ap (λ xs. best_moves h k l p (range_with_len 0 (i * size)) ++ xs)
-          (next ∙ ap (λ a. best_moves h k l p (range_with_len a (min size (n - i * size)))) (sym start))
-          ∙ sym (best_moves-append (range_with_len 0 (i * size)) (range_with_len (0 + i * size) (min size (n - i * size))))
-          ∙ ap (best_moves h k l p) (sym (range_append 0 (i * size) (min size (n - i * size))))
+      joined : (a b : ℕ) → a ≤ b → old ≡ best_moves h k l p (range_with_len 0 a) → part ≡ best_moves h k l p (range_with_len a (b - a))
+          → old ++ part ≡ best_moves h k l p (range_with_len 0 b)
+      joined a b low is next =
+          let start : 0 + a ≡ a = omega arith in
+          let all : a + (b - a) ≡ b = omega arith in
+          ap (λ xs. xs ++ part) is
+          ∙ ap (λ xs. best_moves h k l p (range_with_len 0 a) ++ xs)
+          (next ∙ ap (λ c. best_moves h k l p (range_with_len c (b - a))) (sym start))
+          ∙ sym (best_moves-append (range_with_len 0 a) (range_with_len (0 + a) (b - a)))
+          ∙ ap (best_moves h k l p) (sym (range_append 0 a (b - a)))
           ∙ ap (λ m. best_moves h k l p (range_with_len 0 m)) all
-        where
-          inside : (a : ℕ) → a ≤ n → min a n ≡ a
-          inside a low = omega arith
 
-          reach : (a b : ℕ) → b ≡ a + size → a ≤ n → a + min size (n - a) ≡ min b n
-          reach a b e low = omega arith
+-- ---- cuts
 
-  pub parts_all : (n size i : ℕ) (all : List Wish) → n ≤ i * size → all ≡ best_moves h k l p (range_with_len 0 (min (i * size) n))
-      → all ≡ best_moves h k l p (range_with_len 0 n)
-  parts_all n size i all high is = let e : min (i * size) n ≡ n = omega arith in is ∙ ap (λ m. best_moves h k l p (range_with_len 0 m)) e
+-- the cuts so far, none of which is behind v
+pub record IsCutting (v : ℕ) (cuts : List ℕ) : Type 0 where
+  pub some : 0 < length cuts
+  pub first : get_or cuts 0 0 ≡ 0
+  pub rising : (j : ℕ) → j + 1 < length cuts → get_or cuts j 0 ≤ get_or cuts (j + 1) 0
+  pub within : (j : ℕ) → j < length cuts → get_or cuts j 0 ≤ v
+
+pub cutting_first : (cuts : List ℕ) → cuts ≡ 0 ∷ [] → IsCutting 0 cuts
+cutting_first cuts e = subst (IsCutting 0) (sym e) (record {
+  some = omega arith;
+  first = refl;
+  rising = λ j low. absurd (omega arith);
+  within = below;
+})
+  where
+    below : (j : ℕ) → j < 1 → get_or (0 ∷ []) j 0 ≤ 0
+    below zero low = omega arith
+    below (suc j) low = absurd (omega arith)
+
+pub cutting_later : (v w : ℕ) (cuts : List ℕ) → v ≤ w → IsCutting v cuts → IsCutting w cuts
+cutting_later v w cuts low c = record {
+  some = c.some;
+  first = c.first;
+  rising = c.rising;
+  within = λ j inside. let m = c.within j inside in omega arith;
+}
+
+pub cutting_more : (v w : ℕ) (cuts : List ℕ) → v ≤ w → IsCutting v cuts → IsCutting w (cuts ++ w ∷ [])
+cutting_more v w cuts low c = record {
+  some = let n = long in omega arith;
+  first = before 0 c.some ∙ c.first;
+  rising = λ j inside. rises j inside (cases_lt (j + 1) (length cuts));
+  within = λ j inside. ends j inside (cases_lt j (length cuts));
+}
+  where
+    long : length (cuts ++ w ∷ []) ≡ length cuts + 1
+    long = length_push cuts w
+
+    before : (j : ℕ) → j < length cuts → get_or (cuts ++ w ∷ []) j 0 ≡ get_or cuts j 0
+    before j inside = get_or_append_left cuts (w ∷ []) 0 j inside
+
+    pushed : (j : ℕ) → j ≡ length cuts → get_or (cuts ++ w ∷ []) j 0 ≡ w
+    pushed j e = get_or_push cuts w 0 j (sym e)
+
+    rises : (j : ℕ) → j + 1 < length (cuts ++ w ∷ []) → (j + 1 < length cuts) ⊎ (length cuts ≤ j + 1) →
+        get_or (cuts ++ w ∷ []) j 0 ≤ get_or (cuts ++ w ∷ []) (j + 1) 0
+    rises j inside (inl left) =
+        let a = before j (omega arith) in let b = before (j + 1) left in let m = c.rising j left in omega arith
+    rises j inside (inr end) =
+        let n = long in
+        let a = before j (omega arith) in let b = pushed (j + 1) (omega arith) in let m = c.within j (omega arith) in omega arith
+
+    ends : (j : ℕ) → j < length (cuts ++ w ∷ []) → (j < length cuts) ⊎ (length cuts ≤ j) → get_or (cuts ++ w ∷ []) j 0 ≤ w
+    ends j inside (inl left) = let a = before j left in let m = c.within j left in omega arith
+    ends j inside (inr end) = let n = long in let b = pushed j (omega arith) in omega arith
+
+pub cuts_end : (v n : ℕ) (cuts : List ℕ) → v ≤ n → IsCutting v cuts → AreCuts n (cuts ++ n ∷ [])
+cuts_end v n cuts low c =
+    let more = cutting_more v n cuts low c in
+    record {
+      some = more.some;
+      first = more.first;
+      rising = more.rising;
+      within = more.within;
+      last = get_or_push cuts n 0 (length (cuts ++ n ∷ []) - 1) (let long = length_push cuts n in omega arith);
+    }
 
 -- ---- the order
 

@@ -1,71 +1,78 @@
 //! The wishes of all vertices in one partition.
 
-ghost use Rattle.std.specs.Prelude.{◌≡◌, ℕ, ◌-◌, ◌*◌, ◌<◌, ◌≤◌, min, IfOk, slice_index_or, vec_len};
-ghost use Rattle.std.specs.List.{range_with_len};
+ghost use Rattle.std.specs.Prelude.{◌≡◌, ℕ, ◌+◌, ◌<◌, ◌≤◌, IfOk, length, slice_index_or, vec_len};
 ghost use Rattle.hg_defs.specs.Hypergraph.{vertex_count, vertices};
 ghost use Rattle.pin_plain.specs.BestMoves.{best_moves};
-ghost use Rattle.det_sync.specs.Wishes.{AreWishes};
+ghost use Rattle.det_sync.specs.Wishes.{AreWishes, AreCuts, part_at};
 
 use hg_base::NoMemory;
 use incidence::Hypergraph;
 use pin_plain::{BestMove, Partition};
 use rayon::prelude::*;
-use std::alloc::Global;
+use std::alloc::{AllocError, Global};
 use std::thread::Threads;
 
 /// The wishes of some of the vertices, or no memory to tell them.
 type PartWishes = Result<Vec<BestMove>, NoMemory>;
 
-/// A part has as many vertices as are on so many nets, at least: to start a thread costs as much as to
-/// look at them.
+/// A part has vertices on so many nets at least, but for the last one: to start a thread costs as much
+/// as to look at them.
 const LEAST_NETS: usize = 1024;
 
-/// How many vertices a part has at least, but for the last one. On coarse levels, where many nets run
-/// over few vertices, they are fewer than elsewhere.
-fn least_vertices(h: &Hypergraph) -> usize
-    ensures { 0 < result }
-{
-    let (vertices, nets) = (h.vertices() as usize, h.nets() as usize);
-    (LEAST_NETS * vertices / nets.max(1)).max(1)
+/// On how many nets the vertices are, each counted for each of its vertices.
+fn pin_count(h: &Hypergraph) -> usize {
+    let mut pins = 0usize;
+    for v in 0..h.vertices() {
+        pins = pins.saturating_add(h.nets_of(v).len());
+    }
+    pins
 }
 
-/// The wishes of part `j` of the vertices, which are cut into parts of a size.
-fn wishes_at(alloc: Global, h: &Hypergraph, p: &Partition, size: usize, j: usize) -> PartWishes
-    requires belongs { p.now.hyper ≡ h.now }
-    requires part { j * size ≤ vertex_count h.now }
-    ensures { IfOk result (λ wishes. wishes.items ≡ best_moves h.now p.now.k p.now.limit p.now.blocks
-        (range_with_len (j * size) (min size (vertex_count h.now - j * size)))) }
+/// Where the vertices are cut into parts, from 0 to their number: into one part for each worker, whose
+/// vertices are on about as many nets as those of another one.
+fn cuts_of(alloc: Global, h: &Hypergraph, workers: u32) -> Result<Vec<u32>, AllocError>
+    requires { 1 ≤ workers }
+    ensures { IfOk result (λ cuts. AreCuts (vertex_count h.now) cuts.items) }
 {
-    let vertices = h.vertices() as usize;
-    let from = j * size;
-    let to = from + size.min(vertices - from);
-    p.best_moves(alloc, h, from as u32, to as u32)
+    let share = pin_count(h).div_ceil(workers as usize).max(LEAST_NETS);
+    let mut cuts = Vec::new(alloc);
+    cuts.push(0)?;
+    let mut pins = 0usize;
+    for v in 0..h.vertices() {
+        if pins >= share {
+            cuts.push(v)?;
+            pins = 0;
+        }
+        pins = pins.saturating_add(h.nets_of(v).len());
+    }
+    cuts.push(h.vertices())?;
+    Ok(cuts)
 }
 
-/// The wishes of each part of the vertices, which are cut into parts of a size.
+/// The wishes of each part of the vertices.
 fn wishes_by_part<R: Threads + Sync>(
     rt: &R,
     alloc: Global,
     h: &Hypergraph,
     p: &Partition,
-    size: usize,
+    cuts: &[u32],
 ) -> Result<Vec<PartWishes>, NoMemory>
     requires belongs { p.now.hyper ≡ h.now }
-    requires size { 0 < size }
-    ensures whole { IfOk result (λ parts. vertex_count h.now ≤ vec_len parts * size) }
+    requires cuts { AreCuts (vertex_count h.now) cuts.now }
+    ensures whole { IfOk result (λ parts. vec_len parts + 1 ≡ length cuts.now) }
     ensures parts { IfOk result (λ parts. (j : ℕ) (d : _) → j < vec_len parts
         → IfOk (slice_index_or parts.items j d) (λ wishes. wishes.items ≡ best_moves h.now p.now.k p.now.limit
-        p.now.blocks (range_with_len (j * size) (min size (vertex_count h.now - j * size))))) }
+        p.now.blocks (part_at cuts.now j))) }
 {
-    let parts = (h.vertices() as usize).div_ceil(size);
+    let parts = cuts.len() - 1;
     let wishes = (0..parts)
         .into_par_iter()
         .map(
             move |j: usize| -> PartWishes
-                requires { (j * size < vertex_count h.now) × (p.now.hyper ≡ h.now) }
+                requires { (j + 1 < length cuts.now) × AreCuts (vertex_count h.now) cuts.now × (p.now.hyper ≡ h.now) }
                 ensures { IfOk result (λ wishes. wishes.items ≡ best_moves h.entry.now p.entry.now.k p.entry.now.limit
-                    p.entry.now.blocks (range_with_len (j * size) (min size (vertex_count h.entry.now - j * size)))) }
-            { wishes_at(alloc, h, p, size, j) },
+                    p.entry.now.blocks (part_at cuts.entry.now j)) }
+            { p.best_moves(alloc, h, cuts[j], cuts[j + 1]) },
         )
         .with_min_len(1)
         .collect(rt, alloc)?;
@@ -88,10 +95,8 @@ fn all_wishes<R: Threads + Sync>(
     ensures { IfOk result (λ wishes. wishes.items ≡ best_moves h.now p.now.k p.now.limit p.now.blocks
         (vertices h.now)) }
 {
-    let size = (h.vertices() as usize)
-        .div_ceil(workers as usize)
-        .max(least_vertices(h));
-    let parts = wishes_by_part(rt, alloc, h, p, size)?;
+    let cuts = cuts_of(alloc, h, workers)?;
+    let parts = wishes_by_part(rt, alloc, h, p, cuts.as_slice())?;
     let mut wishes = Vec::new(alloc);
     for part in parts.as_slice() {
         match part {

@@ -1,56 +1,54 @@
-use Rattle.std.proofs.Common.{◌≡◌, ℕ, ◌+◌, ◌<◌, ◌*◌, ◌-◌, ◌∙◌, length, get_or, ap, arith, List, subst, IfOk, vec_len, min}
+use Rattle.std.proofs.Common.{◌≡◌, ℕ, ◌+◌, ◌<◌, ◌-◌, ◌∙◌, length, get_or, ap, arith, List, subst, IfOk}
 use Rattle.std.specs.List.{range_with_len}
 use Rattle.std.proofs.lemmas.List.FromFn.{length-range_with_len, get_or-range_with_len}
 use Rattle.hg_defs.specs.Hypergraph.{vertex_count}
 use Rattle.rayon.specs.Numbers.{nat_range}
 use Rattle.rayon.proofs.ToStd.{nat_range-All}
 use Rattle.pin_plain.specs.BestMoves.{best_moves}
-use Rattle.rollback_prefix.proofs.SavingLaws.{zip_at, zip_long, part_begins, parts_cover}
+use Rattle.rollback_prefix.proofs.SavingLaws.{zip_at, zip_long}
+use Rattle.det_sync.specs.Wishes.{AreCuts, part_at}
 use Rattle.det_sync.proofs.wishes.wishes_by_part.Goals as goal
 
 pub collect-requires-clause-ready : goal.collect-requires-clause-ready
 collect-requires-clause-ready g c κs within =
     let ends = c.into_par_iter.ensures in
+    let some = c.requires.cuts.some in
     let inside = nat_range-All
-    (λ i. (i * c.args.size < vertex_count c.args.h.now) × (c.args.p.now.hyper ≡ c.args.h.now))
-    0 c.div_ceil-parts.result
-    (λ i low high. (
-      (let begins = part_begins c.vertices.result c.args.size i c.div_ceil-parts.result c.requires.size c.div_ceil-parts.ensures high in
-          omega (arith, c.vertices.ensures.count)),
-      c.requires.belongs,
-    )) in
+    (λ i. (i + 1 < length c.args.cuts.now) × AreCuts (vertex_count c.args.h.now) c.args.cuts.now × (c.args.p.now.hyper ≡ c.args.h.now))
+    0 (length c.args.cuts.now - 1)
+    (λ i low high. (omega arith, c.requires.cuts, c.requires.belongs)) in
     rw (c.with_min_len.ensures.base, c.map.ensures.base, c.map.ensures.f, ends.0, ends.1) (λ k d lt. (inside k d lt, λ y p. tt))
 
 pub returns-clause-whole : goal.returns-clause-whole
 returns-clause-whole g c =
     let ends = c.into_par_iter.ensures in
+    let some = c.requires.cuts.some in
     let h = c.in_ok-wishes.ensures in
     let chain = rw (c.with_min_len.ensures.base, c.map.ensures.base, c.map.ensures.f) at h.1 in
-    let whole : c.div_ceil-parts.result - 0 ≡ c.div_ceil-parts.result = omega arith in
+    let parts = length c.args.cuts.now - 1 in
+    let whole : parts - 0 ≡ parts = omega arith in
     let places = chain.1 ∙ (λ i. nat_range (ends.0 i) (ends.1 i)) ∙ ap (range_with_len 0) whole in
     let long = zip_long _ chain.0 h.0 chain.2 in
-    let count = ap length places ∙ length-range_with_len 0 c.div_ceil-parts.result in
+    let count = ap length places ∙ length-range_with_len 0 parts in
     let items = ap length h.2 in
-    let cover = parts_cover c.vertices.result c.args.size c.div_ceil-parts.result c.requires.size c.div_ceil-parts.ensures in
-    let same : vec_len c.in_ok-wishes.wishes ≡ c.div_ceil-parts.result = omega arith in
-    let product = ap (λ x. x * c.args.size) same in
-    omega (arith, c.vertices.ensures.count)
+    omega arith
 
 pub returns-clause-parts : goal.returns-clause-parts
 returns-clause-parts g c j d l =
     let ends = c.into_par_iter.ensures in
+    let some = c.requires.cuts.some in
     let h = c.in_ok-wishes.ensures in
     let chain = rw (c.with_min_len.ensures.base, c.map.ensures.base, c.map.ensures.f) at h.1 in
-    let whole : c.div_ceil-parts.result - 0 ≡ c.div_ceil-parts.result = omega arith in
+    let parts = length c.args.cuts.now - 1 in
+    let whole : parts - 0 ≡ parts = omega arith in
     let places = chain.1 ∙ (λ i. nat_range (ends.0 i) (ends.1 i)) ∙ ap (range_with_len 0) whole in
     let long = zip_long _ chain.0 h.0 chain.2 in
-    let count = ap length places ∙ length-range_with_len 0 c.div_ceil-parts.result in
+    let count = ap length places ∙ length-range_with_len 0 parts in
     let items = ap length h.2 in
     let low : j < length h.0 = omega arith in
-    let at : get_or chain.0 j 0 ≡ 0 + j = ap (λ (xs : List ℕ). get_or xs j 0) places ∙ get_or-range_with_len 0 c.div_ceil-parts.result j 0 (omega arith) in
+    let at : get_or chain.0 j 0 ≡ 0 + j = ap (λ (xs : List ℕ). get_or xs j 0) places ∙ get_or-range_with_len 0 parts j 0 (omega arith) in
     let is : get_or chain.0 j 0 ≡ j = omega arith in
     let post = zip_at (λ (x : ℕ) r. IfOk r (λ v. v.items ≡ best_moves c.args.h.now c.args.p.now.k c.args.p.now.limit c.args.p.now.blocks
-    (range_with_len (x * c.args.size) (min c.args.size (vertex_count c.args.h.now - x * c.args.size)))))
-    chain.0 h.0 j 0 d chain.2 low in
+    (part_at c.args.cuts.now x))) chain.0 h.0 j 0 d chain.2 low in
     rw h.2 (subst (λ x. IfOk (get_or h.0 j d) (λ v. v.items ≡ best_moves c.args.h.now c.args.p.now.k c.args.p.now.limit c.args.p.now.blocks
-    (range_with_len (x * c.args.size) (min c.args.size (vertex_count c.args.h.now - x * c.args.size))))) is post)
+    (part_at c.args.cuts.now x))) is post)
