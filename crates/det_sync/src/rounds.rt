@@ -1,7 +1,7 @@
 //! Synchronous rounds: all vertices wish at once, and the best wishes are granted while there is room.
 
-ghost use Rattle.std.specs.Prelude.{◌≡◌, ℕ, ◌+◌, ◌-◌, ◌<◌, ◌≤◌, ◌^◌, ◌∷◌, length, map, take, replicate, All, IfOk, OnOk};
-ghost use Rattle.std.specs.Prelude.{OnErr, ℤ, pos, ◌-ℤ◌, ◌≤ℤ◌, ◌<ℤ◌};
+ghost use Rattle.std.specs.Prelude.{◌≡◌, ℕ, ◌+◌, ◌-◌, ◌<◌, ◌≤◌, ◌^◌, ◌∷◌, length, map, take, replicate, All, IfOk};
+ghost use Rattle.std.specs.Prelude.{OnOk, OnErr, ℤ, pos, ◌-ℤ◌, ◌≤ℤ◌, ◌<ℤ◌};
 ghost use Rattle.hg_defs.specs.Sums.{total_z};
 ghost use Rattle.hg_defs.specs.Hypergraph.{vertex_count};
 ghost use Rattle.hg_defs.specs.Partition.{Fits};

@@ -4,7 +4,8 @@ use Rattle.hg_defs.specs.Hypergraph.{Hyper}
 use Rattle.hg_defs.specs.Partition.{IsPartition}
 use Rattle.pin_plain.specs.Parted.{IsLoaded}
 use Rattle.det_sync.specs.Wishes.{Wish}
-use Rattle.det_sync.proofs.GrantLaws.{wish_inside, granted_first, granted_refused, granted_made, goes_below, comes_below, weight_there, weight_joins, load_there, loads_written}
+use Rattle.det_sync.proofs.GrantLaws.{wish_inside, granted_first, granted_refused, granted_made, goes_below, comes_below}
+use Rattle.det_sync.proofs.GrantLaws.{weight_there, weight_joins, load_there, loads_written}
 use Rattle.det_sync.proofs.rounds.admit.Goals as goal
 
 abbrev none : Wish
@@ -41,7 +42,8 @@ index-requires c =
     let inside = wish_inside h p.k p.limit p.blocks ws i w c.requires.wishes low here in
     let whole = subst (λ (x : Hyper). IsPartition x p.k p.blocks) c.requires.belongs c.blocks-blocks.ensures.parted.partition in
     let g = c.wishes.invariant in
-    let below = goes_below h p.k p.limit p.blocks ws i c.wishes.moves.items c.wishes.loads.items g low w here (c.requires.wishes.each i none low) inside whole in
+    let below = goes_below h p.k p.limit p.blocks ws i c.wishes.moves.items c.wishes.loads.items g low w here
+    (c.requires.wishes.each i none low) inside whole in
     let all = g.loaded.all in
     omega (arith, c.wishes.loads.ok.0)
 
@@ -57,11 +59,13 @@ overflow_add-index c =
     let inside = wish_inside h p.k p.limit p.blocks ws i w c.requires.wishes low here in
     let whole = subst (λ (x : Hyper). IsPartition x p.k p.blocks) c.requires.belongs c.blocks-blocks.ensures.parted.partition in
     let g = c.wishes.invariant in
-    let below = goes_below h p.k p.limit p.blocks ws i c.wishes.moves.items c.wishes.loads.items g low w here (c.requires.wishes.each i none low) inside whole in
+    let below = goes_below h p.k p.limit p.blocks ws i c.wishes.moves.items c.wishes.loads.items g low w here
+    (c.requires.wishes.each i none low) inside whole in
     let all = g.loaded.all in
     let there : w.2 < length c.wishes.loads.items = omega arith in
     let load = c.index.ensures ∙ get_or_default c.wishes.loads.items w.2 c.index.result.now 0 there in
-    let small = load_there h p.k p.limit p.blocks ws i c.wishes.moves.items c.wishes.loads.items g low w here (c.requires.wishes.each i none low) inside whole c.vertices-vertices.ensures.bounds in
+    let small = load_there h p.k p.limit p.blocks ws i c.wishes.moves.items c.wishes.loads.items g low w here
+    (c.requires.wishes.each i none low) inside whole c.vertices-vertices.ensures.bounds in
     let light = c.vertex_weight-weight.ensures.bound in
     omega arith
 
@@ -77,13 +81,15 @@ wishes-preserved-then-index-weight c =
     let inside = wish_inside h p.k p.limit p.blocks ws i w c.requires.wishes low here in
     let whole = subst (λ (x : Hyper). IsPartition x p.k p.blocks) c.requires.belongs c.blocks-blocks.ensures.parted.partition in
     let g = c.wishes.invariant in
-    let below = goes_below h p.k p.limit p.blocks ws i c.wishes.moves.items c.wishes.loads.items g low w here (c.requires.wishes.each i none low) inside whole in
+    let below = goes_below h p.k p.limit p.blocks ws i c.wishes.moves.items c.wishes.loads.items g low w here
+    (c.requires.wishes.each i none low) inside whole in
     let all = g.loaded.all in
     let there : w.2 < length c.wishes.loads.items = omega arith in
     let load = c.index.ensures ∙ get_or_default c.wishes.loads.items w.2 c.index.result.now 0 there in
     let weighs = c.vertex_weight-weight.ensures.value in
     let most = c.limit.ensures in
-    granted_refused h p.k p.limit p.blocks ws i c.wishes.moves.items c.wishes.loads.items g low w here (c.requires.wishes.each i none low) inside whole (omega arith)
+    granted_refused h p.k p.limit p.blocks ws i c.wishes.moves.items c.wishes.loads.items g low w here
+    (c.requires.wishes.each i none low) inside whole (omega arith)
 
 pub bounds-blocks-v : goal.bounds-blocks-v
 bounds-blocks-v c =
@@ -115,8 +121,10 @@ overflow_sub-index_mut c =
     let g = c.wishes.invariant in
     let from = get_or c.blocks-blocks.result.now w.1 0 in
     let is = ap (λ (bs : List ℕ). get_or bs w.1 0) c.blocks-blocks.ensures.value in
-    let held = weight_there h p.k p.limit p.blocks ws i c.wishes.moves.items c.wishes.loads.items g low w here (c.requires.wishes.each i none low) inside whole from is in
-    let under = comes_below h p.k p.limit p.blocks ws i c.wishes.moves.items c.wishes.loads.items g low w here (c.requires.wishes.each i none low) inside whole from is in
+    let held = weight_there h p.k p.limit p.blocks ws i c.wishes.moves.items c.wishes.loads.items g low w here
+    (c.requires.wishes.each i none low) inside whole from is in
+    let under = comes_below h p.k p.limit p.blocks ws i c.wishes.moves.items c.wishes.loads.items g low w here
+    (c.requires.wishes.each i none low) inside whole from is in
     let all = g.loaded.all in
     let inner : from < length c.wishes.loads.items = omega arith in
     let left = c.index_mut.ensures.value ∙ get_or_default c.wishes.loads.items from c.index_mut.result.now 0 inner in
@@ -135,7 +143,8 @@ index_mut-requires-in-wishes c =
     let inside = wish_inside h p.k p.limit p.blocks ws i w c.requires.wishes low here in
     let whole = subst (λ (x : Hyper). IsPartition x p.k p.blocks) c.requires.belongs c.blocks-blocks.ensures.parted.partition in
     let g = c.wishes.invariant in
-    let below = goes_below h p.k p.limit p.blocks ws i c.wishes.moves.items c.wishes.loads.items g low w here (c.requires.wishes.each i none low) inside whole in
+    let below = goes_below h p.k p.limit p.blocks ws i c.wishes.moves.items c.wishes.loads.items g low w here
+    (c.requires.wishes.each i none low) inside whole in
     let all = g.loaded.all in
     omega (arith, c.wishes.loads.ok.0)
 
@@ -153,8 +162,10 @@ overflow_add-index_mut c =
     let g = c.wishes.invariant in
     let from = get_or c.blocks-blocks.result.now w.1 0 in
     let is = ap (λ (bs : List ℕ). get_or bs w.1 0) c.blocks-blocks.ensures.value in
-    let joins = weight_joins h p.k p.limit p.blocks ws i c.wishes.moves.items c.wishes.loads.items g low w here (c.requires.wishes.each i none low) inside whole from is c.vertices-vertices.ensures.bounds in
-    let under = comes_below h p.k p.limit p.blocks ws i c.wishes.moves.items c.wishes.loads.items g low w here (c.requires.wishes.each i none low) inside whole from is in
+    let joins = weight_joins h p.k p.limit p.blocks ws i c.wishes.moves.items c.wishes.loads.items g low w here
+    (c.requires.wishes.each i none low) inside whole from is c.vertices-vertices.ensures.bounds in
+    let under = comes_below h p.k p.limit p.blocks ws i c.wishes.moves.items c.wishes.loads.items g low w here
+    (c.requires.wishes.each i none low) inside whole from is in
     let all = g.loaded.all in
     let inner : from < length c.wishes.loads.items = omega arith in
     let left = c.index_mut.ensures.value ∙ get_or_default c.wishes.loads.items from c.index_mut.result.now 0 inner in
@@ -181,11 +192,13 @@ wishes-preserved c =
     let g = c.wishes.invariant in
     let from = get_or c.blocks-blocks.result.now w.1 0 in
     let is = ap (λ (bs : List ℕ). get_or bs w.1 0) c.blocks-blocks.ensures.value in
-    let below = goes_below h p.k p.limit p.blocks ws i c.wishes.moves.items c.wishes.loads.items g low w here (c.requires.wishes.each i none low) inside whole in
+    let below = goes_below h p.k p.limit p.blocks ws i c.wishes.moves.items c.wishes.loads.items g low w here
+    (c.requires.wishes.each i none low) inside whole in
     let all = g.loaded.all in
     let there : w.2 < length c.wishes.loads.items = omega arith in
     let load = c.index.ensures ∙ get_or_default c.wishes.loads.items w.2 c.index.result.now 0 there in
-    let under = comes_below h p.k p.limit p.blocks ws i c.wishes.moves.items c.wishes.loads.items g low w here (c.requires.wishes.each i none low) inside whole from is in
+    let under = comes_below h p.k p.limit p.blocks ws i c.wishes.moves.items c.wishes.loads.items g low w here
+    (c.requires.wishes.each i none low) inside whole from is in
     let inner : from < length c.wishes.loads.items = omega arith in
     let left = c.index_mut.ensures.value ∙ get_or_default c.wishes.loads.items from c.index_mut.result.now 0 inner in
     let long = length-set c.wishes.loads.items from (c.index_mut.result.now - c.vertex_weight-weight.result) in
@@ -194,6 +207,7 @@ wishes-preserved c =
     (c.index_mut.result.now - c.vertex_weight-weight.result)) w.2 c.index_mut-in-wishes.result.now 0 (omega arith) in
     let weighs = c.vertex_weight-weight.ensures.value in
     let most = c.limit.ensures in
-    granted_made h p.k p.limit p.blocks ws i c.wishes.moves.items c.wishes.loads.items g low w here (c.requires.wishes.each i none low) inside whole from is _ _ (omega arith) c.in_ok-push.ensures.items
+    granted_made h p.k p.limit p.blocks ws i c.wishes.moves.items c.wishes.loads.items g low w here
+    (c.requires.wishes.each i none low) inside whole from is _ _ (omega arith) c.in_ok-push.ensures.items
     (loads_written c.wishes.loads.items from w.2 c.index_mut.result.now c.vertex_weight-weight.result c.index_mut-in-wishes.result.now _
     left weighs joined)
