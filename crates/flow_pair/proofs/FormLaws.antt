@@ -1,5 +1,6 @@
 -- Forming a region: vertices taken one after the other.
-use Rattle.std.proofs.Common.{◌≡◌, ◌≢◌, ℕ, ◌+◌, ◌-◌, ◌<◌, ◌≤◌, Bool, true, false, not, nat_eq, nat_le, nat_lt, if◌then◌else◌, List, [], ◌∷◌, ◌++◌, length, filter, drop}
+use Rattle.std.proofs.Common.{◌≡◌, ◌≢◌, ℕ, ◌+◌, ◌-◌, ◌<◌, ◌≤◌, Bool, true, false, not, nat_eq, nat_le, nat_lt}
+use Rattle.std.proofs.Common.{if◌then◌else◌, List, [], ◌∷◌, ◌++◌, length, filter, drop}
 use Rattle.std.proofs.Common.{get_or, refl, sym, ap, ◌∙◌, arith, All, true≢false}
 use Rattle.std.specs.List.{list_any}
 use Rattle.std.proofs.lemmas.List.{drop_more, drop_all, append-nil}
@@ -58,7 +59,8 @@ taken_none h least room (v ∷ vs) weighs short below =
     by (nat_le (weight_of h v) room) (lt-leb (weight_of h v) room (let w = weighs v (All-head (λ u. u < vertex_count h) v vs below) in omega arith))
     (taken_none h least room vs weighs short (All-tail (λ u. u < vertex_count h) v vs below))
   where
-    by : (t : Bool) → t ≡ false → taken h room vs ≡ [] → (let later = taken h (if t then room - weight_of h v else room) vs in if t then v ∷ later else later) ≡ []
+    by : (t : Bool) → t ≡ false → taken h room vs ≡ []
+        → (let later = taken h (if t then room - weight_of h v else room) vs in if t then v ∷ later else later) ≡ []
     by true e rest = absurd (true≢false e)
     by false e rest = rest
 

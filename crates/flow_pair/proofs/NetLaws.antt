@@ -331,7 +331,8 @@ module _ (h : Hyper) (region : List ℕ) where
         ap (map (net_of h)) (rising_is_filter (other_numbers h p a b region)
         (λ e. (has_pin p (net_of h e) a && has_pin p (net_of h e) b) && not (list_any (is_member nat_eq region) (net_of h e).pins)) (net_count h)
         (IsStrictlyIncreasing-filter away (touching_nets h p a b) (kept_rises touches (net_count h))) to from)
-        ∙ sym (filter-map (net_of h) (λ e. (has_pin p e a && has_pin p e b) && not (list_any (is_member nat_eq region) e.pins)) (range_with_len 0 (net_count h)))
+        ∙ sym (filter-map (net_of h) (λ e. (has_pin p e a && has_pin p e b) && not (list_any (is_member nat_eq region) e.pins))
+        (range_with_len 0 (net_count h)))
         ∙ ap (filter (λ e. (has_pin p e a && has_pin p e b) && not (list_any (is_member nat_eq region) e.pins))) (sym (nets_by_number h))
       where
         touches : ℕ → Bool

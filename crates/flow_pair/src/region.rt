@@ -10,7 +10,8 @@ ghost use Rattle.hg_defs.specs.Hypergraph.{vertex_count, net_count, net_of};
 ghost use Rattle.hg_defs.specs.Partition.{load, Fits};
 ghost use Rattle.hg_defs.specs.Sorting.{set_of};
 ghost use Rattle.round_log.specs.Rounds.{side, region};
-ghost use Rattle.flow_pair.specs.Sides.{touching_nets, is_free_in, free_pins, is_small, small_nets, TakesAll, WeighsAtLeast};
+ghost use Rattle.flow_pair.specs.Sides.{touching_nets, is_free_in, free_pins, is_small, small_nets};
+ghost use Rattle.flow_pair.specs.Sides.{TakesAll, WeighsAtLeast};
 
 use crate::distinct::{distinct, distinct_of_many, push_if};
 use crate::pair::contains;

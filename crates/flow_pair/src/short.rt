@@ -238,7 +238,8 @@ fn add_all_short(
     ensures network { OnOk result (network.new ≡ short_network pair.entry.h.now pair.entry.blocks.now pair.entry.first
         pair.entry.second pair.entry.region.now) }
     ensures fixed { IfOk result (λ fixed. fixed ≡ total (fixed_price pair.entry.h.now pair.entry.blocks.now
-        pair.entry.first pair.entry.second pair.entry.region.now) (inside_nets pair.entry.h.now pair.entry.region.now)) }
+        pair.entry.first pair.entry.second pair.entry.region.now)
+        (inside_nets pair.entry.h.now pair.entry.region.now)) }
 {
     let _nets = pair.h.nets();
     let mut nodes = Vec::new(alloc);

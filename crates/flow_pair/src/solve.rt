@@ -116,7 +116,8 @@ impl Model for PairSolver {
 
     ghost view = { λ s. s.hyper.value };
 
-    ghost invariant = { λ s. (s.most ≡ unbounded s.hyper.value) × (s.most ≤ 2 ^ 56) × WeighsAtLeast s.hyper.value s.least };
+    ghost invariant = { λ s. (s.most ≡ unbounded s.hyper.value) × (s.most ≤ 2 ^ 56)
+        × WeighsAtLeast s.hyper.value s.least };
 }
 
 impl PairSolver {

@@ -93,8 +93,8 @@ returns-then-room-least-clause-side c =
     let p = c.args.p.now.blocks in
     let room : c.limit.result - c.weight.result ≡ c.args.p.now.limit - load c.args.h.now p c.args.to =
     (let a = c.limit.ensures in let b = c.weight.ensures in let d = ap (λ (x : Hyper). load x p c.args.to) c.requires.belongs in omega arith) in
-    side_none c.args.h.now c.args.p.now.limit p c.args.from c.args.to (c.limit.result - c.weight.result) c.args.least c.args.list.now.items c.requires.least room
-    c.if-room-least.true
+    side_none c.args.h.now c.args.p.now.limit p c.args.from c.args.to (c.limit.result - c.weight.result) c.args.least c.args.list.now.items c.requires.least
+    room c.if-room-least.true
 
 pub returns-then-left-least-clause-side : goal.returns-then-left-least-clause-side
 returns-then-left-least-clause-side c =

@@ -16,7 +16,8 @@ overflow_add-price c =
 pub loop-e-preserved : goal.loop-e-preserved
 loop-e-preserved c =
     let s = c.args.pair in
-    let more = total-take_more (λ e. net_price s.h.now s.blocks.now s.first s.second (net_of s.h.now e)) c.args.nets.now c.loop-e.e-index 0 c.loop-e-test.true in
+    let more = total-take_more (λ e. net_price s.h.now s.blocks.now s.first s.second (net_of s.h.now e)) c.args.nets.now c.loop-e.e-index 0
+    c.loop-e-test.true in
     let here = c.net_price-price.ensures.value in
     let sum = c.loop-e.invariant in
     omega arith
