@@ -177,7 +177,7 @@ alone f k a l h = by (nat_eq (f a) (sum_below f k)) refl
         let whole = sum_below-only f k a l (λ j m q. positive_or_zero (f j) (others j m q)) in
         eqb-false (f a) (sum_below f k) e (sym whole))
 
-some_blocks : (p pins : List ℕ) (v : ℕ) → Contains pins v → 0 < connectivity p pins
+pub some_blocks : (p pins : List ℕ) (v : ℕ) → Contains pins v → 0 < connectivity p pins
 some_blocks p [] v c = absurd (Contains-nil v c)
 some_blocks p (u ∷ pins) v c = connectivity-positive p u pins
 

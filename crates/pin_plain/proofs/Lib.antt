@@ -8,3 +8,4 @@ pub mod BestLaws
 pub mod SweepLaws
 pub mod SettleLaws
 pub mod RankLaws
+pub mod InnerLaws

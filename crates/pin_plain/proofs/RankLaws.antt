@@ -1,10 +1,9 @@
 -- Laws of the best moves of listed vertices.
-use Rattle.std.proofs.Common.{◌≡◌, ℕ, suc, ◌+◌, ◌-◌, ◌<◌, ◌≤◌, List, [], ◌∷◌, ◌++◌, Option, Some, None, option_map, option_to_list}
-use Rattle.std.proofs.Common.{pos, ◌-ℤ◌, refl, sym, ap, ap₂, ◌∙◌, arith}
-use Rattle.std.specs.List.{range_with_len}
+use Rattle.std.proofs.Common.{◌≡◌, ℕ, ◌+◌, ◌-◌, ◌<◌, ◌≤◌, List, [], ◌∷◌, ◌++◌, drop, length, slice_index}
+use Rattle.std.proofs.Common.{Option, Some, None, option_map, option_to_list, pos, ◌-ℤ◌, sym, ap, ◌∙◌, arith}
 use Rattle.std.specs.declared.cmp.Reverse.{Reverse}
 use Rattle.std.proofs.lemmas.Int.{ints}
-use Rattle.std.proofs.lemmas.List.{append_assoc, append-nil}
+use Rattle.std.proofs.lemmas.List.{append_assoc, append-nil, drop_all, drop_more}
 use Rattle.hg_defs.specs.Hypergraph.{Hyper}
 use Rattle.hg_defs.specs.Cost.{cost}
 use Rattle.hg_defs.specs.Moves.{moved, gain, best_block}
@@ -18,30 +17,30 @@ ranked_is h p v b g e = ap (λ (x : ℕ). (record { 0 = x }, v, b)) (saved g (co
     saved g x y e = omega (arith, ints)
 
 module _ (h : Hyper) (k l : ℕ) (p : List ℕ) where
-  -- the best moves from a vertex on begin with its own
-  pub best_first : (v to : ℕ) → v < to → best_moves h k l p (range_with_len v (to - v))
-      ≡ option_to_list (option_map (ranked h p v) (best_block h l p v k)) ++ best_moves h k l p (range_with_len (v + 1) (to - (v + 1)))
-  best_first v to low = let e : to - v ≡ suc (to - (v + 1)) = omega arith in ap (λ n. best_moves h k l p (range_with_len v n)) e
+  -- the best moves from a place of the list on begin with those of the vertex there
+  pub best_first : (vs : List ℕ) (i : ℕ) → i < length vs → best_moves h k l p (drop i vs)
+      ≡ option_to_list (option_map (ranked h p (slice_index vs i)) (best_block h l p (slice_index vs i) k)) ++ best_moves h k l p (drop (i + 1) vs)
+  best_first vs i low = ap (best_moves h k l p) (drop_more vs i 0 low)
 
-  pub best_none : (v to : ℕ) (found all : List (Reverse ℕ × ℕ × ℕ)) → v < to → best_block h l p v k ≡ None
-      → found ++ best_moves h k l p (range_with_len v (to - v)) ≡ all
-      → found ++ best_moves h k l p (range_with_len (v + 1) (to - (v + 1))) ≡ all
-  best_none v to found all low none e =
-      ap (λ (o : Option ℕ). found ++ (option_to_list (option_map (ranked h p v) o) ++ best_moves h k l p (range_with_len (v + 1) (to - (v + 1))))) (sym none)
-      ∙ ap (λ xs. found ++ xs) (sym (best_first v to low))
+  pub best_none : (vs : List ℕ) (i : ℕ) (found all : List (Reverse ℕ × ℕ × ℕ)) → i < length vs → best_block h l p (slice_index vs i) k ≡ None
+      → found ++ best_moves h k l p (drop i vs) ≡ all
+      → found ++ best_moves h k l p (drop (i + 1) vs) ≡ all
+  best_none vs i found all low none e =
+      ap (λ (o : Option ℕ). found ++ (option_to_list (option_map (ranked h p (slice_index vs i)) o) ++ best_moves h k l p (drop (i + 1) vs))) (sym none)
+      ∙ ap (λ xs. found ++ xs) (sym (best_first vs i low))
       ∙ e
 
-  pub best_some : (v to b : ℕ) (found new all : List (Reverse ℕ × ℕ × ℕ)) → v < to → best_block h l p v k ≡ Some b → new ≡ found ++ ranked h p v b ∷ []
-      → found ++ best_moves h k l p (range_with_len v (to - v)) ≡ all
-      → new ++ best_moves h k l p (range_with_len (v + 1) (to - (v + 1))) ≡ all
-  best_some v to b found new all low some is e =
-      ap (λ xs. xs ++ best_moves h k l p (range_with_len (v + 1) (to - (v + 1)))) is
-      ∙ append_assoc found (ranked h p v b ∷ []) (best_moves h k l p (range_with_len (v + 1) (to - (v + 1))))
-      ∙ ap (λ (o : Option ℕ). found ++ (option_to_list (option_map (ranked h p v) o) ++ best_moves h k l p (range_with_len (v + 1) (to - (v + 1))))) (sym some)
-      ∙ ap (λ xs. found ++ xs) (sym (best_first v to low))
+  pub best_some : (vs : List ℕ) (i b : ℕ) (found new all : List (Reverse ℕ × ℕ × ℕ)) → i < length vs → best_block h l p (slice_index vs i) k ≡ Some b
+      → new ≡ found ++ ranked h p (slice_index vs i) b ∷ []
+      → found ++ best_moves h k l p (drop i vs) ≡ all
+      → new ++ best_moves h k l p (drop (i + 1) vs) ≡ all
+  best_some vs i b found new all low some is e =
+      ap (λ xs. xs ++ best_moves h k l p (drop (i + 1) vs)) is
+      ∙ append_assoc found (ranked h p (slice_index vs i) b ∷ []) (best_moves h k l p (drop (i + 1) vs))
+      ∙ ap (λ (o : Option ℕ). found ++ (option_to_list (option_map (ranked h p (slice_index vs i)) o) ++ best_moves h k l p (drop (i + 1) vs))) (sym some)
+      ∙ ap (λ xs. found ++ xs) (sym (best_first vs i low))
       ∙ e
 
-  pub best_all : (v to : ℕ) (found all : List (Reverse ℕ × ℕ × ℕ)) → to ≤ v → found ++ best_moves h k l p (range_with_len v (to - v)) ≡ all → found ≡ all
-  best_all v to found all end e =
-      let none : to - v ≡ 0 = omega arith in
-      sym (append-nil found) ∙ ap (λ n. found ++ best_moves h k l p (range_with_len v n)) (sym none) ∙ e
+  pub best_all : (vs : List ℕ) (i : ℕ) (found all : List (Reverse ℕ × ℕ × ℕ)) → length vs ≤ i → found ++ best_moves h k l p (drop i vs) ≡ all → found ≡ all
+  best_all vs i found all end e =
+      sym (append-nil found) ∙ ap (λ xs. found ++ best_moves h k l p xs) (sym (drop_all i vs end)) ∙ e

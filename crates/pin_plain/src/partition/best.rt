@@ -1,7 +1,6 @@
-//! The best moves of many vertices in one partition.
+//! The best moves of listed vertices in one partition.
 
-ghost use Rattle.std.specs.Prelude.{◌≡◌, ◌-◌, ◌≤◌, IfOk};
-ghost use Rattle.std.specs.List.{range_with_len};
+ghost use Rattle.std.specs.Prelude.{◌≡◌, ◌<◌, All, IfOk};
 ghost use Rattle.hg_defs.specs.Hypergraph.{vertex_count};
 ghost use Rattle.pin_plain.specs.BestMoves as moves;
 
@@ -17,28 +16,27 @@ use std::cmp::Reverse;
 pub type BestMove = (Reverse<u64>, u32, u32);
 
 impl Partition {
-    /// The best moves of the vertices from `from` up to `to`, in rising number: each goes to its allowed
-    /// block of the highest gain above 0, the lowest block at a tie. A vertex without such a block has
-    /// no best move.
+    /// The best moves of the listed vertices, in the list's order: each goes to its allowed block of the
+    /// highest gain above 0, the lowest block at a tie. A vertex without such a block has no best move,
+    /// and one all of whose nets lie in its block has none.
     pub fn best_moves(
         &self,
         alloc: Global,
         h: &Hypergraph,
-        from: u32,
-        to: u32,
+        listed: &[u32],
     ) -> Result<Vec<BestMove>, NoMemory>
         requires belongs { self.now.hyper ≡ h.now }
-        requires vertices { to ≤ vertex_count h.now }
+        requires vertices { All (λ v. v < vertex_count h.now) listed.now }
         ensures { IfOk result (λ best. best.items ≡ moves.best_moves h.now self.now.k self.now.limit self.now.blocks
-            (range_with_len from (to - from))) }
+            listed.now) }
     {
         let mut scores = Scores::new();
         let mut best = Vec::new(alloc);
-        for v in from..to {
-            let Some((block, gain)) = self.best_move(h, v, &mut scores) else {
+        for v in listed {
+            let Some((block, gain)) = self.best_move(h, *v, &mut scores) else {
                 continue;
             };
-            best.push((Reverse(gain), v, block))?;
+            best.push((Reverse(gain), *v, block))?;
         }
         Ok(best)
     }
