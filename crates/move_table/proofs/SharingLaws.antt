@@ -40,7 +40,7 @@ table_field_sync V K P g = search (sendable, crosses, shared.the_sync, lease.the
 
 inside_sync : (κ : _) → IsSync (round.TheInside.the_row κ)
 inside_sync κ = recorded_sync _ _ _ ((round.TheInside.the_type κ).to_one) (struct_sync (declared.shape (round.TheInside.the_type κ))
-    (hyper_sync _ _, (terms_field_sync, (vec_sync, (search table_field_sync, tt)))))
+    (hyper_sync _ _, (terms_field_sync, (vec_sync, (search table_field_sync, (search (sendable, crosses), tt))))))
 
 -- a round may be shared by threads
 pub round_sync : (κ : _) → IsSync (round.the_row κ)

@@ -5,6 +5,7 @@ use Rattle.std.specs.Int.{w64}
 use Rattle.hg_defs.specs.Sums.{total_z}
 use Rattle.hg_defs.specs.Hypergraph.{Hyper, vertex_count, net_count}
 use Rattle.hg_defs.specs.Partition.{block_of}
+use Rattle.hg_defs.specs.Cost.{cost}
 use Rattle.hg_defs.specs.Incidence.{nets_of}
 use Rattle.pin_plain.specs.Counts.{net_bits}
 use Rattle.atomic_table.specs.Seated.{TableId}
@@ -226,10 +227,11 @@ pub record HasNetPlaces (g : Setup) (nets : List NetPlace) : Type 0 where
   pub width_of : (e : ℕ) (d : NetPlace) → e < net_count g.graph → (slice_index_or nets e d).bits ≡ net_bits g.graph e
 
 -- what a round keeps beside its words
-pub record IsRound (h : Hyper) (t : Terms) (nets : List NetPlace) (table : TableId) (key : Terms) : Type 0 where
+pub record IsRound (h : Hyper) (t : Terms) (nets : List NetPlace) (table : TableId) (key : Terms) (opened : ℕ) : Type 0 where
   pub terms : IsTerms t
   pub hyper : h ≡ t.part.hyper
   pub same_key : key ≡ t
   pub places : HasNetPlaces (terms_setup t) nets
   pub wide : table.words ≡ word_count (terms_setup t)
   pub bare : table.slots ≡ 0
+  pub priced : opened ≡ cost t.part.hyper t.part.blocks

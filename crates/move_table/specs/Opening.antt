@@ -1,5 +1,5 @@
 -- What the words of a round hold at its opening.
-use Rattle.std.specs.Prelude.{◌≡◌, ◌⊎◌, ℕ, ◌+◌, ◌<◌, ◌≤◌, List, slice_index, nat_eq, if◌then◌else◌}
+use Rattle.std.specs.Prelude.{◌≡◌, ◌⊎◌, ℕ, ◌+◌, ◌<◌, ◌≤◌, List, slice_index}
 use Rattle.hg_defs.specs.Hypergraph.{net_of}
 use Rattle.hg_defs.specs.Pins.{pins_in}
 use Rattle.hg_base.specs.Packed.{count_at}
@@ -13,11 +13,6 @@ use Rattle.move_table.specs.Standing.{terms_setup}
 -- the words before a place, and from another one on, are as they were
 abbrev pub SameOutside : ℕ → ℕ → List ℕ → List ℕ → Type 0
 SameOutside from to old new = (i : ℕ) → (i < from) ⊎ (to ≤ i) → slice_index new i ≡ slice_index old i
-
--- what one pin in block b makes of the words of its net: one pin more there, and a block more where it is the first
-pub record IsPinCounted (place : NetPlace) (b : ℕ) (old new : List ℕ) : Type 0 where
-  pub spread : slice_index new place.start ≡ slice_index old place.start + (if nat_eq (count_at old (place.start + 1) place.bits b) 0 then 1 else 0)
-  pub counts : (c : ℕ) → count_at new (place.start + 1) place.bits c ≡ count_at old (place.start + 1) place.bits c + (if nat_eq c b then 1 else 0)
 
 -- the spread and the counts of a net, at a place
 pub record IsNetFilled (blocks pins : List ℕ) (k : ℕ) (place : NetPlace) (words : List ℕ) : Type 0 where

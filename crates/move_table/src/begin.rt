@@ -6,7 +6,7 @@ ghost use Rattle.move_core.specs.State.{blank};
 ghost use Rattle.move_table.specs.Standing.{IsTerms, first_view};
 ghost use Rattle.move_table.specs.Calls.{AreFresh, IsRound};
 
-use crate::open::{fill, lay_out};
+use crate::open::{Filled, fill, lay_out};
 use crate::pass::{Pass, Passes};
 use crate::place::NetPlace;
 use crate::round::Round;
@@ -43,6 +43,7 @@ pub(crate) struct Begun {
     pub(crate) nets: Vec<NetPlace>,
     pub(crate) table: Table<(), View, Terms, Balanced, Global>,
     pub(crate) passes: Passes,
+    pub(crate) cost: u64,
 }
 
 /// Takes all memory of a round, fills its words, and makes its passes.
@@ -50,17 +51,18 @@ fn begin(alloc: Global, hyper: &Hypergraph, terms: &Terms) -> Result<Begun, NoMe
     requires terms { IsTerms terms.now }
     requires belongs { hyper.now ≡ terms.now.part.hyper }
     ensures round { IfOk result (λ b. IsRound hyper.now terms.now b.nets.items b.table.shared.table_id
-        b.table.shared.key) }
+        b.table.shared.key b.cost) }
     ensures passes { IfOk result (λ b. AreFresh b.table.shared.table_id terms.now b.passes) }
 {
     let layout = lay_out(alloc, hyper, terms)?;
-    let words = fill(alloc, hyper, terms, &layout)?;
+    let Filled { words, cost } = fill(alloc, hyper, terms, &layout)?;
     let (table, seat) = Table::of_words(alloc, words.as_slice(), terms)?;
     let passes = make_passes(alloc, &table.shared, seat, terms.workers)?;
     Ok(Begun {
         nets: layout.nets,
         table,
         passes,
+        cost,
     })
 }
 
@@ -89,6 +91,7 @@ impl<'h> Round<'h> {
                     nets,
                     table,
                     passes,
+                    cost,
                 },
             ) => Ok((
                 Round {
@@ -96,6 +99,7 @@ impl<'h> Round<'h> {
                     terms,
                     nets,
                     table,
+                    opening_cost: cost,
                 },
                 passes,
             )),

@@ -34,6 +34,15 @@ pub(crate) struct Gathered {
     moves: Vec<Move>,
 }
 
+/// How many moves the passes have made, which is how much room they want.
+fn room_for_all(passes: &[Pass]) -> usize {
+    let mut moves = 0usize;
+    for pass in passes {
+        moves = moves.saturating_add(pass.done().len());
+    }
+    moves
+}
+
 /// Copies what the passes have done.
 fn gather(alloc: Global, passes: &[Pass]) -> Result<Gathered, NoMemory>
     ensures moves { IfOk result (λ g. map (λ d. d.action) g.done.items ≡ all_moves passes.now) }
@@ -43,7 +52,7 @@ fn gather(alloc: Global, passes: &[Pass]) -> Result<Gathered, NoMemory>
     ensures kept { OnOk result ((i : ℕ) (p : RacedPass) → i < length passes.now →
         IsKeptPass (slice_index_or passes.now i p)) }
 {
-    let mut done = Vec::new(alloc);
+    let mut done = Vec::with_capacity(alloc, room_for_all(passes))?;
     let mut gains = Vec::with_capacity(alloc, passes.len())?;
     for pass in passes {
         done.extend_from_slice(pass.done())?;
@@ -156,6 +165,7 @@ impl<'h> Round<'h> {
             terms,
             nets: _nets,
             table,
+            opening_cost,
         } = self;
         end_words(table, passes);
         lay_moves(done.as_slice(), moves.as_mut_slice());
@@ -167,6 +177,7 @@ impl<'h> Round<'h> {
         make_moves(&mut part, hyper, moves.as_slice());
         Ok(Closed {
             opening,
+            opening_cost,
             part,
             moves: Items::from_vec(moves),
             gains: Items::from_vec(gains),

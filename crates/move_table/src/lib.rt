@@ -19,7 +19,7 @@ mod rule;
 mod steps;
 mod view;
 
-pub use closed::Closed;
+pub use closed::{Closed, RaceParts};
 pub use grant::{Full, Grant};
 pub use pass::{Pass, Passes};
 pub use round::Round;

@@ -2,19 +2,22 @@
 
 ghost use Rattle.std.specs.Prelude.{◌≡◌, ◌≢◌, ◌⊎◌, ℕ, ◌+◌, ◌-◌, ◌*◌, ◌/◌, ◌%◌, ◌^◌, ◌<◌, ◌≤◌, length, All};
 ghost use Rattle.std.specs.Prelude.{slice_index, IfOk, OnOk, nat_eq, if◌then◌else◌};
-ghost use Rattle.hg_defs.specs.Hypergraph.{net_count, vertex_count};
+ghost use Rattle.hg_defs.specs.Cost.{connectivity, cost};
+ghost use Rattle.hg_defs.specs.Cost as costs;
+ghost use Rattle.hg_defs.specs.Hypergraph.{net_count, net_of, vertex_count};
 ghost use Rattle.hg_defs.specs.Partition.{block_of, load};
 ghost use Rattle.hg_defs.specs.Pins.{pins_in};
+ghost use Rattle.hg_base.specs.Packed as packed;
 ghost use Rattle.hg_base.specs.Packed.{IsWidth, fields_of, bits_of, words_of, count_at};
 ghost use Rattle.move_core.specs.State.{IsOpening};
 ghost use Rattle.move_table.specs.Places.{word_count, table_readings, name_place, load_place, net_place};
 ghost use Rattle.move_table.specs.Standing.{terms_setup, IsTerms};
 ghost use Rattle.move_table.specs.Calls.{HasNetPlaces};
-ghost use Rattle.move_table.specs.Opening.{SameOutside, IsPinCounted, IsNetFilled, AreNetsFilled};
+ghost use Rattle.move_table.specs.Opening.{SameOutside, IsNetFilled, AreNetsFilled};
 
 use crate::place::NetPlace;
 use crate::view::Terms;
-use hg_base::{NoMemory, bits_of, field, place_of, raise_field, words_of};
+use hg_base::{NoMemory, Objective, bits_of, field, place_of, price, raise_field, words_of};
 use incidence::Hypergraph;
 use std::alloc::Global;
 
@@ -76,114 +79,166 @@ fn one_for_none(found: u64) -> u64
     if found == 0 { 1 } else { 0 }
 }
 
-/// Counts one pin of a net in a block, and the block where it is the first one there.
-fn count_pin(words: &mut [u64], place: NetPlace, b: u32)
-    requires width { IsWidth place.bits }
-    requires inside { place.start + 1 + b / fields_of place.bits < length words.old }
-    requires room { count_at words.old (place.start + 1) place.bits b + 1 < 2 ^ place.bits }
-    requires few { slice_index words.old place.start + 1 < 2 ^ 64 }
-    ensures counted { IsPinCounted place b words.old words.new }
-    ensures others { (i : ℕ) → i ≢ place.start → i ≢ place.start + 1 + b / fields_of place.bits →
-        slice_index words.new i ≡ slice_index words.old i }
+/// Counts the pins of a net whose counts stand in one word: tells how many blocks it touches, and that
+/// word. Both stay in registers meanwhile.
+fn count_in_word(bits: u32, pins: &[u32], blocks: &[u32]) -> (u64, u64)
+    requires width { bits ≡ bits_of (length pins.now) }
+    requires few { length pins.now ≤ 2 ^ 25 }
+    requires pins { All (λ v. v < length blocks.now) pins.now }
+    requires blocks { All (λ b. b < fields_of bits) blocks.now }
+    ensures touched { result.0 ≡ connectivity blocks.now pins.now }
+    ensures counts { (b : ℕ) → b < fields_of bits → packed.field result.1 bits b ≡ pins_in blocks.now pins.now b }
 {
-    let (word, at) = place_of(place.bits, b);
-    let i = place.start as usize + 1 + word as usize;
-    let more = one_for_none(field(words[i], place.bits, at));
-    words[i] = raise_field(words[i], place.bits, at);
-    words[place.start as usize] += more;
+    let mut touched = 0;
+    let mut counts = 0;
+    for v in pins {
+        let b = blocks[*v as usize];
+        touched += one_for_none(field(counts, bits, b));
+        counts = raise_field(counts, bits, b);
+    }
+    (touched, counts)
 }
 
-/// Counts the pins of a net in its words, and its blocks in its spread.
-fn count_net(words: &mut [u64], place: NetPlace, pins: &[u32], blocks: &[u32], k: u32)
+/// Counts one pin of a net in a block, where the net's counts start at a word, and tells 1 where it is
+/// the first one there.
+fn count_pin(words: &mut [u64], start: usize, bits: u32, b: u32) -> u64
+    requires width { IsWidth bits }
+    requires inside { start + b / fields_of bits < length words.old }
+    requires room { count_at words.old start bits b + 1 < 2 ^ bits }
+    ensures first { result ≡ (if nat_eq (count_at words.old start bits b) 0 then 1 else 0) }
+    ensures counted { (c : ℕ) → count_at words.new start bits c ≡ count_at words.old start bits c +
+        (if nat_eq c b then 1 else 0) }
+    ensures others { (i : ℕ) → i ≢ start + b / fields_of bits → slice_index words.new i ≡ slice_index words.old i }
+{
+    let (word, at) = place_of(bits, b);
+    let i = start + word as usize;
+    let first = one_for_none(field(words[i], bits, at));
+    words[i] = raise_field(words[i], bits, at);
+    first
+}
+
+/// Counts the pins of a net in its words, which are zeros, and tells how many blocks it touches.
+fn count_in_words(words: &mut [u64], place: NetPlace, pins: &[u32], blocks: &[u32], k: u32) -> u64
     requires width { place.bits ≡ bits_of (length pins.now) }
     requires few { length pins.now ≤ 2 ^ 25 }
     requires pins { All (λ v. v < length blocks.now) pins.now }
     requires blocks { All (λ b. b < k) blocks.now }
     requires room { place.start + 1 + words_of (length pins.now) k ≤ length words.old }
-    requires zeros { (x : ℕ) → x ≤ words_of (length pins.now) k → slice_index words.old (place.start + x) ≡ 0 }
+    requires zeros { (i : ℕ) → place.start ≤ i → slice_index words.old i ≡ 0 }
+    ensures touched { result ≡ connectivity blocks.now pins.now }
     ensures filled { IsNetFilled blocks.now pins.now k place words.new }
-    ensures others { SameOutside place.start (place.start + 1 + words_of (length pins.now) k) words.old words.new }
+    ensures others { (i : ℕ) → i < place.start → slice_index words.new i ≡ slice_index words.old i }
 {
-    words[place.start as usize] = 64;
+    let start = place.start as usize + 1;
+    let mut touched = 0;
     for v in pins {
-        count_pin(words, place, blocks[*v as usize]);
+        touched += count_pin(words, start, place.bits, blocks[*v as usize]);
     }
+    words[place.start as usize] = 64 + touched;
+    touched
 }
 
-/// Has zeros behind the words, up to a place at least.
-fn reach(words: &mut Vec<u64>, end: usize) -> Result<(), NoMemory>
-    ensures long { OnOk result (end ≤ length words.new.items) }
-    ensures few { OnOk result ((n : ℕ) → length words.old.items ≤ n → end ≤ n → length words.new.items ≤ n) }
-    ensures same { OnOk result ((i : ℕ) → slice_index words.new.items i ≡ slice_index words.old.items i) }
+/// Puts the words of a net behind the others, and tells how many blocks it touches.
+fn add_net(
+    words: &mut Vec<u64>,
+    place: NetPlace,
+    pins: &[u32],
+    blocks: &[u32],
+    k: u32,
+) -> Result<u64, NoMemory>
+    requires place { place.start ≡ length words.old.items }
+    requires width { place.bits ≡ bits_of (length pins.now) }
+    requires few { length pins.now ≤ 2 ^ 25 }
+    requires pins { All (λ v. v < length blocks.now) pins.now }
+    requires blocks { All (λ b. b < k) blocks.now }
+    requires most { k ≤ 256 }
+    ensures touched { IfOk result (λ n. n ≡ connectivity blocks.now pins.now) }
+    ensures wide { OnOk result (length words.new.items ≡ place.start + 1 + words_of (length pins.now) k) }
+    ensures filled { OnOk result (IsNetFilled blocks.now pins.now k place words.new.items) }
+    ensures others { OnOk result ((i : ℕ) → i < place.start → slice_index words.new.items i ≡
+        slice_index words.old.items i) }
 {
-    if words.len() < end {
-        words.resize(end, 0)?;
+    let counts = words_of(pins.len() as u32, k);
+    if counts == 1 {
+        let (touched, word) = count_in_word(place.bits, pins, blocks);
+        words.push(64 + touched)?;
+        words.push(word)?;
+        return Ok(touched);
     }
-    Ok(())
+    words.resize(words.len() + 1 + counts as usize, 0)?;
+    Ok(count_in_words(words.as_mut_slice(), place, pins, blocks, k))
 }
 
-/// How many words to begin with: with few blocks all of them at once, and with more those before the
-/// nets, whose own are then filled as soon as they are there, while they are near.
-fn first_words(k: u32, before: usize, all: usize) -> usize
-    requires { before ≤ all }
-    ensures some { before ≤ result }
-    ensures most { result ≤ all }
+/// What a net pays for the number of blocks that it touches; only a cut net's weight is read.
+fn cost_at(hyper: &Hypergraph, e: u32, objective: Objective, touched: u64) -> u64
+    requires net { e < net_count hyper.now }
+    requires fits { (net_of hyper.now e).weight * costs.price objective touched < 2 ^ 57 }
+    ensures { result ≡ (net_of hyper.now e).weight * costs.price objective touched }
 {
-    if k <= 4 { all } else { before }
+    if touched <= 1 {
+        return 0;
+    }
+    hyper.net_weight(e) * price(objective, touched)
 }
 
-/// Counts the pins of all nets, whose words come behind the others where they aren't there yet.
-fn count_nets(
+/// Puts the words of all nets behind the others, and tells the cost at the opening.
+fn add_nets(
     words: &mut Vec<u64>,
     nets: &[NetPlace],
     hyper: &Hypergraph,
     terms: &Terms,
-) -> Result<(), NoMemory>
+) -> Result<u64, NoMemory>
     requires terms { IsTerms terms.now }
     requires belongs { hyper.now ≡ terms.now.part.hyper }
     requires places { HasNetPlaces (terms_setup terms.now) nets.now }
-    requires before { net_place (terms_setup terms.now) 0 ≤ length words.old.items }
-    requires most { length words.old.items ≤ word_count (terms_setup terms.now) }
-    requires zeros { (i : ℕ) → net_place (terms_setup terms.now) 0 ≤ i → slice_index words.old.items i ≡ 0 }
+    requires before { length words.old.items ≡ net_place (terms_setup terms.now) 0 }
+    ensures cost { IfOk result (λ c. c ≡ cost hyper.now terms.now.part.blocks) }
     ensures wide { OnOk result (length words.new.items ≡ word_count (terms_setup terms.now)) }
     ensures filled { OnOk result (AreNetsFilled terms.now (net_count hyper.now) words.new.items) }
     ensures others { OnOk result ((i : ℕ) → i < net_place (terms_setup terms.now) 0 →
         slice_index words.new.items i ≡ slice_index words.old.items i) }
 {
     let k = terms.part.k();
+    let blocks = terms.part.blocks();
+    let objective = hyper.objective();
+    let mut sum = 0;
     for e in 0..hyper.nets() {
-        let place = nets[e as usize];
-        let pins = hyper.pins(e);
-        let counts = words_of(pins.len() as u32, k);
-        reach(words, place.start as usize + 1 + counts as usize)?;
-        count_net(words.as_mut_slice(), place, pins, terms.part.blocks(), k);
+        let touched = add_net(words, nets[e as usize], hyper.pins(e), blocks, k)?;
+        sum += cost_at(hyper, e, objective, touched);
     }
-    Ok(())
+    Ok(sum)
 }
 
-/// The words at the opening.
+/// The words at the opening, and its cost.
+#[derive(Drop)]
+pub(crate) struct Filled {
+    pub(crate) words: Vec<u64>,
+    pub(crate) cost: u64,
+}
+
+/// Fills the words at the opening, and adds up its cost meanwhile.
 pub(crate) fn fill(
     alloc: Global,
     hyper: &Hypergraph,
     terms: &Terms,
     layout: &Layout,
-) -> Result<Vec<u64>, NoMemory>
+) -> Result<Filled, NoMemory>
     requires terms { IsTerms terms.now }
     requires belongs { hyper.now ≡ terms.now.part.hyper }
     requires nets { HasNetPlaces (terms_setup terms.now) layout.now.nets.items }
     requires words { layout.now.words ≡ word_count (terms_setup terms.now) }
-    ensures wide { IfOk result (λ words. length words.items ≡ word_count (terms_setup terms.now)) }
-    ensures opening { IfOk result (λ words. IsOpening (terms_setup terms.now)
-        (table_readings (terms_setup terms.now) words.items)) }
+    ensures wide { IfOk result (λ f. length f.words.items ≡ word_count (terms_setup terms.now)) }
+    ensures opening { IfOk result (λ f. IsOpening (terms_setup terms.now)
+        (table_readings (terms_setup terms.now) f.words.items)) }
+    ensures cost { IfOk result (λ f. f.cost ≡ cost hyper.now terms.now.part.blocks) }
 {
     let n = hyper.vertices() as usize;
-    let k = terms.part.k();
-    let all = layout.words as usize;
-    let mut words = Vec::with_capacity(alloc, all)?;
-    reach(&mut words, first_words(k, 2 * n + 2 + k as usize, all))?;
+    let before = 2 * n + 2 + terms.part.k() as usize;
+    let mut words = Vec::with_capacity(alloc, layout.words as usize)?;
+    words.resize(before, 0)?;
     let here = words.as_mut_slice();
     write_names(here, n + 2, terms.part.blocks());
     write_loads(here, 2 * n + 2, terms);
-    count_nets(&mut words, layout.nets.as_slice(), hyper, terms)?;
-    Ok(words)
+    let cost = add_nets(&mut words, layout.nets.as_slice(), hyper, terms)?;
+    Ok(Filled { words, cost })
 }

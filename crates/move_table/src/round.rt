@@ -28,6 +28,7 @@ pub struct Round<'h> {
     pub(crate) terms: Terms,
     pub(crate) nets: Vec<NetPlace>,
     pub(crate) table: Table<(), View, Terms, Balanced, Global>,
+    pub(crate) opening_cost: u64,
 }
 
 impl<'h> Model for Round<'h> {
@@ -37,7 +38,8 @@ impl<'h> Model for Round<'h> {
 
     ghost view = { λ r. record { table = r.table.shared.table_id; terms = r.terms } };
 
-    ghost invariant = { λ r. IsRound r.hyper.now r.terms r.nets.items r.table.shared.table_id r.table.shared.key };
+    ghost invariant = { λ r. IsRound r.hyper.now r.terms r.nets.items r.table.shared.table_id r.table.shared.key
+        r.opening_cost };
 }
 
 impl<'h> Round<'h> {

@@ -7,4 +7,4 @@ pub of_words-requires : goal.of_words-requires
 of_words-requires c =
     let t = c.args.terms.now in
     subst (λ ws. IsStanding t ws (first_view t ∷ [])) (sym c.as_slice.ensures.value)
-    (begins t c.in_ok-words.words.items c.requires.terms c.in_ok-words.ensures.wide c.in_ok-words.ensures.opening)
+    (begins t c.in_ok-words.field-0.words.items c.requires.terms c.in_ok-words.ensures.wide c.in_ok-words.ensures.opening)

@@ -1,6 +1,8 @@
-use Rattle.std.proofs.Common.{rules, ◌≡◌, ℕ, ◌<◌, List, length, drop, All, slice_index_or, IsPermutation, sym, ap, ◌∙◌, subst}
+use Rattle.std.proofs.Common.{rules, ◌≡◌, ℕ, ◌<◌, List, length, drop, All, slice_index_or, IsPermutation, sym, ap, ap₂, ◌∙◌, subst}
 use Rattle.hg_defs.specs.declared.moves.Move.{Move}
 use Rattle.hg_defs.specs.Replay.{replay}
+use Rattle.hg_defs.specs.Cost.{cost}
+use Rattle.pin_plain.specs.Parted.{Parted}
 use Rattle.hg_defs.specs.Hypergraph.{Hyper, vertex_count}
 use Rattle.move_table.specs.Calls.{RacedRound, RacedPass}
 use Rattle.move_table.specs.Closing.{all_moves, all_numbers, AreByNumber, IsKeptPass}
@@ -96,7 +98,9 @@ invariant_of-result c =
     let laid = is_laid_out t ps c.as_slice.result.now c.lay_moves.new.moves g c.lay_moves.ensures in
     let wide_out : c.in-Ok.gathered.moves.len ≡ length c.lay_moves.new.moves = search rules in
     let back = written_back c.in-Ok.gathered.moves.len c.lay_moves.new.moves (drop (length c.lay_moves.new.moves) c.in-Ok.gathered.moves.items) wide_out in
-    ended_as t ps c.lay_moves.new.moves c.of-opening.result.value.blocks c.make_moves.new.part c.from_vec.result c.from_vec-2.result laid.ends
-    (search rules)
-    (c.make_moves.ensures ∙ ap (λ (ms : List Move). record t.part { blocks = replay t.part.blocks ms }) (c.as_slice-2.ensures.value ∙ back))
-    (c.from_vec.ensures ∙ back) (search rules)
+    let opened : c.of-opening.result.value.blocks ≡ t.part.blocks = search rules in (
+      ended_as t ps c.lay_moves.new.moves c.of-opening.result.value.blocks c.make_moves.new.part c.from_vec.result c.from_vec-2.result laid.ends opened
+          (c.make_moves.ensures ∙ ap (λ (ms : List Move). record t.part { blocks = replay t.part.blocks ms }) (c.as_slice-2.ensures.value ∙ back))
+          (c.from_vec.ensures ∙ back) (search rules),
+      c.self.invariant.priced ∙ sym (ap₂ cost (ap (λ (p : Parted). p.hyper) c.make_moves.ensures) opened),
+    )
