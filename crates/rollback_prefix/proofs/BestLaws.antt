@@ -1,5 +1,5 @@
 -- Laws of the best prefix that was found among the first ones.
-use Rattle.std.proofs.Common.{◌≡◌, ℕ, ◌+◌, ◌<◌, ◌≤◌, ◌⊎◌, inl, inr, true, false, ℤ, pos, ◌-ℤ◌, List, length, sym, ap, ◌∙◌, subst, arith}
+use Rattle.std.proofs.Common.{◌≡◌, ℕ, ◌+◌, ◌-◌, ◌<◌, ◌≤◌, ◌⊎◌, inl, inr, true, false, ℤ, pos, ◌-ℤ◌, nat_abs, List, length, sym, ap, ◌∙◌, subst, arith}
 use lib.Signed.{lt_z}
 use Rattle.std.proofs.lemmas.Int.{ints}
 use Rattle.std.proofs.lemmas.List.{take_all}
@@ -86,3 +86,9 @@ above m s x j n e f t = omega (arith, ints)
 
 pub not_above : (m s : ℤ) (x j n : ℕ) → m ≡ pos x -ℤ pos j → s ≡ pos x -ℤ pos n → lt_z m s ≡ false → j ≤ n
 not_above m s x j n e f t = omega (arith, ints)
+
+-- a sum that isn't negative is kept where it is made a number
+pub sum_kept : (m : ℤ) (x j : ℕ) → m ≡ pos x -ℤ pos j → j ≤ x → pos (nat_abs m) ≡ pos x -ℤ pos j
+sum_kept m x j e l =
+    let same : m ≡ pos (x - j) = omega (arith, ints) in
+    ap (λ z. pos (nat_abs z)) same ∙ omega (arith, ints)

@@ -8,7 +8,7 @@ mod pins;
 mod prefix;
 
 pub use gains::recalculate;
-pub use prefix::roll_back;
+pub use prefix::{Kept, keep_best, roll_back};
 
 #[cfg(test)]
 mod tests;

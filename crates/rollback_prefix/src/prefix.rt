@@ -1,9 +1,10 @@
 //! The prefix of moves that is worth keeping.
 
 ghost use Rattle.std.specs.Prelude.{◌≡◌, ℕ, ◌+◌, ◌-◌, ◌<◌, ◌≤◌, ◌^◌, All, IfOk, OnErr};
-ghost use Rattle.std.specs.Prelude.{length, slice_index, slice_set};
+ghost use Rattle.std.specs.Prelude.{length, slice_index, slice_set, pos, ◌-ℤ◌};
 ghost use Rattle.hg_defs.specs.Hypergraph.{vertex_count, IsHypergraph, IsWithinLimits};
 ghost use Rattle.hg_defs.specs.Partition.{IsPartition, Fits};
+ghost use Rattle.hg_defs.specs.Cost.{cost};
 ghost use Rattle.hg_defs.specs.Replay.{replay_first, undone, best_prefix};
 ghost use Rattle.pin_plain.specs.Parted.{IsLoaded, loads_after};
 ghost use Rattle.rollback_prefix.specs.Steps.{StartFrom, EndAt, AreReplayGains};
@@ -15,6 +16,15 @@ use incidence::Hypergraph;
 use pin_plain::Partition;
 use std::alloc::Global;
 use std::thread::Threads;
+
+/// What is kept of moves: the length of their best prefix, and what it saves.
+#[derive(Clone, Copy, Debug, PartialEq, Eq)]
+pub struct Kept {
+    /// So many moves are kept.
+    pub length: u32,
+    /// The cost before the moves less the cost after those that are kept.
+    pub saved: u64,
+}
 
 /// The load of each block.
 fn loads_of(alloc: Global, p: &Partition) -> Result<Vec<u64>, NoMemory>
@@ -57,24 +67,26 @@ fn set_load(loads: &mut [u64], limit: u64, over: u32, b: u32, load: u64) -> u32
     others + u32::from(load > limit)
 }
 
-/// The length of the shortest best prefix of moves that start from `before`, a partition with these
-/// loads, by the gains that they have as they are replayed.
-fn best_length(
+/// The shortest best prefix of moves that start from `before`, a partition with these loads, by the gains
+/// that they have as they are replayed.
+fn best_kept(
     h: &Hypergraph,
     before: &[u32],
     moves: &[Move],
     gains: &[i64],
     limit: u64,
     loads: &mut [u64],
-) -> usize
+) -> Kept
     requires few { length loads.old ≤ 256 }
     requires partition { IsPartition h.now (length loads.old) before.now }
     requires moves { StartFrom h.now (length loads.old) before.now moves.now }
     requires gains { AreReplayGains h.now before.now moves.now gains.now }
     requires loaded { IsLoaded h.now (length loads.old) before.now loads.old }
     requires fits { Fits h.now (length loads.old) limit before.now }
-    ensures best { result ≡ best_prefix h.now (length loads.old) limit before.now moves.now }
-    ensures within { result ≤ length moves.now }
+    ensures best { result.length ≡ best_prefix h.now (length loads.old) limit before.now moves.now }
+    ensures within { result.length ≤ length moves.now }
+    ensures saved { pos result.saved ≡ pos (cost h.now before.now) -ℤ pos (cost h.now (replay_first before.now moves.now
+        result.length)) }
 {
     let _vertices = h.vertices();
     let (mut kept, mut most, mut saved, mut over) = (0, 0, 0, 0);
@@ -90,7 +102,10 @@ fn best_length(
             most = saved;
         }
     }
-    kept
+    Kept {
+        length: kept as u32,
+        saved: most as u64,
+    }
 }
 
 /// Undoes moves in a partition.
@@ -106,11 +121,47 @@ fn undo(h: &Hypergraph, p: &mut Partition, moves: &[Move])
 }
 
 /// Undoes the moves behind the shortest best prefix: the shortest of those prefixes that fit and cost
-/// no more than any prefix that fits. Answers its length.
+/// no more than any prefix that fits. Answers its length, and what it saves, so that no cost need be
+/// counted anew.
 ///
 /// The partition stands after all the moves, which are of different vertices, and the partition before
 /// them fits. The gains are recalculated as the moves are replayed, so that the moves may book what
 /// they like. All memory is taken before the partition is changed.
+pub fn keep_best<R: Threads + Sync>(
+    rt: &R,
+    alloc: Global,
+    h: &Hypergraph,
+    p: &mut Partition,
+    moves: &[Move],
+) -> Result<Kept, NoMemory>
+    requires belongs { p.old.hyper ≡ h.now }
+    requires moves { EndAt h.now p.old.k p.old.blocks moves.now }
+    requires fits { Fits h.now p.old.k p.old.limit (undone p.old.blocks moves.now) }
+    ensures length { IfOk result (λ kept. kept.length ≡ best_prefix h.now p.old.k p.old.limit (undone p.old.blocks
+        moves.now) moves.now) }
+    ensures saved { IfOk result (λ kept. pos kept.saved ≡ pos (cost h.now (undone p.old.blocks moves.now)) -ℤ pos
+        (cost h.now (replay_first (undone p.old.blocks moves.now) moves.now kept.length))) }
+    ensures partition { IfOk result (λ kept. p.new ≡ record p.old
+        { blocks = replay_first (undone p.old.blocks moves.now) moves.now kept.length }) }
+    ensures refused { OnErr result (p.new ≡ p.old) }
+{
+    let mut before = Vec::from_slice(alloc, p.blocks())?;
+    let mut loads = loads_of(alloc, p)?;
+    undo_in_lists(h, moves, before.as_mut_slice(), loads.as_mut_slice());
+    let gains = recalculate(rt, alloc, h, p.k(), before.as_slice(), moves)?;
+    let kept = best_kept(
+        h,
+        before.as_slice(),
+        moves,
+        gains.slice(),
+        p.limit(),
+        loads.as_mut_slice(),
+    );
+    undo(h, p, &moves[kept.length as usize..]);
+    Ok(kept)
+}
+
+/// Undoes the moves behind the shortest best prefix, as [`keep_best`] does, and answers its length.
 pub fn roll_back<R: Threads + Sync>(
     rt: &R,
     alloc: Global,
@@ -127,18 +178,5 @@ pub fn roll_back<R: Threads + Sync>(
         { blocks = replay_first (undone p.old.blocks moves.now) moves.now kept }) }
     ensures refused { OnErr result (p.new ≡ p.old) }
 {
-    let mut before = Vec::from_slice(alloc, p.blocks())?;
-    let mut loads = loads_of(alloc, p)?;
-    undo_in_lists(h, moves, before.as_mut_slice(), loads.as_mut_slice());
-    let gains = recalculate(rt, alloc, h, p.k(), before.as_slice(), moves)?;
-    let kept = best_length(
-        h,
-        before.as_slice(),
-        moves,
-        gains.slice(),
-        p.limit(),
-        loads.as_mut_slice(),
-    );
-    undo(h, p, &moves[kept..]);
-    Ok(kept as u32)
+    Ok(keep_best(rt, alloc, h, p, moves)?.length)
 }

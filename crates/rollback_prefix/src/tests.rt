@@ -3,7 +3,7 @@ ghost use Rattle.hg_defs.specs.Hypergraph.{vertex_count};
 ghost use Rattle.hg_defs.specs.Replay.{undone};
 ghost use Rattle.rollback_prefix.specs.Steps.{EndAt};
 
-use crate::{recalculate, roll_back};
+use crate::{Kept, keep_best, recalculate, roll_back};
 use hg_base::{Blocks, FlatHyper, Move, NoMemory};
 use incidence::Hypergraph;
 use pin_plain::Partition;
@@ -102,8 +102,13 @@ fn parted(
     Ok(Partition::of(alloc, h, 2, limit, blocks)?)
 }
 
-/// Rolls the moves back, and checks how many are kept and what they leave.
-fn try_roll_back<R: Threads + Sync + Abort>(
+/// So many moves, which save so much.
+fn kept(length: u32, saved: u64) -> Kept {
+    Kept { length, saved }
+}
+
+/// Rolls the moves back, and checks how many are kept, what they save and what they leave.
+fn try_keep_best<R: Threads + Sync + Abort>(
     rt: &R,
     alloc: Global,
     h: &Hypergraph,
@@ -111,7 +116,7 @@ fn try_roll_back<R: Threads + Sync + Abort>(
     before: &[u32],
     after: &[u32],
     moves: &[Move],
-    kept: u32,
+    kept: Kept,
     cost: u64,
 ) -> Result<(), Fail>
     requires moves { EndAt h.now 2 after.now moves.now }
@@ -119,8 +124,10 @@ fn try_roll_back<R: Threads + Sync + Abort>(
 {
     assert!(rt; parted(rt, alloc, h, limit, before)?.fits());
     let mut p = parted(rt, alloc, h, limit, after)?;
-    assert_eq!(rt; roll_back(rt, alloc, h, &mut p, moves)?, kept);
+    assert!(rt; keep_best(rt, alloc, h, &mut p, moves)? == kept);
     assert_eq!(rt; p.cost(h), cost);
+    let mut q = parted(rt, alloc, h, limit, after)?;
+    assert_eq!(rt; roll_back(rt, alloc, h, &mut q, moves)?, kept.length);
     Ok(())
 }
 
@@ -141,9 +148,39 @@ fn prefixes(rt: HostRuntime) -> Result<(), Fail> {
     let alloc = rt.alloc();
     let (before, after) = ([0, 0, 1, 0, 0, 1], [1, 1, 0, 1, 0, 1]);
     let h = four_nets(alloc, 1)?;
-    try_roll_back(&rt, alloc, &h, 4, &before, &after, FOUR.as_slice(), 2, 9)?;
+    try_keep_best(
+        &rt,
+        alloc,
+        &h,
+        4,
+        &before,
+        &after,
+        FOUR.as_slice(),
+        kept(2, 1),
+        9,
+    )?;
     let h = four_nets(alloc, 2)?;
-    try_roll_back(&rt, alloc, &h, 5, &before, &after, FOUR.as_slice(), 3, 9)?;
+    try_keep_best(
+        &rt,
+        alloc,
+        &h,
+        5,
+        &before,
+        &after,
+        FOUR.as_slice(),
+        kept(3, 1),
+        9,
+    )?;
     let h = one_net(alloc)?;
-    try_roll_back(&rt, alloc, &h, 2, &[0, 1], &[1, 0], SWAP.as_slice(), 1, 0)
+    try_keep_best(
+        &rt,
+        alloc,
+        &h,
+        2,
+        &[0, 1],
+        &[1, 0],
+        SWAP.as_slice(),
+        kept(1, 5),
+        0,
+    )
 }

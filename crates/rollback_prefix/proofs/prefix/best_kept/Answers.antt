@@ -2,13 +2,15 @@ use Rattle.std.proofs.Common.{arith, pos, length, sym, ap, ◌∙◌, subst, ◌
 use Rattle.std.proofs.lemmas.Int.{ints}
 use Rattle.hg_defs.specs.Cost.{cost}
 use Rattle.hg_defs.specs.Replay.{replay_first}
+use Rattle.hg_defs.specs.Hypergraph.{vertex_count}
 use Rattle.hg_base.proofs.CountLaws.{cost-lt}
+use Rattle.round_log.proofs.FewMoves.{few_moves}
 use Rattle.rollback_prefix.proofs.LoadLaws.{none_past, fits_from, next_held, next_room, next_loaded, saved_more}
-use Rattle.rollback_prefix.proofs.BestLaws.{IsBestUpTo, best_first, best_new, best_same, best_is, above, not_above}
-use Rattle.rollback_prefix.proofs.prefix.best_length.Goals as goal
-use Rattle.rollback_prefix.proofs.prefix.best_length.Goals.{then-over-eq0+then-saved-most, else-over-eq0}
-use Rattle.rollback_prefix.proofs.prefix.best_length.Goals.{else-over-eq0-via-then-over-eq0+else-saved-most}
-use Rattle.rollback_prefix.proofs.prefix.best_length.Goals.{else-over-eq0-via-else-over-eq0}
+use Rattle.rollback_prefix.proofs.BestLaws.{IsBestUpTo, best_first, best_new, best_same, best_is, above, not_above, sum_kept}
+use Rattle.rollback_prefix.proofs.prefix.best_kept.Goals as goal
+use Rattle.rollback_prefix.proofs.prefix.best_kept.Goals.{then-over-eq0+then-saved-most, else-over-eq0}
+use Rattle.rollback_prefix.proofs.prefix.best_kept.Goals.{else-over-eq0-via-then-over-eq0+else-saved-most}
+use Rattle.rollback_prefix.proofs.prefix.best_kept.Goals.{else-over-eq0-via-else-over-eq0}
 
 pub loop-i-init : goal.loop-i-init
 loop-i-init c = record {
@@ -91,6 +93,20 @@ loop-i-preserved c =
       }
     ]
 
+pub overflow_cast-result : goal.overflow_cast-result
+overflow_cast-result c =
+    let few = few_moves (vertex_count c.args.h.now) c.args.moves.now (λ j d l. (c.requires.moves.each j d l).vertex) c.requires.moves.once in
+    let within = c.loop-i.invariant.best.within in
+    let bounds = c.vertices-vertices.ensures.bounds.vertices in
+    omega arith
+
+pub overflow_cast-result-2 : goal.overflow_cast-result-2
+overflow_cast-result-2 c =
+    let most = c.loop-i.invariant.most in
+    let bound = cost-lt c.args.h.now c.args.before.now c.vertices-vertices.ensures.bounds in
+    let less = c.loop-i.invariant.best.cheapest 0 (omega arith) c.requires.fits in
+    omega (arith, ints)
+
 pub returns-clause-best : goal.returns-clause-best
 returns-clause-best c = best_is c.args.h.now (length c.args.loads.now) c.args.limit c.args.before.now c.args.moves.now c.loop-i.i c.loop-i.kept
     (omega arith)
@@ -98,3 +114,9 @@ returns-clause-best c = best_is c.args.h.now (length c.args.loads.now) c.args.li
 
 pub returns-clause-within : goal.returns-clause-within
 returns-clause-within c = let w = c.loop-i.invariant.best.within in omega arith
+
+pub returns-clause-saved : goal.returns-clause-saved
+returns-clause-saved c =
+    let less = c.loop-i.invariant.best.cheapest 0 (omega arith) c.requires.fits in
+    sum_kept _ (cost c.args.h.now c.args.before.now) (cost c.args.h.now (replay_first c.args.before.now c.args.moves.now c.loop-i.kept))
+    c.loop-i.invariant.most less

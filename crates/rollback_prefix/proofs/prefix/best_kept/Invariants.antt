@@ -4,7 +4,7 @@ use Rattle.hg_defs.specs.Replay.{replay_first}
 use Rattle.pin_plain.specs.Parted.{IsLoaded}
 use Rattle.rollback_prefix.specs.Loads.{overloaded}
 use Rattle.rollback_prefix.proofs.BestLaws.{IsBestUpTo}
-use Rattle.rollback_prefix.proofs.prefix.best_length.Given as goal
+use Rattle.rollback_prefix.proofs.prefix.best_kept.Given as goal
 
 -- the loads and the cost after the moves so far, and the best prefix of them
 abbrev pub invariant-loop-i : goal.invariant-loop-i
