@@ -1,5 +1,5 @@
 -- Passes that have done nothing may be closed.
-use Rattle.std.proofs.Common.{◌≡◌, List, refl}
+use Rattle.std.proofs.Common.{List, refl}
 use Rattle.move_table.specs.Calls.{RacedRound, RacedPass, AreFresh}
 use Rattle.move_table.specs.Closing.{ArePassesOf}
 

@@ -1,5 +1,5 @@
 -- Laws of a closed round that is rolled back and recorded.
-use Rattle.std.proofs.Common.{◌≡◌, ℕ, ◌<◌, ◌^◌, List, ℤ, pos, ◌+ℤ◌, ◌-ℤ◌, to_z, of_z, length, get_or, All, sym, ap, ◌∙◌, subst, arith}
+use Rattle.std.proofs.Common.{◌≡◌, ℕ, ◌-◌, ◌<◌, ◌^◌, List, ℤ, pos, ◌+ℤ◌, ◌-ℤ◌, to_z, of_z, length, get_or, All, sym, ap, ◌∙◌, subst, arith}
 use mir.Syntax.{w128}
 use Rattle.std.proofs.lemmas.Int.{ints}
 use Rattle.std.proofs.lemmas.List.Elements.{Contains-get_or}
@@ -24,6 +24,10 @@ use Rattle.refiner.specs.Racing.{RecordsRace}
 pub before_is : (f s : ℤ) (o m r : ℕ) → f ≡ pos r → r ≡ m → s ≡ pos o -ℤ pos m → o < 2 ^ 57 → m < 2 ^ 57
     → to_z w128 (of_z w128 (to_z w128 (of_z w128 f) +ℤ to_z w128 (of_z w128 s))) ≡ pos o
 before_is f s o m r a b c d e = omega (arith, ints)
+
+-- what is left of a cost where something is saved
+pub after_is : (saved o n before : ℕ) → before ≡ o → pos saved ≡ pos o -ℤ pos n → before - saved ≡ n
+after_is saved o n before a b = omega (arith, ints)
 
 -- ---- a partition that stands after its moves
 

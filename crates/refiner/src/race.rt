@@ -12,7 +12,7 @@ ghost use Rattle.refiner.specs.Racing.{RecordsRace};
 use hg_base::{Gains, Items, NoMemory};
 use incidence::Hypergraph;
 use pin_plain::Partition;
-use rollback_prefix::roll_back;
+use rollback_prefix::keep_best;
 use round_log::{Kind, LoggedRound, Moves};
 use std::alloc::Global;
 use std::thread::Threads;
@@ -55,16 +55,16 @@ pub(crate) fn record_race<R: Threads + Sync>(
     let _parted = part.blocks();
     let made = part.cost(h);
     let before = (i128::from(made) + sum_of(gains.slice())) as u64;
-    let kept = roll_back(rt, alloc, h, part, moves.slice())?;
+    let kept = keep_best(rt, alloc, h, part, moves.slice())?;
     Ok(LoggedRound {
         kind,
         level,
         moves,
-        kept,
+        kept: kept.length,
         gains,
         before,
         made,
-        after: part.cost(h),
+        after: before - kept.saved,
         first: 0,
         second: 0,
         region: Items::new(alloc),

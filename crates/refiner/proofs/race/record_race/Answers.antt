@@ -6,9 +6,8 @@ use Rattle.hg_defs.specs.Partition.{IsPartition, Fits}
 use Rattle.hg_defs.specs.Cost.{cost}
 use Rattle.hg_defs.specs.Replay.{undone, replay_first, best_prefix}
 use Rattle.hg_defs.specs.declared.moves.Move.{Move}
-use Rattle.pin_plain.specs.Parted.{Parted}
 use Rattle.hg_base.proofs.CountLaws.{cost-lt}
-use Rattle.refiner.proofs.RaceLaws.{before_is, replayed_again}
+use Rattle.refiner.proofs.RaceLaws.{before_is, after_is, replayed_again}
 use Rattle.refiner.proofs.race.record_race.Goals as goal
 
 pub overflow_add-before : goal.overflow_add-before
@@ -61,10 +60,12 @@ returns-clause-round g c =
         before = before;
         made = c.cost-made.ensures.value ∙ ap (cost c.args.h.now) (sym again);
         fits = subst (Fits c.args.h.now c.args.part.now.k c.args.part.now.limit) (sym again) c.requires.fits;
-        kept = c.in_ok-kept.ensures.kept ∙ ap (λ (xs : List Move). best_prefix c.args.h.now c.args.part.now.k c.args.part.now.limit
+        kept = c.in_ok-kept.ensures.length ∙ ap (λ (xs : List Move). best_prefix c.args.h.now c.args.part.now.k c.args.part.now.limit
             (undone c.args.part.now.blocks xs) xs) c.slice-2.ensures;
-        after = c.cost.ensures.value ∙ ap (λ (x : Parted). cost c.args.h.now x.blocks) c.in_ok-kept.ensures.partition
-            ∙ ap (λ (xs : List Move). cost c.args.h.now (replay_first (undone c.args.part.now.blocks xs) xs c.in_ok-kept.kept)) c.slice-2.ensures;
+        after = after_is c.in_ok-kept.kept.saved (cost c.args.h.now opening) (cost c.args.h.now (replay_first opening c.args.moves
+            c.in_ok-kept.kept.length)) _ before (c.in_ok-kept.ensures.saved ∙ ap (λ (xs : List Move). pos (cost c.args.h.now
+            (undone c.args.part.now.blocks xs)) -ℤ pos (cost c.args.h.now
+            (replay_first (undone c.args.part.now.blocks xs) xs c.in_ok-kept.kept.length))) c.slice-2.ensures);
         no_pair = record { first = refl; second = refl; value = refl; region = c.new.ensures };
       };
     }
