@@ -1,3 +1,4 @@
+pub mod CutLaws
 pub mod WishLaws
 pub mod GrantLaws
 pub mod RoundLaws

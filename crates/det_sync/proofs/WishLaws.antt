@@ -1,33 +1,30 @@
--- Laws of wishes: part by part, and in their order.
+-- Laws of wishes: part by part, of the vertices on cut nets alone, and in their order.
 use Rattle.std.proofs.Common.{◌≡◌, ℕ, zero, suc, ◌+◌, ◌-◌, ◌<◌, ◌≤◌, ◌⊎◌, inl, inr, List, [], ◌∷◌, ◌++◌}
 use Rattle.std.proofs.Common.{map, filter, cond, take, drop, All, IsPermutation}
 use Rattle.std.proofs.Common.{Option, Some, None, option_map, option_to_list, is_some, get_or, length}
-use Rattle.std.proofs.Common.{IsSorted, Ordering, Less, Equal, Greater, is_lt, nat_cmp, false, refl, sym, ap, ap₂, ◌∙◌, subst, arith}
-use Rattle.std.specs.List.{range_with_len}
+use Rattle.std.proofs.Common.{Bool, true, ◌||◌, true≢false, IsSorted, Ordering, Less, Equal, Greater, is_lt, nat_cmp, false, refl, sym, ap, ap₂, ◌∙◌, subst, arith}
+use Rattle.std.specs.List.{range_with_len, list_any}
 use Rattle.std.specs.Ordering.{ordering_then}
+use Rattle.std.proofs.Math.Seq.{take-add}
 use Rattle.std.proofs.lemmas.Bool.{cases_lt}
-use Rattle.std.proofs.lemmas.List.{append_assoc, length-map, get_or-map, take_all, take-append-le, length_push, get_or_append_left, get_or_push}
-use Rattle.std.proofs.lemmas.List.Elements.{All-nil, All-cons}
+use Rattle.std.proofs.lemmas.List.{append_assoc, length-map, get_or-map, length_push, get_or_append_left, get_or_push}
+use Rattle.std.proofs.lemmas.List.Elements.{All-nil, All-cons, All-head, All-tail}
 use Rattle.std.proofs.lemmas.List.Sorted.{All-permutation, IsPermutation-map}
 use Rattle.hg_defs.specs.Sorting.{sorted}
-use Rattle.hg_defs.specs.Hypergraph.{Hyper, vertices}
+use Rattle.hg_defs.specs.Hypergraph.{Hyper, IsHypergraph, vertex_count, net_count, vertices}
+use Rattle.hg_defs.specs.Partition.{IsPartition}
+use Rattle.hg_defs.specs.Incidence.{is_on, nets_of}
 use Rattle.hg_defs.specs.LeastLoaded.{heavier_first}
 use Rattle.hg_defs.specs.Moves.{best_block}
 use Rattle.hg_defs.specs.Synchronous.{wish, saving}
 use Rattle.hg_defs.proofs.SortLaws.{sort_is, heavier_first_total, heavier_first_exact}
 use Rattle.pin_plain.specs.BestMoves.{ranked, best_moves}
+use Rattle.pin_plain.proofs.InnerLaws.{inner_stays}
+use Rattle.det_sync.specs.CutNets.{is_cut, cut_nets, is_on_one, held_by}
 use Rattle.det_sync.specs.Wishes.{Wish, AreWishes, AreCuts, part_at}
+use Rattle.det_sync.proofs.CutLaws.{range_below}
 
 -- ---- parts
-
-range_append : (a m n : ℕ) → range_with_len a (m + n) ≡ range_with_len a m ++ range_with_len (a + m) n
-range_append a zero n = let e : a + 0 ≡ a = omega arith in let f : zero + n ≡ n = omega arith in
-    ap (range_with_len a) f ∙ ap (λ b. range_with_len b n) (sym e)
-range_append a (suc m) n =
-    let e : a + 1 + m ≡ a + suc m = omega arith in
-    let f : suc m + n ≡ suc (m + n) = omega arith in
-    ap (range_with_len a) f
-    ∙ ap (λ xs. a ∷ xs) (range_append (a + 1) m n ∙ ap (λ b. range_with_len (a + 1) m ++ range_with_len b n) e)
 
 module _ (h : Hyper) (k l : ℕ) (p : List ℕ) where
   best_moves-append : (us vs : List ℕ) → best_moves h k l p (us ++ vs) ≡ best_moves h k l p us ++ best_moves h k l p vs
@@ -37,23 +34,60 @@ module _ (h : Hyper) (k l : ℕ) (p : List ℕ) where
       ∙ sym (append_assoc (option_to_list (option_map (ranked h p u) (best_block h l p u k))) (best_moves h k l p us) (best_moves h k l p vs))
 
   -- the wishes of the parts so far, and those of one more
-  pub parts_more : (cuts : List ℕ) (n i : ℕ) (old part : List Wish) → AreCuts n cuts → i + 1 < length cuts
-      → old ≡ best_moves h k l p (range_with_len 0 (get_or cuts i 0)) → part ≡ best_moves h k l p (part_at cuts i)
-      → old ++ part ≡ best_moves h k l p (range_with_len 0 (get_or cuts (i + 1) 0))
-  parts_more cuts n i old part are low is next =
+  pub parts_more : (listed cuts : List ℕ) (n i : ℕ) (old part : List Wish) → AreCuts n cuts → i + 1 < length cuts
+      → old ≡ best_moves h k l p (take (get_or cuts i 0) listed) → part ≡ best_moves h k l p (part_at listed cuts i)
+      → old ++ part ≡ best_moves h k l p (take (get_or cuts (i + 1) 0) listed)
+  parts_more listed cuts n i old part are low is next =
       joined (get_or cuts i 0) (get_or cuts (i + 1) 0) (are.rising i low) is next
     where
-      joined : (a b : ℕ) → a ≤ b → old ≡ best_moves h k l p (range_with_len 0 a) → part ≡ best_moves h k l p (range_with_len a (b - a))
-          → old ++ part ≡ best_moves h k l p (range_with_len 0 b)
+      joined : (a b : ℕ) → a ≤ b → old ≡ best_moves h k l p (take a listed) → part ≡ best_moves h k l p (take (b - a) (drop a listed))
+          → old ++ part ≡ best_moves h k l p (take b listed)
       joined a b low is next =
-          let start : 0 + a ≡ a = omega arith in
           let all : a + (b - a) ≡ b = omega arith in
           ap (λ xs. xs ++ part) is
-          ∙ ap (λ xs. best_moves h k l p (range_with_len 0 a) ++ xs)
-          (next ∙ ap (λ c. best_moves h k l p (range_with_len c (b - a))) (sym start))
-          ∙ sym (best_moves-append (range_with_len 0 a) (range_with_len (0 + a) (b - a)))
-          ∙ ap (best_moves h k l p) (sym (range_append 0 a (b - a)))
-          ∙ ap (λ m. best_moves h k l p (range_with_len 0 m)) all
+          ∙ ap (λ xs. best_moves h k l p (take a listed) ++ xs) next
+          ∙ sym (best_moves-append (take a listed) (take (b - a) (drop a listed)))
+          ∙ ap (best_moves h k l p) (sym (take-add a (b - a) listed))
+          ∙ ap (λ m. best_moves h k l p (take m listed)) all
+
+  -- ---- the vertices that are asked
+
+  -- those that a test leaves out are not missed where they have no best block
+  best_moves-filter : (test : ℕ → Bool) (vs : List ℕ) → All (λ v. test v ≡ false → best_block h l p v k ≡ None) vs
+      → best_moves h k l p (filter test vs) ≡ best_moves h k l p vs
+  best_moves-filter test [] none = refl
+  best_moves-filter test (v ∷ vs) none =
+      by (test v) refl
+      (best_moves-filter test vs (All-tail (λ u. test u ≡ false → best_block h l p u k ≡ None) v vs none))
+    where
+      by : (t : Bool) → test v ≡ t → best_moves h k l p (filter test vs) ≡ best_moves h k l p vs
+          → best_moves h k l p (cond t (v ∷ filter test vs) (filter test vs)) ≡ best_moves h k l p (v ∷ vs)
+      by true e rest = ap (λ xs. option_to_list (option_map (ranked h p v) (best_block h l p v k)) ++ xs) rest
+      by false e rest =
+          rest
+          ∙ ap (λ (o : Option ℕ). option_to_list (option_map (ranked h p v) o) ++ best_moves h k l p vs)
+          (sym (All-head (λ u. test u ≡ false → best_block h l p u k ≡ None) v vs none e))
+
+  -- where none of the cut nets among these holds a vertex, none of those among them that hold it is cut
+  uncut : (v : ℕ) (es : List ℕ) → list_any (is_on h v) (filter (is_cut h p) es) ≡ false → All (λ e. is_cut h p e ≡ false) (filter (is_on h v) es)
+  uncut v [] off = All-nil (λ e. is_cut h p e ≡ false)
+  uncut v (e ∷ es) off = by (is_cut h p e) (is_on h v e) refl refl off (uncut v es)
+    where
+      by : (c t : Bool) → is_cut h p e ≡ c → is_on h v e ≡ t
+          → list_any (is_on h v) (cond c (e ∷ filter (is_cut h p) es) (filter (is_cut h p) es)) ≡ false
+          → (list_any (is_on h v) (filter (is_cut h p) es) ≡ false → All (λ x. is_cut h p x ≡ false) (filter (is_on h v) es))
+          → All (λ x. is_cut h p x ≡ false) (cond t (e ∷ filter (is_on h v) es) (filter (is_on h v) es))
+      by true true c t o rest = absurd (true≢false (ap (λ x. x || list_any (is_on h v) (filter (is_cut h p) es)) (sym t) ∙ o))
+      by true false c t o rest = rest (ap (λ x. x || list_any (is_on h v) (filter (is_cut h p) es)) (sym t) ∙ o)
+      by false true c t o rest = All-cons (λ x. is_cut h p x ≡ false) e (filter (is_on h v) es) c (rest o)
+      by false false c t o rest = rest o
+
+  -- only vertices on cut nets have wishes
+  pub asked_all : IsHypergraph h → IsPartition h k p → best_moves h k l p (held_by h (cut_nets h p)) ≡ best_moves h k l p (vertices h)
+  asked_all good whole =
+      best_moves-filter (is_on_one h (cut_nets h p)) (vertices h)
+      (range_below (λ v. is_on_one h (cut_nets h p) v ≡ false → best_block h l p v k ≡ None) (vertex_count h)
+      (λ v low off. inner_stays h k l p v good whole low (uncut v (range_with_len 0 (net_count h)) off)))
 
 -- ---- cuts
 
@@ -185,7 +219,3 @@ module _ (h : Hyper) (k l : ℕ) (p : List ℕ) where
         ∙ ap (sorted heavier_first) (keys_are (vertices h)));
     each = All-permutation (λ (w : Wish). wish h k l p w.1 ≡ Some w.2) (best_moves h k l p (vertices h)) ws moved (each_is (vertices h));
   }
-
--- what was written back into a list as long
-pub written : {X : Type 0} → (n : ℕ) (new old : List X) → length new ≡ n → take n (new ++ drop (length new) old) ≡ new
-written n new old e = take-append-le n new (drop (length new) old) (omega arith) ∙ take_all n new (omega arith)

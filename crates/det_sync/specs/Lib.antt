@@ -1,3 +1,4 @@
+pub mod CutNets
 pub mod Wishes
 pub mod Rounds
 pub mod Descent

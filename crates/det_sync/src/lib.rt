@@ -1,6 +1,7 @@
 //! The deterministic mode: levels by pairing, the best named placement, and synchronous rounds.
 #![tactic(auto)]
 
+mod cut;
 mod descent;
 mod levels;
 mod rounds;

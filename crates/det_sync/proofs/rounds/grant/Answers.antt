@@ -5,7 +5,7 @@ use Rattle.hg_defs.specs.Partition.{IsPartition}
 use Rattle.rollback_prefix.specs.Steps.{StartFrom, AreReplayGains}
 use Rattle.det_sync.specs.Rounds.{AreBooked}
 use Rattle.det_sync.proofs.RoundLaws.{unbooked_start, booked_are}
-use Rattle.det_sync.proofs.WishLaws.{written}
+use Rattle.det_sync.proofs.CutLaws.{written}
 use Rattle.det_sync.proofs.rounds.grant.Goals as goal
 
 pub recalculate-requires-clause-moves : goal.recalculate-requires-clause-moves

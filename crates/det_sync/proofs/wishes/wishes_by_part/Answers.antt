@@ -1,4 +1,4 @@
-use Rattle.std.proofs.Common.{◌≡◌, ℕ, ◌+◌, ◌<◌, ◌-◌, ◌∙◌, length, get_or, ap, arith, List, subst, IfOk}
+use Rattle.std.proofs.Common.{◌≡◌, ℕ, ◌+◌, ◌<◌, ◌-◌, ◌∙◌, length, get_or, ap, arith, List, All, subst, IfOk}
 use Rattle.std.specs.List.{range_with_len}
 use Rattle.std.proofs.lemmas.List.FromFn.{length-range_with_len, get_or-range_with_len}
 use Rattle.hg_defs.specs.Hypergraph.{vertex_count}
@@ -14,9 +14,10 @@ collect-requires-clause-ready g c κs within =
     let ends = c.into_par_iter.ensures in
     let some = c.requires.cuts.some in
     let inside = nat_range-All
-    (λ i. (i + 1 < length c.args.cuts.now) × AreCuts (vertex_count c.args.h.now) c.args.cuts.now × (c.args.p.now.hyper ≡ c.args.h.now))
+    (λ i. (i + 1 < length c.args.cuts.now) × AreCuts (length c.args.listed.now) c.args.cuts.now × All (λ v. v < vertex_count c.args.h.now) c.args.listed.now
+    × (c.args.p.now.hyper ≡ c.args.h.now))
     0 (length c.args.cuts.now - 1)
-    (λ i low high. (omega arith, c.requires.cuts, c.requires.belongs)) in
+    (λ i low high. (omega arith, c.requires.cuts, c.requires.vertices, c.requires.belongs)) in
     rw (c.with_min_len.ensures.base, c.map.ensures.base, c.map.ensures.f, ends.0, ends.1) (λ k d lt. (inside k d lt, λ y p. tt))
 
 pub returns-clause-whole : goal.returns-clause-whole
@@ -49,6 +50,6 @@ returns-clause-parts g c j d l =
     let at : get_or chain.0 j 0 ≡ 0 + j = ap (λ (xs : List ℕ). get_or xs j 0) places ∙ get_or-range_with_len 0 parts j 0 (omega arith) in
     let is : get_or chain.0 j 0 ≡ j = omega arith in
     let post = zip_at (λ (x : ℕ) r. IfOk r (λ v. v.items ≡ best_moves c.args.h.now c.args.p.now.k c.args.p.now.limit c.args.p.now.blocks
-    (part_at c.args.cuts.now x))) chain.0 h.0 j 0 d chain.2 low in
+    (part_at c.args.listed.now c.args.cuts.now x))) chain.0 h.0 j 0 d chain.2 low in
     rw h.2 (subst (λ x. IfOk (get_or h.0 j d) (λ v. v.items ≡ best_moves c.args.h.now c.args.p.now.k c.args.p.now.limit c.args.p.now.blocks
-    (part_at c.args.cuts.now x))) is post)
+    (part_at c.args.listed.now c.args.cuts.now x))) is post)
