@@ -4,7 +4,8 @@ use Rattle.std.proofs.Common.{length, All, Some, None, refl, sym, ap, subst, ◌
 use Rattle.std.proofs.lemmas.Bool.{cases_lt}
 use Rattle.std.proofs.lemmas.List.{append_assoc, append-nil}
 use Rattle.hg_defs.specs.Hypergraph.{Hyper, vertex_count, total_weight, IsHypergraph, IsFixedWithin}
-use Rattle.hg_defs.specs.Partition.{IsPartition, Fits, Obeys}
+use Rattle.hg_defs.specs.Partition.{IsPartition, Fits, Obeys, load}
+use Rattle.hg_defs.specs.Cost.{cost}
 use Rattle.hg_defs.specs.Contraction.{IsFull, contract, after}
 use Rattle.hg_defs.specs.Clustering.{cluster_count, cluster_cap, IsClustering}
 use Rattle.hg_defs.specs.Levels.{level, coarsest, map_of}
@@ -55,18 +56,26 @@ places_above h coarse maps i n clusters low one is same below =
     (cluster_count (map_of maps i)) in
     subst (λ m. All (λ v. v < m) clusters) (ap cluster_count same ∙ sym number) below
 
--- a projection fits as the partition does that it is made of
-pub fits_below : (h coarse fine : Hyper) (maps : List (List ℕ)) (i n k l : ℕ) (clusters p q : List ℕ) → i < length maps → n ≡ suc i →
-    coarse ≡ level h maps n → fine ≡ level h maps i → clusters ≡ map_of maps i
-    → IsHypergraph fine → IsFull fine clusters (cluster_count clusters) → KeepsCost coarse p fine clusters q → Fits coarse k l p → Fits fine k l q
-fits_below h coarse fine maps i n k l clusters p q low one is on same sound full keeps fits b few =
-    let next : coarse ≡ contract fine clusters (cluster_count clusters) =
-    is ∙ ap (level h maps) one ∙ level_is_contraction h maps i low
-    ∙ ap (λ (g : Hyper). contract g (map_of maps i) (cluster_count (map_of maps i))) (sym on)
-    ∙ ap (λ c. contract fine c (cluster_count c)) (sym same) in
-    let equal = (keeps (cluster_count clusters) (record { hypergraph = sound; full = full }) next).1 b in
-    let below = fits b few in
-    omega arith
+module _ (h coarse fine : Hyper) (maps : List (List ℕ)) (i n : ℕ) (clusters p q : List ℕ) (low : i < length maps) (one : n ≡ suc i)
+    (is : coarse ≡ level h maps n) (on : fine ≡ level h maps i) (same : clusters ≡ map_of maps i) (sound : IsHypergraph fine)
+    (full : IsFull fine clusters (cluster_count clusters)) (keeps : KeepsCost coarse p fine clusters q) where
+  kept : (cost fine q ≡ cost coarse p) × ((b : ℕ) → load fine q b ≡ load coarse p b)
+  kept =
+      keeps (cluster_count clusters) (record { hypergraph = sound; full = full })
+      (is ∙ ap (level h maps) one ∙ level_is_contraction h maps i low
+      ∙ ap (λ (g : Hyper). contract g (map_of maps i) (cluster_count (map_of maps i))) (sym on)
+      ∙ ap (λ c. contract fine c (cluster_count c)) (sym same))
+
+  -- a projection costs as much as the partition that it is made of
+  pub cost_below : cost fine q ≡ cost coarse p
+  cost_below = kept.0
+
+  -- and fits as that one does
+  pub fits_below : (k l : ℕ) → Fits coarse k l p → Fits fine k l q
+  fits_below k l fits b few =
+      let equal = kept.1 b in
+      let below = fits b few in
+      omega arith
 
 -- ---- the start
 
@@ -157,9 +166,14 @@ module _ (h : Hyper) (maps : List (List ℕ)) (workers start : ℕ) (first : Par
     fits_down q low sound full keeps =
         subst (λ m. Fits fine m now.limit q) (sym (ap (λ (x : Parted). x.k) is.shape))
         (subst (λ m. Fits fine first.k m q) (sym (ap (λ (x : Parted). x.limit) is.shape))
-        (fits_below h now.hyper fine maps i n first.k first.limit clusters now.blocks q low one (ap (λ (x : Parted). x.hyper) is.shape) on same sound full
-        keeps
+        (fits_below h now.hyper fine maps i n clusters now.blocks q low one (ap (λ (x : Parted). x.hyper) is.shape) on same sound full keeps
+        first.k first.limit
         (subst (λ (x : Hyper). Fits x first.k first.limit now.blocks) (sym (ap (λ (x : Parted). x.hyper) is.shape)) is.fits)))
+
+    pub cost_down : (q : List ℕ) → i < length maps → IsHypergraph fine → IsFull fine clusters (cluster_count clusters) →
+        KeepsCost now.hyper now.blocks fine clusters q → cost fine q ≡ cost now.hyper now.blocks
+    cost_down q low sound full keeps =
+        cost_below h now.hyper fine maps i n clusters now.blocks q low one (ap (λ (x : Parted). x.hyper) is.shape) on same sound full keeps
 
     pub down_next : (made next : Parted) (new : List LoggedRound) (m : ℕ) → m ≡ i
         → made ≡ record { hyper = fine; k = now.k; limit = now.limit; blocks = after now.blocks clusters }

@@ -4,6 +4,7 @@ ghost use Rattle.std.specs.Prelude.{◌≡◌, ℕ, ◌≤◌, IfOk, Err, length
 ghost use Rattle.hg_defs.specs.Hypergraph.{IsFixedWithin, Suits};
 ghost use Rattle.hg_defs.specs.Levels.{level};
 ghost use Rattle.hg_defs.specs.Partition.{Fits};
+ghost use Rattle.hg_defs.specs.Cost.{cost};
 ghost use Rattle.initial_place.specs.declared.end.PlaceEnd.TheVariants.{NoneFits as none_fits};
 ghost use Rattle.round_log.specs.Deterministic.{det_last};
 ghost use Rattle.round_log.specs.TraceLaws.{IsSound};
@@ -47,7 +48,8 @@ fn first_placed<R: Threads + Sync>(
 }
 
 /// Takes a partition of the level of a number down to the file: each level has its synchronous rounds,
-/// and between two levels the partition is projected. The rounds are appended to the log.
+/// and between two levels the partition is projected, which leaves its cost. The rounds are appended to
+/// the log.
 fn sync_down<R: Threads + Sync>(
     rt: &R,
     alloc: Global,
@@ -68,13 +70,15 @@ fn sync_down<R: Threads + Sync>(
     ensures rounds { IfOk result (λ q. LogsDescent stack.now.base stack.now.maps p.k p.limit workers start p.blocks
         q.blocks log.old log.new) }
 {
-    sync_level(rt, alloc, stack.level(start), &mut p, start, workers, log)?;
+    let coarse = stack.level(start);
+    let mut reached = p.cost(coarse);
+    reached = sync_level(rt, alloc, coarse, &mut p, reached, start, workers, log)?;
     for above in 0..start {
         let level = start - 1 - above;
         let fine = stack.level(level);
         let _vertices = fine.vertices();
         p = p.project(alloc, fine, stack.map(level))?;
-        sync_level(rt, alloc, fine, &mut p, level, workers, log)?;
+        reached = sync_level(rt, alloc, fine, &mut p, reached, level, workers, log)?;
     }
     Ok(p)
 }

@@ -243,34 +243,37 @@ pub fn sync_round<R: Threads + Sync>(
     Ok(p)
 }
 
-/// The synchronous rounds of a level, until the partition is settled, 8 at most. They are appended to
-/// the log.
+/// The synchronous rounds of a level from a partition of this cost on, until it is settled, 8 at most.
+/// They are appended to the log. Answers the cost of the partition that is left.
 pub(crate) fn sync_level<R: Threads + Sync>(
     rt: &R,
     alloc: Global,
     h: &Hypergraph,
     p: &mut Partition,
+    before: u64,
     level: u32,
     workers: u32,
     log: &mut RoundList,
-) -> Result<(), NoMemory>
+) -> Result<u64, NoMemory>
     requires belongs { p.old.hyper ≡ h.now }
     requires fits { Fits h.now p.old.k p.old.limit p.old.blocks }
+    requires cost { before ≡ cost h.now p.old.blocks }
     requires some { 1 ≤ workers }
     requires few { workers ≤ 64 }
     ensures partition { OnOk result (p.new ≡ record p.old { blocks = p.new.blocks }) }
+    ensures cost { IfOk result (λ after. after ≡ cost h.now p.new.blocks) }
     ensures fits { OnOk result (Fits h.now p.old.k p.old.limit p.new.blocks) }
     ensures rounds { OnOk result (LogsSynced h.now p.old.k p.old.limit workers level p.old.blocks p.new.blocks log.old
         log.new) }
 {
-    let mut cost = p.cost(h);
+    let mut reached = before;
     'rounds: for _made in 0..MOST_ROUNDS {
         let wishes = wishes_of(rt, alloc, h, p, workers)?;
         let listed = wishes.as_slice();
         if listed.is_empty() {
-            return Ok(());
+            return Ok(reached);
         }
-        cost = grant_best(rt, alloc, h, p, listed, cost, level, workers, log)?;
+        reached = grant_best(rt, alloc, h, p, listed, reached, level, workers, log)?;
     }
-    Ok(())
+    Ok(reached)
 }

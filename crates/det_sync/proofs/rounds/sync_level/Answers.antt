@@ -29,18 +29,18 @@ rounds-preserved g c =
     let some = λ (e : c.in_ok-wishes.wishes.items ≡ []).
     eqb-false (length c.as_slice-listed.result.now) 0 (sym c.is_empty.ensures ∙ c.if-is_empty.false) (ap length (c.as_slice-listed.ensures.value ∙ e)) in
     let unsettled = unsettled_with h c.args.p.now.k c.args.p.now.limit c.rounds.p.blocks c.in_ok-wishes.wishes.items are some in
-    let blocks = ap (λ (x : Parted). x.blocks) c.in_ok-cost.ensures.partition
+    let blocks = ap (λ (x : Parted). x.blocks) c.in_ok-reached.ensures.partition
     ∙ by_first_too c.args.p.now c.rounds.p (λ k l. sync h k l c.rounds.p.blocks) same in
     record {
-      same = same_step c.args.p.now c.rounds.p c.grant_best.new.p _ same c.in_ok-cost.ensures.partition;
-      cost_is = c.in_ok-cost.ensures.cost;
+      same = same_step c.args.p.now c.rounds.p c.grant_best.new.p _ same c.in_ok-reached.ensures.partition;
+      cost_is = c.in_ok-reached.ensures.cost;
       fits = subst (Fits h c.args.p.now.k c.args.p.now.limit) (sym blocks)
           (sync-fits h c.args.p.now.k c.args.p.now.limit c.rounds.p.blocks c.rounds.invariant.fits);
       logged =
           logs_more h c.args.p.now.k c.args.p.now.limit c.args.workers c.args.level c.args.p.now.blocks c.rounds.p.blocks c.grant_best.new.p.blocks
           c.args.log.now c.rounds.log c.grant_best.new.log c.rounds._made c.rounds.invariant.logged unsettled (omega (arith, c.rounds-test.true))
           (by_first c.args.p.now c.rounds.p (λ k l. LogsSync h k l c.args.workers c.args.level c.rounds.p.blocks c.rounds.log c.grant_best.new.log) same
-          c.in_ok-cost.ensures.round) blocks;
+          c.in_ok-reached.ensures.round) blocks;
     }
 
 pub returns-clause-rounds : goal.returns-clause-rounds
