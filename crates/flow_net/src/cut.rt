@@ -1,8 +1,7 @@
 //! The cut that a maximum flow fills.
 
 ghost use Rattle.std.specs.Prelude.{◌≡◌, ◌≢◌, ℕ, ◌+◌, ◌*◌, ◌^◌, ◌<◌, ◌≤◌, length, slice_index, nat_eq};
-ghost use Rattle.flow_net.specs.Flow.{is_in, cut_capacity};
-ghost use Rattle.flow_net.specs.Residual.{AreJoined};
+ghost use Rattle.flow_net.specs.Flow.{is_in, leaving, entering};
 
 use crate::network::Arc;
 use hg_base::Flags;
@@ -35,18 +34,23 @@ pub(crate) fn write_flows(rests: &[u64], flows: &mut [u64])
     }
 }
 
-/// The capacity of the arcs that leave a side.
-pub(crate) fn capacity_of(arcs: &[Arc], side: &[bool]) -> u128
+/// How much more flow leaves a node than enters it.
+pub(crate) fn flow_from(arcs: &[Arc], flows: &[u64], node: u32) -> u128
     requires few { length arcs.now ≤ 2 ^ 28 }
-    requires joined { AreJoined (length side.now) arcs.now }
-    ensures { result ≡ cut_capacity arcs.now side.now }
+    requires flows { length flows.now ≡ length arcs.now }
+    requires more { entering arcs.now flows.now node ≤ leaving arcs.now flows.now node }
+    ensures { leaving arcs.now flows.now node ≡ entering arcs.now flows.now node + result }
 {
-    let mut capacity = 0;
+    let mut left = 0;
+    let mut entered = 0;
     for i in 0..arcs.len() {
-        let arc = arcs[i];
-        if side[arc.from as usize] && !side[arc.to as usize] {
-            capacity += u128::from(arc.cap);
+        let flow = u128::from(flows[i]);
+        if arcs[i].from == node {
+            left += flow;
+        }
+        if arcs[i].to == node {
+            entered += flow;
         }
     }
-    capacity
+    left - entered
 }

@@ -4,7 +4,7 @@ ghost use Rattle.std.specs.Prelude.{◌≡◌, ◌≢◌, ℕ, ◌+◌, ◌*◌,
 ghost use Rattle.flow_net.specs.Residual.{AreLaid, IsLinked};
 
 use crate::network::Arc;
-use crate::residual::mate;
+use crate::residual::{clear, mate};
 
 /// Writes the heads and the rests of the halves of each arc.
 pub(crate) fn lay(arcs: &[Arc], heads: &mut [u32], rests: &mut [u64])
@@ -29,9 +29,9 @@ pub(crate) fn link(heads: &[u32], nexts: &mut [u32], firsts: &mut [u32])
     requires few { length firsts.old ≤ 2 ^ 26 }
     requires nexts { length nexts.old ≡ length heads.now }
     requires nodes { (h : ℕ) → h < length heads.now → slice_index heads.now h < length firsts.old }
-    requires firsts { (v : ℕ) → v < length firsts.old → slice_index firsts.old v ≡ 0 }
     ensures { IsLinked heads.now nexts.new firsts.new }
 {
+    clear(firsts);
     for half in 0..heads.len() as u32 {
         let node = heads[mate(half) as usize] as usize;
         nexts[half as usize] = firsts[node];

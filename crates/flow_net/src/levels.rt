@@ -3,7 +3,7 @@
 ghost use Rattle.std.specs.Prelude.{◌≡◌, ◌≢◌, ℕ, ◌+◌, ◌*◌, ◌^◌, ◌<◌, ◌≤◌, length, slice_index, IsTrue, false};
 ghost use Rattle.flow_net.specs.Residual.{IsTree, IsOpen, IsClosed, IsSearched};
 
-use crate::residual::{Halves, mate};
+use crate::residual::{Halves, clear, mate};
 
 /// Gives a level to each node without one from which a half with a rest leads to the node at place `start`
 /// of the queue, and appends it to the queue. Answers the queue's new end.
@@ -33,7 +33,7 @@ fn scan(
         let half = at - 1;
         let from = halves.heads[half as usize];
         let back = mate(half);
-        if levels[from as usize] == 0 && rests[back as usize] > 0 {
+        if rests[back as usize] > 0 && levels[from as usize] == 0 {
             levels[from as usize] = level;
             ways[from as usize] = back;
             queue[end] = from;
@@ -63,9 +63,7 @@ pub(crate) fn search(
     ensures unreached { result ≡ false → slice_index levels.new halves.entry.source ≡ 0 }
     ensures closed { result ≡ false → IsClosed halves.entry.heads.now rests.now levels.new }
 {
-    for level in levels.iter_mut() {
-        *level = 0;
-    }
+    clear(levels);
     levels[halves.sink as usize] = 1;
     queue[0] = halves.sink;
     let mut start = 0;

@@ -1,17 +1,17 @@
 //! The maximum flow, by blocking flows along shortest ways (Dinic's algorithm).
 
 ghost use Rattle.std.specs.Prelude.{◌≡◌, ◌≢◌, ℕ, ◌+◌, ◌-◌, ◌*◌, ◌^◌, ◌<◌, ◌≤◌, length};
-ghost use Rattle.std.specs.Prelude.{replicate, slice_index, IfOk, OnOk, OnErr};
+ghost use Rattle.std.specs.Prelude.{slice_index, IfOk, OnOk, OnErr};
 ghost use Rattle.flow_net.specs.Flow.{IsNetwork, IsFlow, IsFilledCut};
 ghost use Rattle.flow_net.specs.Residual.{IsTree, IsClosed, IsBounded, IsRaised, AreJoined};
 ghost use Rattle.flow_net.specs.Ready.{IsReady};
 
-use crate::cut::{Cut, capacity_of, flag_unreached, write_flows};
+use crate::cut::{Cut, flag_unreached, flow_from, write_flows};
 use crate::layout::{lay, link};
 use crate::levels::search;
 use crate::network::{Arc, Network};
 use crate::paths::{block, least_rest, push};
-use crate::residual::Halves;
+use crate::residual::{Halves, clear};
 use hg_base::{Flags, NoMemory};
 use std::alloc::Global;
 
@@ -33,12 +33,12 @@ fn maximize(
     requires entries { length entries.old ≡ length levels.old }
     requires queue { length queue.old ≡ length levels.old }
     requires bounded { IsBounded rests.old }
-    requires entered { (v : ℕ) → v < length entries.old → slice_index entries.old v ≡ 0 }
     ensures raised { IsRaised halves.entry.heads.now halves.entry.source halves.entry.sink 0 rests.old rests.new }
     ensures source { slice_index levels.new halves.entry.source ≡ 0 }
     ensures sink { slice_index levels.new halves.entry.sink ≡ 1 }
     ensures closed { IsClosed halves.entry.heads.now rests.new levels.new }
 {
+    clear(entries);
     while search(halves, rests, levels, ways, queue) {
         let amount = least_rest(halves, levels, ways, rests);
         push(halves, levels, ways, amount, rests);
@@ -60,12 +60,13 @@ pub struct Workspace {
     queue: Vec<u32>,
 }
 
-/// Makes a list of zeros in the memory of a list.
-fn clear_to(list: &mut Vec<u32>, count: usize) -> Result<(), NoMemory>
-    ensures { OnOk result (list.new.items ≡ replicate count 0) }
+/// Makes a list at least so long. What stands in it then doesn't matter.
+fn lengthen(list: &mut Vec<u32>, count: usize) -> Result<(), NoMemory>
+    ensures { OnOk result (count ≤ length list.new.items) }
 {
-    list.clear();
-    list.resize(count, 0)?;
+    if list.len() < count {
+        list.resize(count, 0)?;
+    }
     Ok(())
 }
 
@@ -89,16 +90,17 @@ impl Workspace {
     fn prepare(&mut self, nodes: usize, halves: usize) -> Result<(), NoMemory>
         ensures { OnOk result (IsReady self.new nodes halves) }
     {
-        clear_to(&mut self.heads, halves)?;
-        clear_to(&mut self.nexts, halves)?;
-        clear_to(&mut self.firsts, nodes)?;
-        self.rests.clear();
-        self.rests.resize(halves, 0)?;
-        clear_to(&mut self.levels, nodes)?;
-        clear_to(&mut self.ways, nodes)?;
-        clear_to(&mut self.currents, nodes)?;
-        clear_to(&mut self.entries, nodes)?;
-        clear_to(&mut self.queue, nodes)
+        lengthen(&mut self.heads, halves)?;
+        lengthen(&mut self.nexts, halves)?;
+        lengthen(&mut self.firsts, nodes)?;
+        if self.rests.len() < halves {
+            self.rests.resize(halves, 0)?;
+        }
+        lengthen(&mut self.levels, nodes)?;
+        lengthen(&mut self.ways, nodes)?;
+        lengthen(&mut self.currents, nodes)?;
+        lengthen(&mut self.entries, nodes)?;
+        lengthen(&mut self.queue, nodes)
     }
 }
 
@@ -123,11 +125,13 @@ fn solve(
     ensures cut { IsFilledCut (record { nodes = length side.old; arcs = arcs.now; flows = flows.new }) source sink
         result side.new }
 {
-    let heads = space.heads.as_mut_slice();
-    let nexts = space.nexts.as_mut_slice();
-    let firsts = space.firsts.as_mut_slice();
-    let rests = space.rests.as_mut_slice();
-    let levels = space.levels.as_mut_slice();
+    let nodes = side.len();
+    let count = 2 * arcs.len();
+    let heads = &mut space.heads.as_mut_slice()[..count];
+    let nexts = &mut space.nexts.as_mut_slice()[..count];
+    let firsts = &mut space.firsts.as_mut_slice()[..nodes];
+    let rests = &mut space.rests.as_mut_slice()[..count];
+    let levels = &mut space.levels.as_mut_slice()[..nodes];
     lay(arcs, heads, rests);
     link(heads, nexts, firsts);
     let halves = Halves {
@@ -141,14 +145,14 @@ fn solve(
         halves,
         rests,
         levels,
-        space.ways.as_mut_slice(),
-        space.currents.as_mut_slice(),
-        space.entries.as_mut_slice(),
-        space.queue.as_mut_slice(),
+        &mut space.ways.as_mut_slice()[..nodes],
+        &mut space.currents.as_mut_slice()[..nodes],
+        &mut space.entries.as_mut_slice()[..nodes],
+        &mut space.queue.as_mut_slice()[..nodes],
     );
     flag_unreached(levels, side);
     write_flows(rests, flows);
-    capacity_of(arcs, side)
+    flow_from(arcs, flows, source)
 }
 
 impl Network {

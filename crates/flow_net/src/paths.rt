@@ -1,7 +1,7 @@
 //! Flow along the levels: the rest of a way from the source to the sink, and blocking flows.
 
 ghost use Rattle.std.specs.Prelude.{◌≡◌, ◌≢◌, ℕ, ◌+◌, ◌-◌, ◌*◌, ◌^◌, ◌<◌, ◌≤◌, length, slice_index, IfSome};
-ghost use Rattle.flow_net.specs.Residual.{IsTree, IsOpen, IsBounded, IsRaised, IsMarked, Carries};
+ghost use Rattle.flow_net.specs.Residual.{tail, IsStep, IsTree, IsOpen, IsBounded, IsRaised, IsMarked, Carries};
 
 use crate::residual::{Halves, mate};
 
@@ -61,9 +61,35 @@ pub(crate) fn push(
     full
 }
 
+/// One more than the first half from a place in the list of a node on that has a rest and leads a level
+/// lower; 0 where none is left.
+fn seek(halves: Halves<'_>, levels: &[u32], rests: &[u64], node: u32, start: u32) -> u32
+    requires rests { length rests.now ≡ length halves.heads.now }
+    requires levels { length levels.now ≡ length halves.firsts.now }
+    requires node { node < length levels.now }
+    requires within { start ≤ length halves.heads.now }
+    requires leaves { 0 < start → tail halves.heads.now (start - 1) ≡ node }
+    ensures { 0 < result → IsStep halves.entry.heads.now levels.now node (result - 1) }
+{
+    let high = levels[node as usize];
+    if high < 2 {
+        return 0;
+    }
+    let mut at = start;
+    while at > 0 {
+        let half = at - 1;
+        if rests[half as usize] > 0
+            && levels[halves.heads[half as usize] as usize] == high - 1
+        {
+            return at;
+        }
+        at = halves.nexts[half as usize];
+    }
+    0
+}
+
 /// One step of the search for a way down the levels, from a node other than the sink: along the next
-/// of its halves where that has a rest and leads a level lower, past it where it does not, and back
-/// where none is left. Answers the node reached, or none where none is left at the source.
+/// of its halves that has a rest and leads a level lower, and back where none is left. Answers the node reached, or none where none is left at the source.
 fn step(
     halves: Halves<'_>,
     levels: &[u32],
@@ -85,7 +111,8 @@ fn step(
     ensures tree { IsTree halves.entry.heads.now levels.now ways.new halves.entry.sink }
     ensures marked { IsMarked halves.entry.heads.now currents.new entries.new }
 {
-    let at = currents[node as usize];
+    let at = seek(halves, levels, rests, node, currents[node as usize]);
+    currents[node as usize] = at;
     if at == 0 {
         if node == halves.source {
             return None;
@@ -97,15 +124,9 @@ fn step(
     }
     let half = at - 1;
     let next = halves.heads[half as usize];
-    let low = levels[next as usize];
-    let high = levels[node as usize];
-    if low > 0 && high > low && high - low == 1 && rests[half as usize] > 0 {
-        ways[node as usize] = half;
-        entries[next as usize] = half;
-        return Some(next);
-    }
-    currents[node as usize] = halves.nexts[half as usize];
-    Some(node)
+    ways[node as usize] = half;
+    entries[next as usize] = half;
+    Some(next)
 }
 
 /// Where the node is the sink, raises the flow on the way there by its least rest, and answers the first
@@ -157,8 +178,8 @@ pub(crate) fn block(
 {
     currents.copy_from_slice(halves.firsts);
     let mut node = halves.source;
-    // Each half is passed over once at most, and between two such steps there are at most as many
-    // steps down the levels as there are nodes.
+    // Each step back passes over a half, which happens once at most, and between two of them there are at
+    // most as many steps down the levels as there are nodes.
     let steps = (halves.heads.len() + 1) * (levels.len() + 3);
     for _step in 0..steps {
         let start = push_at_sink(halves, levels, ways, node, rests);

@@ -20,6 +20,15 @@ pub(crate) struct Halves<'a> {
     ghost apart: { source ≢ sink },
 }
 
+/// Makes each number of a list 0.
+pub(crate) fn clear(list: &mut [u32])
+    ensures { (i : ℕ) → i < length list.new → slice_index list.new i ≡ 0 }
+{
+    for number in list.iter_mut() {
+        *number = 0;
+    }
+}
+
 /// The other half of the same arc.
 #[inline]
 pub(crate) fn mate(half: u32) -> u32

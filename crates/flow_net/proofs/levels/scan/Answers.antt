@@ -2,9 +2,9 @@ use Rattle.std.proofs.Common.{◌≡◌, ◌+◌, ◌-◌, ◌<◌, ◌∙◌, l
 use Rattle.flow_net.specs.Residual.{head, mate}
 use Rattle.flow_net.proofs.LevelLaws.{queue_room, queue_more, scan_begin, scan_take, scan_skip, level_kept, node_level, scan_end}
 use Rattle.flow_net.proofs.levels.scan.Goals as goal
-use Rattle.flow_net.proofs.levels.scan.Goals.{then-levels-from-eq0+then-rests-back-gt0, else-levels-from-eq0}
-use Rattle.flow_net.proofs.levels.scan.Goals.{else-levels-from-eq0-via-then-levels-from-eq0+else-rests-back-gt0}
-use Rattle.flow_net.proofs.levels.scan.Goals.{else-levels-from-eq0-via-else-levels-from-eq0}
+use Rattle.flow_net.proofs.levels.scan.Goals.{then-rests-back-gt0+then-levels-from-eq0, else-rests-back-gt0}
+use Rattle.flow_net.proofs.levels.scan.Goals.{else-rests-back-gt0-via-then-rests-back-gt0+else-levels-from-eq0}
+use Rattle.flow_net.proofs.levels.scan.Goals.{else-rests-back-gt0-via-else-rests-back-gt0}
 
 pub offset_bounds-queue-start : goal.offset_bounds-queue-start
 offset_bounds-queue-start c =
@@ -65,8 +65,8 @@ loop-at-preserved c =
     let rests = c.args.rests.now in
     let node_level : 0 < slice_index c.loop-at.levels node = node_level g.heads.now g.nexts.now g.firsts.now rests g.linked c.loop-at.levels c.loop-at.ways
     c.loop-at.queue g.sink c.args.start c.loop-at.end node at s in
-    elim c.if-levels-from-eq0.branch [
-      | then-levels-from-eq0+then-rests-back-gt0 w ↦
+    elim c.if-rests-back-gt0.branch [
+      | then-rests-back-gt0+then-levels-from-eq0 w ↦
           let e : slice_index c.loop-at.levels u ≡ 0 = w.if-levels-from-eq0.true in
           let r : 0 < slice_index rests (mate (at - 1)) = subst (λ h. 0 < slice_index rests h) c.mate-back.ensures w.if-rests-back-gt0.true in
           record {
@@ -81,12 +81,12 @@ loop-at-preserved c =
                 c.loop-at.invariant.level ∙ ap (λ n. n + 1)
                 (sym (ap (λ xs. slice_index xs node) w.levels-is ∙ level_kept g.heads.now c.loop-at.levels c.loop-at.ways g.sink u x 0 node e node_level));
           }
-      | else-levels-from-eq0 w ↦
+      | else-rests-back-gt0 w ↦
           let skip : (slice_index c.loop-at.levels u ≡ 0 → slice_index rests (mate (at - 1)) ≡ 0) =
-          elim w.else-levels-from-eq0.branch [
-            | else-levels-from-eq0-via-then-levels-from-eq0+else-rests-back-gt0 w' ↦ (λ z. ap (slice_index rests) (sym c.mate-back.ensures) ∙
+          elim w.else-rests-back-gt0.branch [
+            | else-rests-back-gt0-via-then-rests-back-gt0+else-levels-from-eq0 w' ↦ (λ z. absurd (w'.if-levels-from-eq0.false z))
+            | else-rests-back-gt0-via-else-rests-back-gt0 w' ↦ (λ z. ap (slice_index rests) (sym c.mate-back.ensures) ∙
                 (let f = w'.if-rests-back-gt0.false in omega arith))
-            | else-levels-from-eq0-via-else-levels-from-eq0 w' ↦ (λ z. absurd (w'.if-levels-from-eq0.false z))
           ] in
           record {
             scanned =

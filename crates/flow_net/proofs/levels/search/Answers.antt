@@ -8,15 +8,15 @@ loop-levels-init c =
     record {
       order = omega arith;
       searched =
-          search_begin g.heads.now g.nexts.now g.firsts.now c.args.rests.now g.linked c.loop-level.levels c.args.ways.now c.args.queue.now g.sink
-          (λ v l. c.loop-level.invariant v (omega arith)) (omega (arith, g.sink_in)) (omega arith);
+          search_begin g.heads.now g.nexts.now g.firsts.now c.args.rests.now g.linked c.clear.new.list c.args.ways.now c.args.queue.now g.sink
+          (λ v l. c.clear.ensures v (omega arith)) (omega (arith, g.sink_in)) (omega arith);
     }
 
 pub returns-then-start-end-clause-closed : goal.returns-then-start-end-clause-closed
 returns-then-start-end-clause-closed c =
     let g = c.args.halves in
     let long : length c.loop-levels.levels ≡ length g.firsts.now =
-    c.loop-levels.auto.levels ∙ length-set c.loop-level.levels g.sink 1 ∙ c.loop-level.auto.levels ∙ c.requires.levels in
+    c.loop-levels.auto.levels ∙ length-set c.clear.new.list g.sink 1 ∙ c.clear.auto.list ∙ c.requires.levels in
     λ e. search_closed g.heads.now g.nexts.now g.firsts.now c.args.rests.now g.linked c.loop-levels.levels c.loop-levels.ways c.loop-levels.queue g.sink
     c.loop-levels.start c.loop-levels.end
     long (omega arith) c.loop-levels.invariant.searched
@@ -28,7 +28,7 @@ overflow_add-start c =
     let room = queue_room c.loop-levels.levels c.loop-levels.end c.loop-levels.invariant.searched.count in
     let order = c.loop-levels.invariant.order in
     let long : length c.loop-levels.levels ≡ length g.firsts.now =
-    c.loop-levels.auto.levels ∙ length-set c.loop-level.levels g.sink 1 ∙ c.loop-level.auto.levels ∙ c.requires.levels in
+    c.loop-levels.auto.levels ∙ length-set c.clear.new.list g.sink 1 ∙ c.clear.auto.list ∙ c.requires.levels in
     omega arith
 
 pub loop-levels-smaller : goal.loop-levels-smaller
