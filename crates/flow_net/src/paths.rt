@@ -69,7 +69,8 @@ fn seek(halves: Halves<'_>, levels: &[u32], rests: &[u64], node: u32, start: u32
     requires node { node < length levels.now }
     requires within { start ≤ length halves.heads.now }
     requires leaves { 0 < start → tail halves.heads.now (start - 1) ≡ node }
-    ensures { 0 < result → IsStep halves.entry.heads.now levels.now node (result - 1) }
+    ensures step { 0 < result → IsStep halves.entry.heads.now levels.now node (result - 1) }
+    ensures rest { 0 < result → 0 < slice_index rests.now (result - 1) }
 {
     let high = levels[node as usize];
     if high < 2 {
@@ -78,9 +79,7 @@ fn seek(halves: Halves<'_>, levels: &[u32], rests: &[u64], node: u32, start: u32
     let mut at = start;
     while at > 0 {
         let half = at - 1;
-        if rests[half as usize] > 0
-            && levels[halves.heads[half as usize] as usize] == high - 1
-        {
+        if rests[half as usize] > 0 && levels[halves.heads[half as usize] as usize] == high - 1 {
             return at;
         }
         at = halves.nexts[half as usize];

@@ -6,4 +6,4 @@ pub returns-clause-tree : goal.returns-clause-tree
 returns-clause-tree c =
     let g = c.args.halves in
     tree_way g.heads.now c.args.levels.now c.args.ways.now g.sink c.args.node (c.seek-at.result - 1) c.requires.tree (omega arith)
-    (c.seek-at.ensures (omega arith))
+    (c.seek-at.ensures.step (omega arith))
