@@ -5,10 +5,12 @@
 //! partition is settled, or after eight rounds that made it cheaper.
 #![tactic(auto)]
 
+mod active;
 mod label;
 mod pass;
 mod race;
 mod scores;
+mod shared;
 mod sweep;
 mod worker;
 

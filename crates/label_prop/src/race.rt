@@ -1,14 +1,17 @@
 //! A raced round.
 
-ghost use Rattle.std.specs.Prelude.{◌≡◌, ◌<◌, ◌≤◌, true, length, IfOk, OnErr};
+ghost use Rattle.std.specs.Prelude.{◌≡◌, ◌<◌, ◌≤◌, ◌^◌, true, length, IfOk, OnErr};
+ghost use Rattle.hg_defs.specs.Hypergraph.{vertex_count};
 ghost use Rattle.hg_defs.specs.Partition.{Fits};
 ghost use Rattle.hg_defs.specs.Replay.{replay};
 ghost use Rattle.move_table.specs.Closing.{ArePassesOf};
 ghost use Rattle.label_prop.specs.Workers.{IsIdlePass};
 ghost use Rattle.label_prop.specs.LabelRounds.{LogsLabelRound};
 
+use crate::active::Active;
+use crate::shared::Shared;
 use crate::worker::visit_run;
-use crew::{Gate, each, span_of};
+use crew::{Gate, each};
 use hg_base::{Items, NoMemory};
 use incidence::Hypergraph;
 use move_table::{Closed, Pass, Passes, Round};
@@ -25,40 +28,30 @@ use std::thread::Threads;
 fn visit_all<H: Threads + Sync, G: Gate>(
     rt: &H,
     gate: &G,
-    h: &Hypergraph,
-    k: u32,
-    round: &Round,
+    shared: &Shared<'_>,
     passes: Passes,
 ) -> Result<Passes, NoMemory>
-    requires belongs { round.now.terms.part.hyper ≡ h.now }
-    requires blocks { k ≡ round.now.terms.part.k }
-    requires few { k ≤ 256 }
-    requires passes { ArePassesOf round.now passes }
-    requires workers { (1 ≤ round.now.terms.workers) × (round.now.terms.workers ≤ 64) }
-    ensures { IfOk result (λ done. ArePassesOf round.now done) }
+    requires passes { ArePassesOf shared.now.round.now passes }
+    ensures { IfOk result (λ done. ArePassesOf shared.now.round.now done) }
 {
     let mut passes = passes.into_vec();
-    let workers = passes.len() as u32;
-    let refused = AtomicBool::new(false);
     each(
         rt,
         passes.as_mut_slice(),
         &|i, pass: &mut Pass|
-            requires { (i < workers) × (workers ≤ 64) × (round.now.terms.part.hyper ≡ h.now)
-                × (k ≡ round.now.terms.part.k) × (k ≤ 256) × IsIdlePass round.now i pass.now }
-            ensures { IsIdlePass round.entry.now i pass.exit.now }
+            requires { (i < shared.now.workers) × IsIdlePass shared.now.round.now i pass.now }
+            ensures { IsIdlePass shared.entry.now.round.now i pass.exit.now }
         {
-            let span = span_of(h.vertices(), workers, i as u32);
-            visit_run(round, pass, h, k, gate, span, &refused);
+            visit_run(shared, pass, gate, i as u32);
         },
     );
-    if refused.load(SeqCst) {
+    if shared.refused.load(SeqCst) {
         return Err(NoMemory);
     }
     Ok(Items::from_vec(passes))
 }
 
-/// Opens a round over a partition that fits, lets the workers visit all vertices, and closes it.
+/// Opens a round over a partition that fits, lets the workers visit the active vertices, and closes it.
 fn close_race<H: Threads + Sync, G: Gate>(
     rt: &H,
     gate: &G,
@@ -66,8 +59,10 @@ fn close_race<H: Threads + Sync, G: Gate>(
     h: &Hypergraph,
     p: Partition,
     workers: u32,
+    active: &Active,
 ) -> Result<Closed, NoMemory>
     requires belongs { p.hyper ≡ h.now }
+    requires active { active.now ≡ vertex_count h.now }
     requires fits { Fits h.now p.k p.limit p.blocks }
     requires some { 1 ≤ workers }
     requires few { workers ≤ 64 }
@@ -75,12 +70,21 @@ fn close_race<H: Threads + Sync, G: Gate>(
     ensures part { IfOk result (λ c. c.part ≡ record p { blocks = replay c.opening c.moves }) }
     ensures gains { IfOk result (λ c. length c.gains ≡ workers) }
 {
-    let _blocks = p.blocks();
+    let (_blocks, _vertices) = (p.blocks(), h.vertices());
     let k = p.k();
     let Ok((round, passes)) = Round::open(alloc, h, p, workers) else {
         return Err(NoMemory);
     };
-    let passes = visit_all(rt, gate, h, k, &round, passes)?;
+    let shared = Shared {
+        round: &round,
+        h,
+        k,
+        workers,
+        vertices: active.list(),
+        again: active.marks(),
+        refused: &AtomicBool::new(false),
+    };
+    let passes = visit_all(rt, gate, &shared, passes)?;
     let Ok(closed) = round.close(alloc, passes) else {
         return Err(NoMemory);
     };
@@ -88,8 +92,8 @@ fn close_race<H: Threads + Sync, G: Gate>(
 }
 
 /// Makes a raced round from a partition that fits, rolls it back to its best prefix, and logs it. Answers the
-/// partition after the moves that were kept, and what they saved. Where there is no memory, nothing is
-/// logged.
+/// partition after the moves that were kept, and what they saved. The next round's active vertices are those
+/// that the moves may have changed something for. Where there is no memory, nothing is logged.
 pub(crate) fn race_round<H: Threads + Sync, G: Gate>(
     rt: &H,
     gate: &G,
@@ -97,19 +101,23 @@ pub(crate) fn race_round<H: Threads + Sync, G: Gate>(
     h: &Hypergraph,
     task: &Task,
     p: Partition,
+    active: &mut Active,
     log: &mut Log,
 ) -> Result<(Partition, u64), NoMemory>
     requires belongs { p.hyper ≡ h.now }
     requires fits { Fits h.now p.k p.limit p.blocks }
     requires workers { (1 ≤ task.now.workers) × (task.now.workers ≤ 64) }
+    requires active { active.old ≡ vertex_count h.now }
     ensures ok { IfOk result (λ r. LogsLabelRound true h.now task.now p log.old log.new r.1 r.0) }
+    ensures active { active.new ≡ active.old }
     ensures err { OnErr result (log.new ≡ log.old) }
 {
     let _blocks = p.blocks();
-    let closed = close_race(rt, gate, alloc, h, p, task.workers)?;
+    let closed = close_race(rt, gate, alloc, h, p, task.workers, active)?;
     let part = log.race(rt, alloc, h, Kind::Label, task.level, closed)?;
     let rounds = log.rounds();
     let round = &rounds[rounds.len() - 1];
+    active.follow(h, round.moves.slice());
     let saved = round.before.saturating_sub(round.after);
     Ok((part, saved))
 }

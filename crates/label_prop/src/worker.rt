@@ -1,32 +1,26 @@
 //! A worker: how it visits the vertices of its run.
 
-ghost use Rattle.std.specs.Prelude.{◌≡◌, ◌<◌, ◌≤◌};
+ghost use Rattle.std.specs.Prelude.{◌≡◌, ◌<◌, ◌≤◌, length};
 ghost use Rattle.hg_defs.specs.Hypergraph.{vertex_count};
 ghost use Rattle.label_prop.specs.Workers.{IsIdlePass};
 
 use crate::scores::Scores;
-use crew::{Gate, Span};
+use crate::shared::Shared;
+use crew::{Gate, span_of};
 use hg_base::{FREE, NoMemory};
-use incidence::Hypergraph;
-use move_table::{Pass, Round};
-use std::sync::atomic::AtomicBool;
+use move_table::Pass;
 use std::sync::atomic::Ordering::SeqCst;
 
-/// Visits a vertex: a free one goes to the block where it saves most, if there is room.
-fn visit(
-    round: &Round,
-    pass: &mut Pass,
-    scores: &mut Scores,
-    h: &Hypergraph,
-    v: u32,
-) -> Result<(), NoMemory>
-    requires belongs { round.now.terms.part.hyper ≡ h.now }
-    requires blocks { scores.old.k ≡ round.now.terms.part.k }
-    requires pass { IsIdlePass round.now pass.old.view.number pass.old }
-    requires vertex { v < vertex_count h.now }
+/// Visits a vertex: a free one goes to the block where it saves most, if there is room; if there isn't, it
+/// is marked for the next round.
+fn visit(shared: &Shared<'_>, pass: &mut Pass, scores: &mut Scores, v: u32) -> Result<(), NoMemory>
+    requires blocks { scores.old.k ≡ shared.now.k }
+    requires pass { IsIdlePass shared.now.round.now pass.old.view.number pass.old }
+    requires vertex { v < vertex_count shared.now.h.now }
     ensures blocks { scores.new.k ≡ scores.old.k }
-    ensures pass { IsIdlePass round.now pass.old.view.number pass.new }
+    ensures pass { IsIdlePass shared.now.round.now pass.old.view.number pass.new }
 {
+    let (round, h) = (shared.round, shared.h);
     if h.fix(v) != FREE {
         return Ok(());
     }
@@ -41,38 +35,32 @@ fn visit(
         Ok(grant) => {
             pass.carry(round, grant);
         }
-        Err(_) => pass.unclaim(round, v),
+        Err(_) => {
+            pass.unclaim(round, v);
+            shared.again[v as usize].store(true, SeqCst);
+        }
     }
     Ok(())
 }
 
-/// Visits the vertices of a run in rising number, and passes the gate before each. Where there is no
+/// Visits the vertices of a worker's run in rising number, and passes the gate before each. Where there is no
 /// memory, it says so to the others; where another worker has said so, it stops.
-pub(crate) fn visit_run<G: Gate>(
-    round: &Round,
-    pass: &mut Pass,
-    h: &Hypergraph,
-    k: u32,
-    gate: &G,
-    span: Span,
-    refused: &AtomicBool,
-)
-    requires belongs { round.now.terms.part.hyper ≡ h.now }
-    requires blocks { k ≡ round.now.terms.part.k }
-    requires few { k ≤ 256 }
-    requires pass { IsIdlePass round.now pass.old.view.number pass.old }
-    requires span { span.to ≤ vertex_count h.now }
-    ensures { IsIdlePass round.now pass.old.view.number pass.new }
+pub(crate) fn visit_run<G: Gate>(shared: &Shared<'_>, pass: &mut Pass, gate: &G, worker: u32)
+    requires pass { IsIdlePass shared.now.round.now pass.old.view.number pass.old }
+    requires worker { worker < shared.now.workers }
+    ensures { IsIdlePass shared.now.round.now pass.old.view.number pass.new }
 {
     let number = pass.number();
-    let mut scores = Scores::new(k);
-    for v in span.from..span.to {
-        if refused.load(SeqCst) {
+    let span = span_of(shared.vertices.len() as u32, shared.workers, worker);
+    let mut scores = Scores::new(shared.k);
+    for i in span.from..span.to {
+        if shared.refused.load(SeqCst) {
             return;
         }
-        gate.pass(number, u64::from(v - span.from));
-        if visit(round, pass, &mut scores, h, v).is_err() {
-            refused.store(true, SeqCst);
+        gate.pass(number, u64::from(i - span.from));
+        let v = shared.vertices[i as usize];
+        if visit(shared, pass, &mut scores, v).is_err() {
+            shared.refused.store(true, SeqCst);
             return;
         }
     }

@@ -1,11 +1,11 @@
-use Rattle.std.proofs.Common.{true, false, Result, Ok, Err, Option, List, ℕ, ◌+◌, inl, inr, true≢false, sym, subst, ◌∙◌, arith}
+use Rattle.std.proofs.Common.{rules, true, false, Result, Ok, Err, Option, List, ℕ, ◌+◌, inl, inr, true≢false, sym, subst, ◌∙◌, arith}
 use Rattle.std.specs.Result.{OnErr}
 use Rattle.hg_defs.specs.Hypergraph.{Hyper, IsWithinLimits}
 use Rattle.hg_defs.specs.Partition.{IsPartition}
 use Rattle.round_log.specs.declared.record.Kind.TheVariants.{Label}
 use Rattle.round_log.specs.declared.record.LoggedRound.{LoggedRound}
 use Rattle.refiner.specs.Logging.{LogsRounds}
-use Rattle.label_prop.proofs.PassLaws.{under_part, under_whole, under_fits, raced_room, raced_lower, raced_same}
+use Rattle.label_prop.proofs.PassLaws.{begun, under_part, under_whole, under_fits, raced_room, raced_lower, raced_same}
 use Rattle.label_prop.specs.LabelRounds.{SweepsOrRests}
 use Rattle.label_prop.proofs.PassLaws.{rested_whole, swept_room, swept_lower, under_same_as}
 use Rattle.label_prop.proofs.pass.label_pass.Goals as goal
@@ -15,6 +15,12 @@ use Rattle.label_prop.proofs.pass.label_pass.Goals.{then-saved-eq0+in_ok-saved+i
 at_err : {T E X : Type 0} (r : Result T E) → X → OnErr r X
 at_err (Ok x) p = tt
 at_err (Err e) p = p
+
+pub returns-in_err-active-clause-part : goal.returns-in_err-active-clause-part
+returns-in_err-active-clause-part g c =
+    at_err c.from_residual.result
+    (under_part c.args.h.now c.args.task.now c.args.p c.args.tally.now c.args.log.now 0 true c.args.p c.args.tally.now c.args.log.now
+    (begun c.args.h.now c.args.task.now c.args.p c.args.tally.now c.args.log.now))
 
 pub returns-then-settled-clause-pass : goal.returns-then-settled-clause-pass
 returns-then-settled-clause-pass g c =
@@ -29,7 +35,7 @@ race_round-requires-clause-fits g c κs within =
 
 pub returns-in_err-raced-clause-part : goal.returns-in_err-raced-clause-part
 returns-in_err-raced-clause-part g c =
-    at_err c.from_residual.result
+    at_err c.from_residual-in_err-raced.result
     (subst (λ (xs : List LoggedRound). LogsRounds false Label c.args.h.now c.args.task.now c.args.p c.args.tally.now c.turns.tally c.args.log.now xs)
     (sym c.in_err-raced.ensures.err)
     (under_part c.args.h.now c.args.task.now c.args.p c.args.tally.now c.args.log.now c.turns.counter true c.turns.part c.turns.tally c.turns.log
@@ -118,6 +124,7 @@ turns-preserved g c =
     let bounds = subst IsWithinLimits c.requires.belongs c.blocks-blocks.ensures.parted.bounds in
     elim c.if-saved-eq0.branch [
       | then-saved-eq0+in_ok-saved+in-Some w ↦ record {
+        active = search rules;
         underway = under_same_as c.args.h.now c.args.task.now c.args.p c.args.tally.now c.args.log.now (c.turns.counter + 1) w.part-is w.tally-is w.log-is
             (swept_lower c.args.h.now c.args.task.now c.args.p c.args.tally.now c.args.log.now c.requires.belongs whole c.requires.fits bounds
             c.requires.tallied.0 c.requires.tallied.1 c.turns.counter c.turns.part c.turns.tally c.turns.log c.turns.invariant.underway
@@ -129,6 +136,7 @@ turns-preserved g c =
             w.count-then-saved-eq0.new.tally w.count-then-saved-eq0.ensures);
       }
       | else-saved-eq0 w ↦ record {
+        active = search rules;
         underway = under_same_as c.args.h.now c.args.task.now c.args.p c.args.tally.now c.args.log.now (c.turns.counter + 1) w.part-is w.tally-is w.log-is
             (raced_lower c.args.h.now c.args.task.now c.args.p c.args.tally.now c.args.log.now c.requires.belongs whole c.requires.fits bounds
             c.requires.tallied.0 c.requires.tallied.1 c.turns.counter c.turns.part c.turns.tally c.turns.log c.turns.invariant.underway
