@@ -1,5 +1,5 @@
 -- Laws of a closed round that is rolled back and recorded.
-use Rattle.std.proofs.Common.{◌≡◌, ℕ, ◌-◌, ◌<◌, ◌^◌, List, ℤ, pos, ◌+ℤ◌, ◌-ℤ◌, to_z, of_z, length, get_or, All, sym, ap, ◌∙◌, subst, arith}
+use Rattle.std.proofs.Common.{◌≡◌, ℕ, ◌-◌, ◌<◌, ◌^◌, List, ℤ, pos, ◌-ℤ◌, to_z, of_z, length, get_or, All, sym, ap, ◌∙◌, subst, arith}
 use mir.Syntax.{w128}
 use Rattle.std.proofs.lemmas.Int.{ints}
 use Rattle.std.proofs.lemmas.List.Elements.{Contains-get_or}
@@ -21,9 +21,9 @@ use Rattle.refiner.specs.Racing.{RecordsRace}
 
 -- ---- numbers
 
-pub before_is : (f s : ℤ) (o m r : ℕ) → f ≡ pos r → r ≡ m → s ≡ pos o -ℤ pos m → o < 2 ^ 57 → m < 2 ^ 57
-    → to_z w128 (of_z w128 (to_z w128 (of_z w128 f) +ℤ to_z w128 (of_z w128 s))) ≡ pos o
-before_is f s o m r a b c d e = omega (arith, ints)
+pub made_is : (f s : ℤ) (o m r : ℕ) → f ≡ pos r → r ≡ o → s ≡ pos o -ℤ pos m → o < 2 ^ 57 → m < 2 ^ 57
+    → to_z w128 (of_z w128 (to_z w128 (of_z w128 f) -ℤ to_z w128 (of_z w128 s))) ≡ pos m
+made_is f s o m r a b c d e = omega (arith, ints)
 
 -- what is left of a cost where something is saved
 pub after_is : (saved o n before : ℕ) → before ≡ o → pos saved ≡ pos o -ℤ pos n → before - saved ≡ n
@@ -84,6 +84,14 @@ module _ (e : RacedEnd) (s : IsRacedEnd e) (h : Hyper) (same : e.part.hyper ≡ 
       (subst (λ (xs : List Move). IsReady h e.part xs gains) (sym made)
       (subst (λ (gs : List ℤ). IsReady h e.part e.moves gs) (sym booked)
       (subst (λ (g : Hyper). IsReady g e.part e.moves e.gains) same (ready e s))))
+
+  pub closed_before : (before : ℕ) → before ≡ cost e.part.hyper e.opening → before ≡ cost h (undone p.blocks moves)
+  closed_before before is =
+      is
+      ∙ ap (λ (g : Hyper). cost g e.opening) same
+      ∙ ap (cost h) (sym (opening_left e s))
+      ∙ sym (ap (λ (x : Parted). cost h (undone x.blocks e.moves)) part)
+      ∙ sym (ap (λ (xs : List Move). cost h (undone p.blocks xs)) made)
 
   pub closed_recorded : (kind : Kind) (level : ℕ) (r : LoggedRound) → RecordsRace kind level h p.k p.limit (undone p.blocks moves) moves gains r
       → RecordsRace kind level h e.part.k e.part.limit e.opening e.moves e.gains r

@@ -7,7 +7,7 @@ ghost use Rattle.refiner.specs.Racing.{LogsRace};
 use crate::race::record_race;
 use hg_base::{Items, NoMemory};
 use incidence::Hypergraph;
-use move_table::Closed;
+use move_table::{Closed, RaceParts};
 use pin_plain::Partition;
 use round_log::{Kind, LoggedRound, RoundList};
 use std::alloc::Global;
@@ -82,13 +82,13 @@ impl Log {
         ensures ok { IfOk result (λ q. LogsRace kind level h.now closed self.old self.new q) }
         ensures err { OnErr result (self.new ≡ self.old) }
     {
-        let _part = closed.part();
-        let copied = Vec::from_slice(alloc, closed.moves())?;
-        let booked = Vec::from_slice(alloc, closed.gains())?;
-        let mut part = closed.into_part();
-        let moves = Items::from_vec(copied);
-        let gains = Items::from_vec(booked);
-        let round = record_race(rt, alloc, h, kind, level, &mut part, moves, gains)?;
+        let before = closed.opening_cost();
+        let RaceParts {
+            mut part,
+            moves,
+            gains,
+        } = closed.into_parts();
+        let round = record_race(rt, alloc, h, kind, level, &mut part, moves, gains, before)?;
         self.rounds.push(round)?;
         Ok(part)
     }

@@ -29,7 +29,8 @@ fn sum_of(gains: &[i64]) -> i128
 }
 
 /// Rolls the moves of a race back to their best prefix, and records the round. The partition stands
-/// after all the moves.
+/// after all the moves, and the cost before them is given: the gains tell what they made of it, and the
+/// prefix what is left, so that no cost is counted anew.
 pub(crate) fn record_race<R: Threads + Sync>(
     rt: &R,
     alloc: Global,
@@ -39,6 +40,7 @@ pub(crate) fn record_race<R: Threads + Sync>(
     part: &mut Partition,
     moves: Moves,
     gains: Gains,
+    before: u64,
 ) -> Result<LoggedRound, NoMemory>
     requires belongs { part.old.hyper ≡ h.now }
     requires stands { EndAt h.now part.old.k part.old.blocks moves }
@@ -47,14 +49,14 @@ pub(crate) fn record_race<R: Threads + Sync>(
     requires fits { Fits h.now part.old.k part.old.limit part.old.blocks }
     requires sum { total_z (λ g. g) gains ≡ pos (cost h.now (undone part.old.blocks moves)) -ℤ pos
         (cost h.now part.old.blocks) }
+    requires before { before ≡ cost h.now (undone part.old.blocks moves) }
     ensures round { IfOk result (RecordsRace kind level h.now part.old.k part.old.limit (undone part.old.blocks moves)
         moves gains) }
     ensures partition { IfOk result (λ r. part.new ≡ record part.old
         { blocks = after_round (undone part.old.blocks moves) r }) }
 {
     let _parted = part.blocks();
-    let made = part.cost(h);
-    let before = (i128::from(made) + sum_of(gains.slice())) as u64;
+    let made = (i128::from(before) - sum_of(gains.slice())) as u64;
     let kept = keep_best(rt, alloc, h, part, moves.slice())?;
     Ok(LoggedRound {
         kind,
