@@ -1,5 +1,5 @@
 -- What each atomic step asks of the table holds.
-use Rattle.std.proofs.Common.{◌≡◌, ℕ, Bool, true, false, refl, sym, ap, ◌∙◌, subst}
+use Rattle.std.proofs.Common.{◌≡◌, ℕ, Bool, true, false, refl, slice_index, sym, ap, ◌∙◌, subst}
 use Rattle.atomic_table.specs.Table.{Me, Allows}
 use Rattle.atomic_table.specs.Seated.{TableId}
 use Rattle.move_core.specs.declared.account.Account.{Account}
@@ -11,12 +11,15 @@ use Rattle.move_core.specs.Events.{word_of, write_of}
 use Rattle.move_core.proofs.StageCases.{no}
 use Rattle.move_table.specs.declared.view.Terms.{Terms}
 use Rattle.move_table.specs.declared.view.View.{View}
-use Rattle.move_table.specs.Places.{number_in}
-use Rattle.move_table.specs.Standing.{terms_setup, AllStanding}
-use Rattle.move_table.specs.Seen.{IsKnownFound, IsFound}
+use Rattle.hg_base.specs.Packed.{field}
+use Rattle.pin_plain.specs.Counts.{net_bits}
+use Rattle.move_core.specs.declared.events.Word.TheVariants as word
+use Rattle.move_table.specs.Places.{number_in, field_place}
+use Rattle.move_table.specs.Standing.{terms_setup, IsStanding, AllStanding}
+use Rattle.move_table.specs.Seen.{IsKnownFound, IsFound, IsCountRead, AreCountsRead}
 use Rattle.move_table.specs.Steps.{IsReady, acted, step_amount, overwritten, is_added, is_subtracted, is_stored, is_swapped, is_loaded}
 use Rattle.move_table.proofs.StepLaws.{is_alone, allows, IsRight}
-use Rattle.move_table.proofs.RightLaws.{adding, taking, adds, subtracts, stores, swaps, loads}
+use Rattle.move_table.proofs.RightLaws.{adding, taking, adds, subtracts, stores, swaps, loads, read_also}
 
 alone_by : (test : Event → Bool) → ((i : ℕ) → test (Split i) ≡ false) → ((i j : ℕ) → test (Join i j) ≡ false) → (x : Event) → test x ≡ true →
     is_alone x ≡ true
@@ -82,10 +85,20 @@ module _ (table : TableId) (t : Terms) (slots id : ℕ) (me : Me (Unit {0}) View
       allows table t slots id me x i (λ n. new) (alone_by is_swapped (λ i. refl) (λ i j. refl) x h) ready
       (λ words views k at small. subst (λ z. IsRight me.0 x (λ n. z) words) (sym e) (swaps words views id me.0 ready.live k at x h ready.number ready.may))
 
-  pub load_allows : is_loaded x ≡ true → Allows (AllStanding t) slots id me i (λ n. n) Tells
-  load_allows h =
-      allows table t slots id me x i (λ n. n) (alone_by is_loaded (λ i. refl) (λ i j. refl) x h) ready
-      (λ words views k at small. loads words views id me.0 ready.live k at x h ready.number ready.may)
+  -- a load tells of all counts of its word
+  abbrev pub Reads : ℕ → Type 0
+  Reads n = IsKnownFound g x a (number_in g (word_of g x a) n) × AreCountsRead g a i n
+
+  pub load_allows : is_loaded x ≡ true → Allows (AllStanding t) slots id me i (λ n. n) (λ n after.
+      (after ≡ (acted x (number_in g (word_of g x a) n) me.0, me.1)) × Reads n)
+  load_allows h = λ s k deep at small.
+      let alone = alone_by is_loaded (λ i. refl) (λ i j. refl) x h in
+      let q = allows table t slots id me x i (λ n. n) alone ready
+      (λ words views k at small. loads words views id me.0 ready.live k at x h ready.number ready.may) s k deep at small in
+      let all : AreCountsRead g a i (slice_index s.words i) = λ e b l m p.
+      subst (λ z. IsCountRead g a e b (field (slice_index s.words z) (net_bits g.graph e) (field_place g e b))) p
+      (read_also s.words s.views id me.0 ready.live (subst (λ z. IsStanding z s.words s.views) (sym ready.terms) k) at x alone ready.number ready.may (word.Count e b) (l, m)) in
+      (q.0, q.1, q.2, q.3, (q.4.0, (q.4.1, all)))
 
   -- a store doesn't tell what it found, which is known nevertheless
   pub store_allows : (new : ℕ) → is_stored x ≡ true → new ≡ write_of g x a 0 → Allows (AllStanding t) slots id me i (λ n. new)

@@ -34,7 +34,7 @@ use Rattle.move_table.specs.Places.{word_place, number_in, field_place, table_re
 use Rattle.move_table.specs.Standing.{terms_setup, IsStanding}
 use Rattle.move_table.specs.Seen.{IsRead, IsBookable, widened_net, narrowed_net}
 use Rattle.move_table.specs.Steps.{step_amount, count_unit, is_added, is_subtracted, is_stored, is_swapped, is_loaded}
-use Rattle.move_table.proofs.PlaceLaws.{Exists, KeepsFields, exists_word}
+use Rattle.move_table.proofs.PlaceLaws.{Exists, KeepsFields, exists_word, reads_number}
 use Rattle.move_table.proofs.StepLaws.{is_alone, accounts_of, account_here, at_below, account_there, enabled, setup_ok}
 use Rattle.move_table.proofs.StepLaws.{word_exists, reads_found, balance_after, IsWritten, IsRight}
 use Rattle.move_table.proofs.TellLaws.{reads}
@@ -182,6 +182,10 @@ module _ (words : List ℕ) (views : List View) (id : ℕ) (v : View) (live : v.
 
     pub read_there : IsRead g a (word_at x) (number_in g (word_at x) (held_in x))
     read_there = subst (IsRead g a (word_at x)) reads_held (reads g ok r (accounts_of views) k.balance id a l here (word_at x) exists)
+
+    -- and so is each other word of the round that is there
+    pub read_also : (w : Word) → Exists g w → IsRead g a w (number_in g w (slice_index words (word_place g w)))
+    read_also w e = subst (IsRead g a w) (reads_number g words w) (reads g ok r (accounts_of views) k.balance id a l here w e)
 
     -- what is known after the event, where its word is written as it does
     after_gain : (y : ℕ) → IsWritten g x a (held_in x) y → (gain : ℤ) → account_after g x (number_in g (word_at x) (held_in x)) a ≡ booked gain a →

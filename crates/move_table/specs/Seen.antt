@@ -1,8 +1,10 @@
 -- What an event of a pass tells it: what is known of the number that it finds.
 use Rattle.std.specs.Prelude.{◌≡◌, ℕ, ◌+◌, ◌-◌, ◌^◌, ◌<◌, ◌≤◌, ℤ, ◌+ℤ◌, All, length, FitsSigned}
 use Rattle.std.specs.Int.{w64}
-use Rattle.hg_defs.specs.Hypergraph.{vertex_count, net_of, weight_of}
+use Rattle.hg_defs.specs.Hypergraph.{vertex_count, net_count, net_of, weight_of}
 use Rattle.hg_defs.specs.Partition.{block_of}
+use Rattle.hg_base.specs.Packed.{field}
+use Rattle.pin_plain.specs.Counts.{net_bits}
 use Rattle.move_core.specs.declared.account.Account.{Account}
 use Rattle.move_core.specs.declared.events.Event.{Event}
 use Rattle.move_core.specs.declared.events.Event.TheVariants.{Claim, Unclaim, Reserve, TakeBack, Draw, Name, Raise, Widen, Lower}
@@ -13,6 +15,7 @@ use Rattle.move_core.specs.State.{Setup, times}
 use Rattle.move_core.specs.Stages.{booked_at, vertex_at, raised_at, lowered_at}
 use Rattle.move_core.specs.Events.{moved_vertices, word_of, widen_gain, narrow_gain, stage_net}
 use Rattle.move_core.specs.Balance.{arrived, renamed, pins_carried}
+use Rattle.move_table.specs.Places.{counts_place, field_place}
 
 -- a claim is 0 or 1, and 1 where the pass itself holds the vertex; where it is 0 the pass hasn't moved the vertex
 pub record IsClaimRead (a : Account) (v found : ℕ) : Type 0 where
@@ -31,6 +34,12 @@ pub record IsNameRead (g : Setup) (a : Account) (v found : ℕ) : Type 0 where
 pub record IsCountRead (g : Setup) (a : Account) (e b found : ℕ) : Type 0 where
   pub own : pins_carried g.graph e b a ≤ found
   pub most : found ≤ length (net_of g.graph e).pins
+
+-- so it is of each count that stands in the word of the table at a place
+abbrev pub AreCountsRead : Setup → Account → ℕ → ℕ → Type 0
+AreCountsRead g a place found =
+    (e b : ℕ) → e < net_count g.graph → b < g.blocks → counts_place g e b ≡ place
+    → IsCountRead g a e b (field found (net_bits g.graph e) (field_place g e b))
 
 -- what a pass knows of a number that it reads in a word
 abbrev pub IsRead : Setup → Account → Word → ℕ → Type 0

@@ -364,8 +364,8 @@ impl Pass {
 
     /// The counts of a net in all blocks of one of its words, as the word tells them: `64 / bits`
     /// fields, for which [`field`] reads, where `bits` is [`Round::count_bits`] of the net. The first
-    /// one is that of the block `index * (64 / bits)`. One step, the peek of that count; none of them
-    /// decides anything.
+    /// one is that of the block `index * (64 / bits)`. One step, the peek of that count, which reads all
+    /// of them at once; none of them decides anything.
     pub fn peek_counts(&mut self, round: &Round, e: u32, index: u32) -> u64
         requires belongs { IsPassOf round.now self.old }
         requires net { e < net_count round.now.terms.part.hyper }
@@ -373,8 +373,9 @@ impl Pass {
         ensures step { let bits = net_bits round.now.terms.part.hyper e in
             self.new ≡ stepped (Peek self.old.view.number (word.Count e (index * fields_of bits)))
             (field result bits 0) self.old }
-        ensures read { let bits = net_bits round.now.terms.part.hyper e in IsCountRead (terms_setup round.now.terms)
-            self.old.view.account e (index * fields_of bits) (field result bits 0) }
+        ensures read { let bits = net_bits round.now.terms.part.hyper e in (j : ℕ) → j < fields_of bits →
+            index * fields_of bits + j < round.now.terms.part.k → IsCountRead (terms_setup round.now.terms)
+            self.old.view.account e (index * fields_of bits + j) (field result bits j) }
     {
         let number = self.number;
         let words = round.shared();

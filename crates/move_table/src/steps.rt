@@ -5,7 +5,7 @@ ghost use Rattle.atomic_table.specs.Table.{Allows};
 ghost use Rattle.move_core.specs.Events.{word_of, write_of};
 ghost use Rattle.move_table.specs.Places.{number_in};
 ghost use Rattle.move_table.specs.Standing.{terms_setup, AllStanding};
-ghost use Rattle.move_table.specs.Seen.{IsKnownFound};
+ghost use Rattle.move_table.specs.Seen.{IsKnownFound, AreCountsRead};
 ghost use Rattle.move_table.specs.Steps.{IsReady, acted, step_amount, is_added, is_subtracted, is_stored, is_swapped};
 ghost use Rattle.move_table.specs.Steps.{is_loaded, overwritten, IsResting, parted_view, made_view, united_view};
 
@@ -34,7 +34,7 @@ fn load_as<D: Deed>(words: &Words, seat: &mut Place, event: Event, word: usize) 
     words.load::<Does<D>>(seat, word)
 }
 
-/// Reads a word: one event.
+/// Reads a word: one event. It tells of all counts that stand in the word.
 pub(crate) fn load(words: &Words, seat: &mut Place, event: Event, word: usize) -> u64
     requires table { seat.old.table_id ≡ words.now.table_id }
     requires ready { IsReady words.now.table_id words.now.key seat.old.me.0 event word }
@@ -44,6 +44,7 @@ pub(crate) fn load(words: &Words, seat: &mut Place, event: Event, word: usize) -
         seat.new.me ≡ (acted event (number_in g (word_of g event v.account) result) v, seat.old.me.1) }
     ensures told { let v = seat.old.me.0 in let g = terms_setup v.terms in IsKnownFound g event v.account
         (number_in g (word_of g event v.account) result) }
+    ensures counts { AreCountsRead (terms_setup seat.old.me.0.terms) seat.old.me.0.account word result }
 {
     load_as::<Brand>(words, seat, event, word)
 }

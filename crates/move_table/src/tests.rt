@@ -635,6 +635,7 @@ fn try_rounds<R: Threads + Sync + Abort>(
         let refused = AtomicU64::new(0);
         let closed = raced(rt, alloc, &h, p, &refused)?;
         assert!(rt; 0 < refused.load(SeqCst) && 100 < closed.moves().len());
+        assert!(rt; closed.opening_cost() == before);
         let gains = closed
             .gains()
             .iter()

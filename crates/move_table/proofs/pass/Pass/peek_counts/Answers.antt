@@ -1,10 +1,13 @@
 use Rattle.std.proofs.Common.{rules, ◌≡◌, ℕ, ◌+◌, ◌*◌, ◌/◌, ◌<◌, subst, ap, sym, ◌∙◌, arith}
-use Rattle.hg_base.specs.Packed.{IsWidth, fields_of}
+use Rattle.std.proofs.lemmas.Nat.{div-mul-add, mod-mul-add}
+use Rattle.hg_base.specs.Packed.{IsWidth, fields_of, field}
 use Rattle.pin_plain.specs.Counts.{net_bits}
 use Rattle.move_core.specs.declared.events.Event.TheVariants.{Peek}
 use Rattle.move_core.specs.declared.events.Word.TheVariants as word
 use Rattle.move_table.specs.Places.{counts_place}
 use Rattle.move_table.specs.Standing.{terms_setup}
+use Rattle.move_table.specs.Seen.{IsCountRead, AreCountsRead}
+use Rattle.move_table.specs.Calls.{RacedPass}
 use Rattle.move_table.proofs.PlaceLaws.{Exists, first_word}
 use Rattle.move_table.proofs.ReadyLaws.{ready}
 use Rattle.move_table.proofs.pass.Pass.peek_counts.Goals as goal
@@ -34,3 +37,18 @@ load-requires-clause-ready c =
     (sym c.shared-words.ensures.key) (c.requires.net, below))
     (subst (λ z. c.net-net.result.start + 1 + c.args.index ≡ counts_place (terms_setup z) c.args.e c.first_block-b.result) (sym c.shared-words.ensures.key)
     (sym at))
+
+pub returns-clause-read : goal.returns-clause-read
+returns-clause-read c = λ j l m.
+    let s = terms_setup c.args.round.now.terms in
+    let a = c.args.self.now.view.account in
+    let bits = net_bits c.args.round.now.terms.part.hyper c.args.e in
+    let place : ℕ = c.net-net.result.start + 1 + c.args.index in
+    let told : AreCountsRead s a place c.load.result =
+    subst (λ z. AreCountsRead (terms_setup z) a place c.load.result) c.requires.belongs.same_terms
+    (subst (λ (p : RacedPass). AreCountsRead (terms_setup p.view.terms) p.view.account place c.load.result) c.self.view_is c.load.ensures.counts) in
+    let b : ℕ = c.args.index * fields_of bits + j in
+    let q : b / fields_of bits ≡ c.args.index = div-mul-add c.args.index (fields_of bits) j l in
+    let start = c.net-net.ensures.start in
+    subst (λ x. IsCountRead s a c.args.e b (field c.load.result bits x)) (mod-mul-add c.args.index (fields_of bits) j l)
+    (told c.args.e b c.requires.net m (omega arith))
