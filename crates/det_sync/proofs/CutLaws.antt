@@ -1,22 +1,22 @@
 -- Laws of cut nets and of the vertices that they hold.
 use Rattle.std.proofs.Common.{◌≡◌, ◌≢◌, ℕ, zero, suc, ◌+◌, ◌-◌, ◌<◌, ◌≤◌, ◌⊎◌, inl, inr, List, [], ◌∷◌, ◌++◌, Bool, true, false, ◌||◌, cond, nat_eq, nat_lt}
-use Rattle.std.proofs.Common.{Option, Some, None, option_map, option_to_list, slice_get, length, take, drop, set, get_or, filter, All, Contains}
-use Rattle.std.proofs.Common.{replicate, is_some, true≢false, refl, sym, ap, subst, ◌∙◌, arith}
+use Rattle.std.proofs.Common.{Option, Some, None, slice_get, length, take, drop, set, get_or, filter, All, Contains}
+use Rattle.std.proofs.Common.{is_some, true≢false, refl, sym, ap, subst, ◌∙◌, arith}
 use Rattle.std.specs.List.{list_any, range_with_len}
 use Rattle.std.proofs.lemmas.Bool.{eqb-true, eqb-false, eq-eqb, ne_eqb, lt-ltb, le-ltb, cases_eq, cases_lt}
 use Rattle.std.proofs.lemmas.List.{get_or-set_same, get_or-set_other, append-nil, take_all, take-append-le}
-use Rattle.std.proofs.lemmas.List.Elements.{Contains-get_or, filter-append, All-head, All-tail}
+use Rattle.std.proofs.lemmas.List.Elements.{filter-append, All-head, All-tail}
 use Rattle.std.proofs.lemmas.List.Folds.{list_any_more}
 use Rattle.rayon.proofs.ToStd.{nat_range-All}
 use Rattle.hg_defs.specs.Hypergraph.{Hyper, IsHypergraph, vertex_count, net_count, net_of}
 use Rattle.hg_defs.specs.Partition.{IsPartition, block_of}
 use Rattle.hg_defs.specs.Cost.{connectivity}
 use Rattle.hg_defs.specs.Pins.{pins_in}
-use Rattle.hg_defs.specs.Incidence.{is_pin, is_on, nets_of}
+use Rattle.hg_defs.specs.Incidence.{is_on}
 use Rattle.hg_defs.proofs.DistinctLaws.{pins_in-le}
 use Rattle.pin_plain.proofs.GainLaws.{some_blocks}
 use Rattle.pin_plain.proofs.InnerLaws.{whole_by_count}
-use Rattle.det_sync.specs.CutNets.{is_cut, cut_nets, is_on_one}
+use Rattle.det_sync.specs.CutNets.{is_cut, is_on_one}
 
 -- ---- cut nets
 

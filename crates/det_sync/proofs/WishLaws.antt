@@ -13,7 +13,7 @@ use Rattle.std.proofs.lemmas.List.Sorted.{All-permutation, IsPermutation-map}
 use Rattle.hg_defs.specs.Sorting.{sorted}
 use Rattle.hg_defs.specs.Hypergraph.{Hyper, IsHypergraph, vertex_count, net_count, vertices}
 use Rattle.hg_defs.specs.Partition.{IsPartition}
-use Rattle.hg_defs.specs.Incidence.{is_on, nets_of}
+use Rattle.hg_defs.specs.Incidence.{is_on}
 use Rattle.hg_defs.specs.LeastLoaded.{heavier_first}
 use Rattle.hg_defs.specs.Moves.{best_block}
 use Rattle.hg_defs.specs.Synchronous.{wish, saving}

@@ -46,7 +46,9 @@ pub(crate) fn nets_cut<R: Threads + Sync>(
     requires some { 0 < workers }
     ensures { IfOk result (λ nets. nets.items ≡ cut_nets h.now p.now.blocks) }
 {
-    let share = (h.nets() as usize).div_ceil(workers as usize).max(LEAST_NETS);
+    let share = (h.nets() as usize)
+        .div_ceil(workers as usize)
+        .max(LEAST_NETS);
     (0..h.nets())
         .into_par_iter()
         .with_min_len(share)

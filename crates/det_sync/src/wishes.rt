@@ -43,7 +43,9 @@ fn cuts_of(
     requires vertices { All (λ v. v < vertex_count h.now) listed.now }
     ensures { IfOk result (λ cuts. AreCuts (length listed.now) cuts.items) }
 {
-    let share = pin_count(h, listed).div_ceil(workers as usize).max(LEAST_NETS);
+    let share = pin_count(h, listed)
+        .div_ceil(workers as usize)
+        .max(LEAST_NETS);
     let mut cuts = Vec::new(alloc);
     cuts.push(0)?;
     let mut pins = 0usize;

@@ -1,4 +1,4 @@
-use Rattle.std.proofs.Common.{ℕ, true, false, get_or}
+use Rattle.std.proofs.Common.{false, get_or}
 use Rattle.det_sync.proofs.CutLaws.{place_kept, place_left}
 use Rattle.det_sync.proofs.cut.marked.Goals as goal
 

@@ -1,4 +1,4 @@
-use Rattle.std.proofs.Common.{◌≡◌, ◌∙◌, ◌<◌, ◌||◌, ℕ, List, Bool, false, filter, length, get_or, replicate, ap, arith}
+use Rattle.std.proofs.Common.{◌≡◌, ◌∙◌, ◌||◌, List, Bool, false, filter, length, get_or, replicate, ap, arith}
 use Rattle.std.specs.List.{range_with_len}
 use Rattle.std.proofs.lemmas.List.{get_or-replicate}
 use Rattle.rayon.proofs.ListFacts.{IfOk-then}

@@ -1,10 +1,10 @@
-use Rattle.std.proofs.Common.{List, All, IsPermutation, ℕ, ◌<◌, sym, ◌∙◌, ap, subst}
+use Rattle.std.proofs.Common.{List, All, IsPermutation, ◌<◌, sym, ◌∙◌, ap, subst}
 use Rattle.std.specs.List.{range_with_len}
 use Rattle.std.proofs.lemmas.List.Elements.{All-filter}
 use Rattle.hg_defs.specs.Hypergraph.{Hyper, IsHypergraph, vertex_count, net_count, vertices}
 use Rattle.hg_defs.specs.Partition.{IsPartition}
 use Rattle.pin_plain.specs.BestMoves.{best_moves}
-use Rattle.det_sync.specs.CutNets.{is_cut, cut_nets, is_on_one, held_by}
+use Rattle.det_sync.specs.CutNets.{is_cut, is_on_one, held_by}
 use Rattle.det_sync.specs.Wishes.{Wish, AreWishes}
 use Rattle.det_sync.proofs.CutLaws.{range_below, written}
 use Rattle.det_sync.proofs.WishLaws.{asked_all, sorted_wishes}
