@@ -1,7 +1,7 @@
 -- Lists of cut nets.
 use Rattle.std.proofs.Common.{◌≡◌, ◌≢◌, ◌⊎◌, inl, inr, ℕ, zero, suc, ◌<◌, Bool, true, false, ◌&&◌, not, nat_eq, List, [], ◌∷◌, ◌++◌, filter, length, All}
 use Rattle.std.proofs.Common.{Contains}
-use Rattle.std.proofs.Common.{◌||◌, refl, sym, ap, subst, ◌∙◌, arith, true≢false, slice_index, slice_index_or, slice_set, replicate}
+use Rattle.std.proofs.Common.{◌||◌, if◌then◌else◌, refl, sym, ap, subst, ◌∙◌, arith, true≢false, slice_index, slice_index_or, slice_set, replicate}
 use Rattle.std.proofs.Common.{length-set, get_or-set_same, get_or-set_other}
 use Rattle.std.specs.List.{list_any, flat_map, range_with_len}
 use Rattle.std.specs.Ordering.{nat_cmp}
@@ -18,12 +18,12 @@ use Rattle.hg_defs.specs.Sorting.{set_of}
 use Rattle.hg_defs.proofs.NumberingLaws.{Contains-from_filter, Contains_range}
 use Rattle.hg_defs.proofs.PlacementLaws.{Contains_filter}
 use Rattle.hg_defs.proofs.ReplayLaws.{replay-apart}
-use Rattle.hg_defs.proofs.SortLaws.{nat_cmp_exact, Contains_head, Contains_later, increasing-set_of, Contains-set_of, Contains-from_set_of}
-use Rattle.round_log.specs.Rounds.{has_pin}
+use Rattle.hg_defs.proofs.SortLaws.{nat_cmp_exact, Contains-nil, Contains_head, Contains_later, increasing-set_of, Contains-set_of, Contains-from_set_of}
+use Rattle.round_log.specs.Rounds.{has_pin, touching}
 use Rattle.flow_pair.specs.Sides.{touching_nets}
 use Rattle.flow_pair.specs.CutNets.{HoldsTouching, HoldsCutOf, HoldsCut, AreCutLists, KeepNets, with_nets}
 use Rattle.flow_pair.proofs.MemberLaws.{any_is, any_from, member_true, Contains-flat_map, Contains-from_flat_map, Contains-from_range, rising_is_filter}
-use Rattle.flow_pair.proofs.NetLaws.{all_of}
+use Rattle.flow_pair.proofs.NetLaws.{all_of, touching_some, touching_none}
 use Rattle.flow_pair.proofs.PairLaws.{in_pair, IsRearranged}
 
 -- ---- those that touch a pair
@@ -39,6 +39,36 @@ module _ (h : Hyper) (p : List ℕ) (a b : ℕ) (nets : List ℕ) where
       (λ e c. let x = Contains-from_filter touches nets e (Contains-from_set_of nat_cmp_total nat_cmp_exact (filter touches nets) e c) in
       (All-contains (λ i. i < net_count h) nets e below x.0, x.1))
       (λ e low t. Contains-set_of nat_cmp_total nat_cmp_exact (filter touches nets) e (Contains_filter touches nets e (all e low t) t))
+
+filter_none : (test : ℕ → Bool) (xs : List ℕ) → list_any test xs ≡ false → filter test xs ≡ []
+filter_none test [] e = refl
+filter_none test (x ∷ xs) e = by (test x) e (filter_none test xs)
+  where
+    by : (t : Bool) → (t || list_any test xs) ≡ false → (list_any test xs ≡ false → filter test xs ≡ [])
+        → (if t then x ∷ filter test xs else filter test xs) ≡ []
+    by true f rest = absurd (true≢false f)
+    by false f rest = rest f
+
+-- none of them touches the pair just where no net does
+module _ (h : Hyper) (p : List ℕ) (a b : ℕ) (nets : List ℕ) (below : All (λ e. e < net_count h) nets) where
+  abbrev is_between : ℕ → Bool
+  is_between e = has_pin p (net_of h e) a && has_pin p (net_of h e) b
+
+  pub none_between : HoldsTouching h p a b nets → list_any (λ e. has_pin p (net_of h e) a && has_pin p (net_of h e) b) nets ≡ false
+      → touching h p a b ≡ []
+  none_between all e =
+      touching_some h p a b (sym (between_found h p a b nets below all) ∙ ap (set_of nat_cmp) (filter_none is_between nets e))
+
+  pub between_none : touching h p a b ≡ [] → list_any (λ e. has_pin p (net_of h e) a && has_pin p (net_of h e) b) nets ≡ false
+  between_none e = by (list_any is_between nets) refl
+    where
+      by : (t : Bool) → list_any is_between nets ≡ t → t ≡ false
+      by false f = refl
+      by true f =
+          let x = any_is is_between nets f in
+          let low = All-contains (λ i. i < net_count h) nets x.0 below x.1 in
+          let c = Contains_filter is_between (range_with_len 0 (net_count h)) x.0 (Contains_range 0 (net_count h) x.0 (omega arith) (omega arith)) x.2 in
+          absurd (Contains-nil x.0 (subst (λ xs. Contains xs x.0) (touching_none h p a b e) c))
 
 -- ---- all of them
 

@@ -73,6 +73,23 @@ pub(crate) fn nets_between(
     Ok(distinct(found))
 }
 
+/// Whether one of some nets touches both blocks of a pair.
+pub(crate) fn any_between(h: &Hypergraph, p: &Partition, a: u32, b: u32, nets: &[u32]) -> bool
+    requires belongs { p.now.hyper ≡ h.now }
+    requires first { a < p.now.k }
+    requires second { b < p.now.k }
+    requires nets { All (λ e. e < net_count h.now) nets.now }
+    ensures { result ≡ list_any (λ e. has_pin p.now.blocks (net_of h.now e) a && has_pin p.now.blocks (net_of h.now e)
+        b) nets.now }
+{
+    for e in nets {
+        if touches(h, p, a, b, *e) {
+            return true;
+        }
+    }
+    false
+}
+
 /// Whether not all pins are in the block of the first one.
 fn is_cut(blocks: &[u32], pins: &[u32]) -> bool
     requires { All (λ v. v < length blocks.now) pins.now }

@@ -1,13 +1,14 @@
 //! The cut nets of a partition, block by block.
 
 ghost use Rattle.std.specs.Prelude.{◌≡◌, ◌≢◌, ◌⊎◌, ℕ, ◌<◌, ◌≤◌, [], All, Contains, IfOk, OnOk, length};
-ghost use Rattle.std.specs.Prelude.{replicate, slice_index_or, IsTrue};
+ghost use Rattle.std.specs.Prelude.{replicate, slice_index_or, IsTrue, false, ◌↔◌};
 ghost use Rattle.hg_defs.specs.Hypergraph.{vertex_count, net_count, net_of};
 ghost use Rattle.hg_defs.specs.Partition.{block_of};
+ghost use Rattle.round_log.specs.Rounds.{touching};
 ghost use Rattle.flow_pair.specs.CutNets.{AreCutLists, KeepNets, with_nets};
 ghost use Rattle.flow_pair.specs.Sides.{touching_nets};
 
-use crate::cut::{add_nets_of, cut_nets_of, nets_between};
+use crate::cut::{add_nets_of, any_between, cut_nets_of, nets_between};
 use crate::distinct::common_of;
 use flow_net::NoMemory;
 use hg_base::{Move, Verts};
@@ -153,6 +154,31 @@ impl CutNets {
         let seconds = self.lists[b as usize].slice();
         let both = common_of(alloc, spots, firsts, seconds)?;
         nets_between(alloc, h, p, a, b, both.as_slice())
+    }
+
+    /// Whether a net touches both blocks of a pair. The shorter one of their lists is looked through, up to the
+    /// first such net.
+    pub fn touch(&self, h: &Hypergraph, p: &Partition, a: u32, b: u32) -> bool
+        requires belongs { p.now.hyper ≡ h.now }
+        requires cut { AreCutLists h.now p.now.k p.now.blocks self.now }
+        requires order { a < b }
+        requires second { b < p.now.k }
+        ensures { (result ≡ false) ↔ (touching h.now p.now.blocks a b ≡ []) }
+    {
+        let firsts = self.lists[a as usize].slice();
+        let seconds = self.lists[b as usize].slice();
+        if firsts.len() < seconds.len() {
+            return any_between(h, p, a, b, firsts);
+        }
+        any_between(h, p, a, b, seconds)
+    }
+
+    /// How long the list of a block is. A net may stand in it more than once.
+    pub fn len_of(&self, a: u32) -> usize
+        requires { a < length self.now }
+        ensures { result ≡ length (slice_index_or self.now a []) }
+    {
+        self.lists[a as usize].len()
     }
 
     /// Adds the nets of vertices that moved between two blocks to the lists of both.
