@@ -1,5 +1,5 @@
 -- Turns of the pairs of a wave, and of waves, one after the other.
-use Rattle.std.proofs.Common.{◌≡◌, ◌≢◌, ◌⊎◌, inl, inr, ℕ, zero, suc, ◌+◌, ◌-◌, ◌<◌, ◌≤◌, Bool, true, false, List, [], ◌∷◌, ◌++◌, map, filter, All}
+use Rattle.std.proofs.Common.{◌≡◌, ◌≢◌, ℕ, zero, suc, ◌+◌, ◌-◌, ◌<◌, ◌≤◌, Bool, true, false, List, [], ◌∷◌, ◌++◌, map, filter, All}
 use Rattle.std.proofs.Common.{Contains, Option, None, refl, sym, ap, subst, ◌∙◌, arith, if◌then◌else◌}
 use Rattle.std.specs.List.{range_with_len}
 use Rattle.std.proofs.lemmas.List.{append-nil, append_assoc}
@@ -14,7 +14,7 @@ use Rattle.flow_pair.proofs.MemberLaws.{Contains-from_range}
 use Rattle.flow_round.specs.PairTurns.{IsPairBelow, IsTurn, AreTurns, after_turn, after_turns, is_of_wave, wave}
 use Rattle.flow_round.specs.Waves.{end_at, GainsEnds}
 use Rattle.flow_round.specs.declared.front.Front.{Front}
-use Rattle.flow_round.specs.Fronts.{MayHaveEnd, KeepsOtherEnds, KeepsOtherWaves, TakesPairs}
+use Rattle.flow_round.specs.Fronts.{TakesPairs}
 use Rattle.flow_round.proofs.SwapLaws.{turn_kept}
 use Rattle.flow_round.proofs.TableLaws.{after_turns-append, after_turns-same, turns_append, turns_same}
 use Rattle.flow_round.proofs.WaveLaws.{IsOfWave, wave_is, wave_of, wave_disjoint, waves_from, waves_from-suc}
@@ -75,44 +75,29 @@ wave_below-out k s a t =
 
 -- ---- a pair of the wave more
 
-module _ (h : Hyper) (k l : ℕ) (sound : IsHypergraph h) (first q : List ℕ) (ends more : List (Option PairEnd)) (s a : ℕ) (t : is_of_wave k s a ≡ true)
+module _ (h : Hyper) (k l : ℕ) (sound : IsHypergraph h) (first q : List ℕ) (ends : List (Option PairEnd)) (s a : ℕ) (t : is_of_wave k s a ≡ true)
     (is : q ≡ after_turns (end_at k ends) (wave_below k s a) first) (turns : AreTurns h k l (end_at k ends) (wave_below k s a) first)
-    (turn : IsTurn h k l q (pair_in s a) (end_at k more (pair_in s a))) (others : KeepsOtherEnds k ends more (pair_in s a))
+    (turn : IsTurn h k l q (pair_in s a) (end_at k ends (pair_in s a)))
   where
-    kept : All (λ x. end_at k more x ≡ end_at k ends x) (wave_below k s a)
-    kept = All-weaker (λ x. IsOfWave k s x × (x.0 < a)) (λ x. end_at k more x ≡ end_at k ends x)
-        (λ x w. others x w.0.0 (λ e. let f = ap (λ (z : ℕ × ℕ). z.0) e in let g = w.1 in absurd (omega arith))) (wave_below k s a) (below_of k s a)
-
-    pub more_turns : AreTurns h k l (end_at k more) (wave_below k s (a + 1)) first
+    pub more_turns : AreTurns h k l (end_at k ends) (wave_below k s (a + 1)) first
     more_turns =
-        subst (λ xs. AreTurns h k l (end_at k more) xs first) (sym (wave_below-in k s a t))
-        (turns_append h k l (end_at k more) (wave_below k s a) (pair_in s a ∷ []) first (turns_same h k l (end_at k ends) (end_at k more) (wave_below k s a)
-        first kept turns) (
-          subst (λ p. IsTurn h k l p (pair_in s a) (end_at k more (pair_in s a))) (is ∙ sym (after_turns-same (end_at k ends) (end_at k more)
-              (wave_below k s a) first kept)) turn,
-          tt,
-        ))
+        subst (λ xs. AreTurns h k l (end_at k ends) xs first) (sym (wave_below-in k s a t))
+        (turns_append h k l (end_at k ends) (wave_below k s a) (pair_in s a ∷ []) first turns
+        (subst (λ p. IsTurn h k l p (pair_in s a) (end_at k ends (pair_in s a))) is turn, tt))
 
-    pub more_blocks : after_turn q (end_at k more (pair_in s a)) ≡ after_turns (end_at k more) (wave_below k s (a + 1)) first
+    pub more_blocks : after_turn q (end_at k ends (pair_in s a)) ≡ after_turns (end_at k ends) (wave_below k s (a + 1)) first
     more_blocks =
-        ap (λ p. after_turn p (end_at k more (pair_in s a))) (is ∙ sym (after_turns-same (end_at k ends) (end_at k more) (wave_below k s a) first kept))
-        ∙ sym (after_turns-append (end_at k more) (wave_below k s a) (pair_in s a ∷ []) first)
-        ∙ ap (λ xs. after_turns (end_at k more) xs first) (sym (wave_below-in k s a t))
+        ap (λ p. after_turn p (end_at k ends (pair_in s a))) is
+        ∙ sym (after_turns-append (end_at k ends) (wave_below k s a) (pair_in s a ∷ []) first)
+        ∙ ap (λ xs. after_turns (end_at k ends) xs first) (sym (wave_below-in k s a t))
 
     -- the later pairs of the wave keep their ends
-    pub rest_may : IsPartition h k q → Fits h k l q → (x : ℕ × ℕ) → IsPairBelow k x → x.0 + x.1 ≡ s → a + 1 ≤ x.0
-        → (end_at k ends x ≡ None) ⊎ IsTurn h k l q x (end_at k ends x)
-        → (end_at k more x ≡ None) ⊎ IsTurn h k l (after_turn q (end_at k more (pair_in s a))) x (end_at k more x)
-    rest_may parted fits x bx sum low m =
-        by (others x bx (λ e. let f = ap (λ (z : ℕ × ℕ). z.0) e in absurd (omega arith))) m
-      where
-        by : end_at k more x ≡ end_at k ends x → (end_at k ends x ≡ None) ⊎ IsTurn h k l q x (end_at k ends x)
-            → (end_at k more x ≡ None) ⊎ IsTurn h k l (after_turn q (end_at k more (pair_in s a))) x (end_at k more x)
-        by e (inl n) = inl (e ∙ n)
-        by e (inr u) =
-            let w = wave_is k s a t in
-            inr (turn_kept h k l sound q (pair_in s a) x (end_at k more (pair_in s a)) (end_at k more x) w.0 bx
-            (wave_disjoint k s (pair_in s a) x (omega arith) w (bx, sum)) parted fits turn (subst (IsTurn h k l q x) (sym e) u))
+    pub rest_turn : IsPartition h k q → Fits h k l q → (x : ℕ × ℕ) → IsPairBelow k x → x.0 + x.1 ≡ s → a + 1 ≤ x.0 → IsTurn h k l q x (end_at k ends x)
+        → IsTurn h k l (after_turn q (end_at k ends (pair_in s a))) x (end_at k ends x)
+    rest_turn parted fits x bx sum low u =
+        let w = wave_is k s a t in
+        turn_kept h k l sound q (pair_in s a) x (end_at k ends (pair_in s a)) (end_at k ends x) w.0 bx
+        (wave_disjoint k s (pair_in s a) x (omega arith) w (bx, sum)) parted fits turn u
 
 -- ---- a wave more
 
@@ -135,23 +120,6 @@ waves_low k s (suc n) =
     (All-weaker (IsOfWave k s) (λ x. IsPairBelow k x × (x.0 + x.1 < s + suc n)) (λ x w. (w.0, (let e = w.1 in omega arith))) (wave k s) (wave_of k s))
     (All-weaker (λ x. IsPairBelow k x × (x.0 + x.1 < s + 1 + n)) (λ x. IsPairBelow k x × (x.0 + x.1 < s + suc n))
     (λ x w. (w.0, (let e = w.1 in omega arith))) (waves_from k (s + 1) n) (waves_low k (s + 1) n)))
-
--- where some pairs of a wave were solved for the partition, those of earlier waves keep their ends, and its own may have one
-module _ (h : Hyper) (p : Parted) (s : ℕ) (ends mid : List (Option PairEnd)) (gained : GainsEnds h p s ends mid) where
-  pub gained_other : (x : ℕ × ℕ) → IsPairBelow p.k x → x.0 + x.1 ≢ s → end_at p.k mid x ≡ end_at p.k ends x
-  gained_other x b n = by (gained x b)
-    where
-      by : (end_at p.k mid x ≡ end_at p.k ends x) ⊎ ((x.0 + x.1 ≡ s) × IsTurn h p.k p.limit p.blocks x (end_at p.k mid x))
-          → end_at p.k mid x ≡ end_at p.k ends x
-      by (inl e) = e
-      by (inr e) = absurd (n e.0)
-
-  pub gained_may : (x : ℕ × ℕ) → IsPairBelow p.k x → end_at p.k ends x ≡ None → MayHaveEnd h p mid x
-  gained_may x b n = by (gained x b)
-    where
-      by : (end_at p.k mid x ≡ end_at p.k ends x) ⊎ ((x.0 + x.1 ≡ s) × IsTurn h p.k p.limit p.blocks x (end_at p.k mid x)) → MayHaveEnd h p mid x
-      by (inl e) = inl (e ∙ n)
-      by (inr e) = inr e.1
 
 module _ (h : Hyper) (k l : ℕ) (first q r : List ℕ) (ends more : List (Option PairEnd)) (n : ℕ)
     (is : q ≡ after_turns (end_at k ends) (waves_from k 1 n) first) (turns : AreTurns h k l (end_at k ends) (waves_from k 1 n) first)
@@ -180,11 +148,16 @@ module _ (h : Hyper) (k l : ℕ) (first q r : List ℕ) (ends more : List (Optio
 
 -- ---- a front after the pair of a wave
 
--- the pair has its end in a table for the front, which leads to the next one
+-- the pair has its end for the front, which leads to the next one
 pub record TakesPair (h : Hyper) (now next : Front) (a b : ℕ) : Type 0 where
-  pub turn : IsTurn h now.part.k now.part.limit now.part.blocks (a, b) (end_at now.part.k next.ends.items (a, b))
-  pub others : KeepsOtherEnds now.part.k now.ends.items next.ends.items (a, b)
-  pub part : next.part ≡ record now.part { blocks = after_turn now.part.blocks (end_at now.part.k next.ends.items (a, b)) }
+  pub turn : IsTurn h now.part.k now.part.limit now.part.blocks (a, b) (end_at now.part.k now.ends.items (a, b))
+  pub part : next.part ≡ record now.part { blocks = after_turn now.part.blocks (end_at now.part.k now.ends.items (a, b)) }
+  pub ends : next.ends.items ≡ now.ends.items
+
+-- those pairs of a wave that don't come before a have their ends
+abbrev pub HaveLaterEnds : Hyper → Parted → ℕ → ℕ → List (Option PairEnd) → Type 0
+HaveLaterEnds h p s a ends =
+    (x : ℕ × ℕ) → IsPairBelow p.k x → x.0 + x.1 ≡ s → a ≤ x.0 → IsTurn h p.k p.limit p.blocks x (end_at p.k ends x)
 
 module _ (h : Hyper) (old now next : Front) (s a b : ℕ) (sound : IsHypergraph h) (t : is_of_wave old.part.k s a ≡ true) (second : b ≡ s - a)
     (taken : TakesPairs h (wave_below old.part.k s a) old now) (pair : TakesPair h now next a b)
@@ -192,56 +165,53 @@ module _ (h : Hyper) (old now next : Front) (s a b : ℕ) (sound : IsHypergraph 
     q : List ℕ
     q = after_turns (end_at old.part.k now.ends.items) (wave_below old.part.k s a) old.part.blocks
 
-    turn_there : IsTurn h old.part.k old.part.limit q (pair_in s a) (end_at old.part.k next.ends.items (pair_in s a))
+    turn_there : IsTurn h old.part.k old.part.limit q (pair_in s a) (end_at old.part.k now.ends.items (pair_in s a))
     unfolding q
     turn_there =
-        subst (λ c. IsTurn h old.part.k old.part.limit q (a, c) (end_at old.part.k next.ends.items (a, c))) second
-        (subst (λ (x : Parted). IsTurn h x.k x.limit x.blocks (a, b) (end_at x.k next.ends.items (a, b))) taken.same pair.turn)
+        subst (λ c. IsTurn h old.part.k old.part.limit q (a, c) (end_at old.part.k now.ends.items (a, c))) second
+        (subst (λ (x : Parted). IsTurn h x.k x.limit x.blocks (a, b) (end_at x.k now.ends.items (a, b))) taken.same pair.turn)
 
-    others_there : KeepsOtherEnds old.part.k now.ends.items next.ends.items (pair_in s a)
-    others_there =
-        subst (λ c. KeepsOtherEnds old.part.k now.ends.items next.ends.items (a, c)) second
-        (subst (λ (x : Parted). KeepsOtherEnds x.k now.ends.items next.ends.items (a, b)) taken.same pair.others)
-
-    part_there : next.part ≡ record old.part { blocks = after_turn q (end_at old.part.k next.ends.items (pair_in s a)) }
+    part_there : next.part ≡ record old.part { blocks = after_turn q (end_at old.part.k now.ends.items (pair_in s a)) }
     unfolding q
     part_there =
         pair.part
-        ∙ ap (λ (x : Parted). record x { blocks = after_turn x.blocks (end_at x.k next.ends.items (a, b)) }) taken.same
-        ∙ ap (λ c. record old.part { blocks = after_turn q (end_at old.part.k next.ends.items (a, c)) }) second
+        ∙ ap (λ (x : Parted). record x { blocks = after_turn x.blocks (end_at x.k now.ends.items (a, b)) }) taken.same
+        ∙ ap (λ c. record old.part { blocks = after_turn q (end_at old.part.k now.ends.items (a, c)) }) second
 
     pub taken_more : TakesPairs h (wave_below old.part.k s (a + 1)) old next
     unfolding q
     taken_more = record {
-      same = part_there ∙ ap (λ x. record old.part { blocks = x }) (more_blocks h old.part.k old.part.limit sound old.part.blocks q now.ends.items
-          next.ends.items s a t refl taken.turns turn_there others_there);
-      turns = more_turns h old.part.k old.part.limit sound old.part.blocks q now.ends.items next.ends.items s a t refl taken.turns turn_there others_there;
+      same =
+          part_there
+          ∙ ap (λ x. record old.part { blocks = x }) (more_blocks h old.part.k old.part.limit sound old.part.blocks q now.ends.items s a t refl taken.turns
+          turn_there)
+          ∙ ap (λ (es : List (Option PairEnd)). record old.part { blocks = after_turns (end_at old.part.k es) (wave_below old.part.k s (a + 1)) old.part.blocks })
+          (sym pair.ends);
+      turns = subst (λ (es : List (Option PairEnd)). AreTurns h old.part.k old.part.limit (end_at old.part.k es) (wave_below old.part.k s (a + 1))
+          old.part.blocks) (sym pair.ends)
+          (more_turns h old.part.k old.part.limit sound old.part.blocks q now.ends.items s a t refl taken.turns turn_there);
     }
 
     pub rest_more : IsPartition h now.part.k now.part.blocks → Fits h now.part.k now.part.limit now.part.blocks
-        → ((x : ℕ × ℕ) → IsPairBelow now.part.k x → x.0 + x.1 ≡ s → a ≤ x.0 → MayHaveEnd h now.part now.ends.items x)
-        → (x : ℕ × ℕ) → IsPairBelow next.part.k x → x.0 + x.1 ≡ s → a + 1 ≤ x.0 → MayHaveEnd h next.part next.ends.items x
+        → HaveLaterEnds h now.part s a now.ends.items → HaveLaterEnds h next.part s (a + 1) next.ends.items
     unfolding q
     rest_more parted fits rest x bx sum low =
-        subst (λ (y : Parted). MayHaveEnd h y next.ends.items x) (sym part_there)
-        (rest_may h old.part.k old.part.limit sound old.part.blocks q now.ends.items next.ends.items s a t refl taken.turns turn_there others_there
+        subst (λ (es : List (Option PairEnd)). IsTurn h next.part.k next.part.limit next.part.blocks x (end_at next.part.k es x)) (sym pair.ends)
+        (subst (λ (y : Parted). IsTurn h y.k y.limit y.blocks x (end_at y.k now.ends.items x)) (sym part_there)
+        (rest_turn h old.part.k old.part.limit sound old.part.blocks q now.ends.items s a t refl taken.turns turn_there
         (subst (λ (y : Parted). IsPartition h y.k y.blocks) taken.same parted) (subst (λ (y : Parted). Fits h y.k y.limit y.blocks) taken.same fits) x
         below sum low
-        (subst (λ (y : Parted). MayHaveEnd h y now.ends.items x) taken.same
-        (rest x (subst (λ (y : Parted). IsPairBelow y.k x) (sym taken.same) below) sum (omega arith))))
+        (subst (λ (y : Parted). IsTurn h y.k y.limit y.blocks x (end_at y.k now.ends.items x)) taken.same
+        (rest x (subst (λ (y : Parted). IsPairBelow y.k x) (sym taken.same) below) sum (omega arith)))))
       where
         below : IsPairBelow old.part.k x
         below = subst (λ (y : Parted). IsPairBelow y.k x) part_there bx
-
-    pub others_more : KeepsOtherWaves old.part.k old.ends.items now.ends.items s → KeepsOtherWaves old.part.k old.ends.items next.ends.items s
-    others_more kept x bx n =
-        others_there x bx (λ e. n (let f = ap (λ (z : ℕ × ℕ). z.0 + z.1) e in let w = wave_is old.part.k s a t in let g = w.1 in omega arith)) ∙ kept x bx n
 
 -- ---- a front after a wave
 
 module _ (h : Hyper) (old now next : Front) (mid : List (Option PairEnd)) (s : ℕ) (low : 1 ≤ s)
     (taken : TakesPairs h (waves_from old.part.k 1 (s - 1)) old now) (gained : GainsEnds h now.part s now.ends.items mid)
-    (pairs : TakesPairs h (wave now.part.k s) now next) (others : KeepsOtherWaves now.part.k mid next.ends.items s)
+    (pairs : TakesPairs h (wave now.part.k s) now next) (ends : next.ends.items ≡ mid)
   where
     one : 1 + (s - 1) ≡ s
     one = omega arith
@@ -253,7 +223,7 @@ module _ (h : Hyper) (old now next : Front) (mid : List (Option PairEnd)) (s : �
     kept_there =
         subst (λ (p : Parted). (x : ℕ × ℕ) → IsPairBelow p.k x → x.0 + x.1 ≢ 1 + (s - 1) → end_at p.k next.ends.items x ≡ end_at p.k now.ends.items x)
         taken.same
-        (λ x b n. others x b (λ e. n (e ∙ sym one)) ∙ gained_other h now.part s now.ends.items mid gained x b (λ e. n (e ∙ sym one)))
+        (λ x b n. ap (λ (es : List (Option PairEnd)). end_at now.part.k es x) ends ∙ gained.others x b (λ e. n (e ∙ sym one)))
 
     next_turns : AreTurns h old.part.k old.part.limit (end_at old.part.k next.ends.items) (wave old.part.k (1 + (s - 1))) here
     unfolding here
@@ -284,7 +254,7 @@ module _ (h : Hyper) (old now next : Front) (mid : List (Option PairEnd)) (s : �
         → (x : ℕ × ℕ) → IsPairBelow next.part.k x → s + 1 ≤ x.0 + x.1 → end_at next.part.k next.ends.items x ≡ None
     none_later none x bx later =
         subst (λ (p : Parted). end_at p.k next.ends.items x ≡ None) (sym pairs.same)
-        (others x below (λ e. absurd (omega arith)) ∙ gained_other h now.part s now.ends.items mid gained x below (λ e. absurd (omega arith))
+        (ap (λ (es : List (Option PairEnd)). end_at now.part.k es x) ends ∙ gained.others x below (λ e. absurd (omega arith))
         ∙ none x below (omega arith))
       where
         below : IsPairBelow now.part.k x

@@ -1,51 +1,88 @@
 -- What stands while pairs are solved in waves.
-use Rattle.std.specs.Prelude.{◌≡◌, ◌⊎◌, ℕ, ◌+◌, ◌*◌, List, All, Contains, slice_index_or, Option, Some, None}
+use Rattle.std.specs.Prelude.{◌≡◌, ◌≢◌, ◌⊎◌, ℕ, ◌+◌, ◌-◌, ◌<◌, ◌*◌, List, [], map, All, Contains, true, false, slice_index_or, Option, None}
 use Rattle.hg_defs.specs.Hypergraph.{Hyper}
+use Rattle.round_log.specs.Rounds.{touching}
 use Rattle.pin_plain.specs.Parted.{Parted}
 use Rattle.flow_pair.specs.declared.solve.PairEnd.{PairEnd}
-use Rattle.flow_pair.specs.Sides.{touching_nets}
 use Rattle.flow_round.specs.declared.worker.Task.{Task}
-use Rattle.flow_round.specs.declared.worker.Found.{Found}
 use Rattle.flow_round.specs.declared.worker.Worker.{Worker}
-use Rattle.flow_round.specs.PairTurns.{IsPairBelow, IsTurn}
+use Rattle.flow_round.specs.PairTurns.{IsPairBelow, IsTurn, is_of_wave}
 
 -- the end of a pair in a table of k times k places
 abbrev pub end_at : ℕ → List (Option PairEnd) → ℕ × ℕ → Option PairEnd
 end_at k ends x = slice_index_or ends (x.0 * k + x.1) None
 
--- a pair of blocks of a partition, with the nets that touch both
-pub record IsTask (h : Hyper) (p : Parted) (t : Task) : Type 0 where
-  pub below : IsPairBelow p.k (t.first, t.second)
-  pub nets_are : t.nets.items ≡ touching_nets h p.blocks t.first t.second
+-- the first blocks of pairs of a wave, among them those below n whose pair is touched by a net
+pub record AreTouched (h : Hyper) (p : Parted) (s n : ℕ) (firsts : List ℕ) : Type 0 where
+  pub wave : All (λ a. is_of_wave p.k s a ≡ true) firsts
+  pub all : (a : ℕ) → a < n → is_of_wave p.k s a ≡ true → touching h p.blocks a (s - a) ≢ [] → Contains firsts a
 
--- an end of a pair of blocks of a partition
-pub record IsFound (h : Hyper) (p : Parted) (f : Found) : Type 0 where
-  pub below : IsPairBelow p.k (f.first, f.second)
-  pub turn : IsTurn h p.k p.limit p.blocks (f.first, f.second) (Some f.end)
+-- the pairs of tasks
+abbrev pub pairs_of : List Task → List (ℕ × ℕ)
+pairs_of tasks = map (λ t. (t.first, t.second)) tasks
 
--- the pairs are of a wave
-abbrev pub AreTasksOf : ℕ → List Task → Type 0
-AreTasksOf s tasks = All (λ t. t.first + t.second ≡ s) tasks
+-- a pair of a wave
+pub record IsTask (k s : ℕ) (t : Task) : Type 0 where
+  pub below : IsPairBelow k (t.first, t.second)
+  pub sum : t.first + t.second ≡ s
 
-abbrev pub AreFoundOf : ℕ → List Found → Type 0
-AreFoundOf s found = All (λ f. f.first + f.second ≡ s) found
+-- a pair with its end for a partition
+abbrev pub IsDone : Hyper → Parted → Task → Type 0
+IsDone h p t = IsTurn h p.k p.limit p.blocks (t.first, t.second) t.end
 
--- a worker of the hypergraph, with what it found in a wave of the partition
-pub record IsDone (h : Hyper) (p : Parted) (s : ℕ) (w : Worker) : Type 0 where
+-- a worker of the hypergraph without tasks
+pub record IsIdle (h : Hyper) (w : Worker) : Type 0 where
   pub solver_is : w.solver ≡ h
-  pub found_is : All (IsFound h p) w.found.items
-  pub wave_is : AreFoundOf s w.found.items
+  pub none : w.tasks.items ≡ []
 
--- workers of the hypergraph
 abbrev pub AreWorkers : Hyper → List Worker → Type 0
-AreWorkers h workers = All (λ w. w.solver ≡ h) workers
+AreWorkers h workers = All (IsIdle h) workers
 
--- a table in which some pairs of a wave got their ends for this partition, and no other pair got one
-abbrev pub GainsEnds : Hyper → Parted → ℕ → List (Option PairEnd) → List (Option PairEnd) → Type 0
-GainsEnds h p s old new =
+-- a worker of the hypergraph with tasks of a wave
+pub record IsBusy (h : Hyper) (k s : ℕ) (w : Worker) : Type 0 where
+  pub solver_is : w.solver ≡ h
+  pub tasks_are : All (IsTask k s) w.tasks.items
+
+-- a worker of the hypergraph with tasks
+pub record IsReady (h : Hyper) (k : ℕ) (w : Worker) : Type 0 where
+  pub solver_is : w.solver ≡ h
+  pub below : All (λ t. IsPairBelow k (t.first, t.second)) w.tasks.items
+
+-- a worker with tasks of a wave whose pairs have their ends for a partition
+pub record IsSolved (h : Hyper) (p : Parted) (s : ℕ) (w : Worker) : Type 0 where
+  pub solver_is : w.solver ≡ h
+  pub tasks_are : All (IsTask p.k s) w.tasks.items
+  pub done : All (IsDone h p) w.tasks.items
+
+-- one of the tasks of some worker is that of the pair
+abbrev pub HasTask : List Worker → ℕ × ℕ → Type 0
+HasTask workers x = (w : Worker) × Contains workers w × Contains (pairs_of w.tasks.items) x
+
+-- the worker after it solved its pairs, or failed
+pub record HasRun (h : Hyper) (p : Parted) (old new : Worker) : Type 0 where
+  pub solver_is : new.solver ≡ h
+  pub pairs : pairs_of new.tasks.items ≡ pairs_of old.tasks.items
+  pub done : new.failed ≡ false → All (IsDone h p) new.tasks.items
+
+-- one of the tasks is that of the pair, and has this end
+abbrev pub HasEnd : List Task → ℕ × ℕ → Option PairEnd → Type 0
+HasEnd tasks x end = (t : Task) × Contains tasks t × ((t.first, t.second) ≡ x) × (end ≡ t.end)
+
+-- the pairs of a wave have no ends yet
+abbrev pub HaveNoEnds : ℕ → ℕ → List (Option PairEnd) → Type 0
+HaveNoEnds k s ends = (x : ℕ × ℕ) → IsPairBelow k x → x.0 + x.1 ≡ s → end_at k ends x ≡ None
+
+-- the pairs of a wave have their ends for a partition
+abbrev pub HaveEnds : Hyper → Parted → ℕ → List (Option PairEnd) → Type 0
+HaveEnds h p s ends = (x : ℕ × ℕ) → IsPairBelow p.k x → x.0 + x.1 ≡ s → IsTurn h p.k p.limit p.blocks x (end_at p.k ends x)
+
+-- a table in which some pairs of a wave got their ends for the partition, and no other pair got one
+abbrev pub MayGainEnd : Hyper → Parted → ℕ → List (Option PairEnd) → List (Option PairEnd) → Type 0
+MayGainEnd h p s old new =
     (x : ℕ × ℕ) → IsPairBelow p.k x
     → (end_at p.k new x ≡ end_at p.k old x) ⊎ ((x.0 + x.1 ≡ s) × IsTurn h p.k p.limit p.blocks x (end_at p.k new x))
 
--- one of the ends that were found is that of the pair
-abbrev pub HasEnd : List Found → ℕ × ℕ → Option PairEnd → Type 0
-HasEnd found x end = (f : Found) × Contains found f × ((f.first, f.second) ≡ x) × (end ≡ Some f.end)
+-- a table in which all pairs of a wave got theirs
+pub record GainsEnds (h : Hyper) (p : Parted) (s : ℕ) (old new : List (Option PairEnd)) : Type 0 where
+  pub ends : HaveEnds h p s new
+  pub others : (x : ℕ × ℕ) → IsPairBelow p.k x → x.0 + x.1 ≢ s → end_at p.k new x ≡ end_at p.k old x

@@ -1,6 +1,7 @@
 //! Flow refinement of disjoint pairs of blocks at once.
 #![tactic(auto)]
 
+mod deal;
 mod front;
 pub mod laws;
 mod pass;

@@ -95,10 +95,12 @@ fn workers_of(alloc: Global, h: &Hypergraph, count: u32) -> Result<Vec<Worker>, 
     ensures workers { IfOk result (λ workers. AreWorkers h.now workers.items) }
 {
     let mut workers = Vec::with_capacity(alloc, count as usize)?;
-    for _ in 0..count {
+    for number in 0..count {
         workers.push(Worker {
+            number,
             solver: PairSolver::new(alloc, h),
-            found: Vec::new(alloc),
+            tasks: Vec::new(alloc),
+            load: 0,
             turn: 0,
             failed: false,
         })?;
@@ -139,7 +141,6 @@ pub fn wave_pass<R: Threads + Sync, G: Gate>(
     let mut front = Front {
         cut: CutNets::of(alloc, h, &p)?,
         ends: empty_table(alloc, k)?,
-        solver: PairSolver::new(alloc, h),
         part: p,
     };
     front.take_waves(rt, gate, alloc, h, workers.as_mut_slice())?;

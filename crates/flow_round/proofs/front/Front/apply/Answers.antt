@@ -1,4 +1,4 @@
-use Rattle.std.proofs.Common.{◌≡◌, ◌<◌, ◌+◌, ◌*◌, ◌∙◌, ◌++◌, List, ℕ, All, Option, Some, None, sym, ap, ap₂, subst, arith, slice_index_or}
+use Rattle.std.proofs.Common.{◌≡◌, ◌<◌, ◌+◌, ◌*◌, ◌∙◌, List, ℕ, All, Option, Some, None, sym, ap, ap₂, subst, arith, slice_index_or}
 use Rattle.std.specs.List.Sorted.{IsStrictlyIncreasing}
 use Rattle.hg_defs.specs.declared.moves.Move.{Move}
 use Rattle.hg_defs.specs.Hypergraph.{Hyper, IsHypergraph, vertex_count}
@@ -109,6 +109,5 @@ returns-clause-front c =
           (lists_after h p.k p.blocks c.assign_region.new.p.blocks c.args.a c.args.b c.slice-3.result.now s.cut c.requires.front.cut_is
           (omega (arith, order, second)) second (omega (arith, order))
           (subst (λ q. IsRearranged p.blocks q c.args.a c.args.b) (sym now) rearranged) replayed));
-      solver_is = c.requires.front.solver_is;
       table_is = c.requires.front.table_is ∙ ap (λ (x : Parted). x.k * x.k) (sym landed);
     }

@@ -1,41 +1,22 @@
-use Rattle.std.proofs.Common.{◌≡◌, ◌<◌, ◌+◌, length, sym, subst, arith}
-use Rattle.flow_round.specs.declared.worker.Task.{Task}
-use Rattle.flow_round.specs.Waves.{AreFoundOf}
+use Rattle.std.proofs.Common.{◌≡◌, ◌∙◌, Bool, true, false, not, All, length, refl, sym, ap, subst, arith, true≢false}
+use Rattle.flow_round.specs.Waves.{IsDone, pairs_of}
+use Rattle.flow_round.proofs.TableLaws.{written_back}
 use Rattle.flow_round.proofs.worker.Worker.run.Goals as goal
 
-pub returns-then-not-solve : goal.returns-then-not-solve
-returns-then-not-solve g c =
-    let low : c.loop-t.t < length c.args.tasks.now = (let t = c.loop-t-test.true in let s = c.requires.span in omega arith) in
-    record {
-      done = λ s all.
-          let e : c.index-tasks-t.result.first + c.index-tasks-t.result.second ≡ s =
-          subst (λ (x : Task). x.first + x.second ≡ s) (sym c.index-tasks-t.is) (all c.loop-t.t c.index-tasks-t.result low) in
-          record {
-            solver_is = c.solve.ensures.solver;
-            found_is = c.solve.ensures.found;
-            wave_is = subst (λ n. AreFoundOf n c.loop-t.self.found.items → AreFoundOf n c.solve.new.self.found.items) e c.solve.ensures.wave
-                (c.loop-t.invariant.of_wave s all);
-          };
-    }
-
-pub loop-t-preserved : goal.loop-t-preserved
-loop-t-preserved g c =
-    let low : c.loop-t.t < length c.args.tasks.now = (let t = c.loop-t-test.true in let s = c.requires.span in omega arith) in
-    record {
-      solver = c.solve.ensures.solver;
-      found = c.solve.ensures.found;
-      of_wave = λ s all.
-          let e : c.index-tasks-t.result.first + c.index-tasks-t.result.second ≡ s =
-          subst (λ (x : Task). x.first + x.second ≡ s) (sym c.index-tasks-t.is) (all c.loop-t.t c.index-tasks-t.result low) in
-          subst (λ n. AreFoundOf n c.loop-t.self.found.items → AreFoundOf n c.solve.new.self.found.items) e c.solve.ensures.wave
-          (c.loop-t.invariant.of_wave s all);
-    }
+not_false : (r : Bool) → not r ≡ false → r ≡ true
+not_false true e = refl
+not_false false e = absurd (true≢false e)
 
 pub returns : goal.returns
-returns g c = record {
-  done = λ s all. record {
-    solver_is = c.loop-t.invariant.solver;
-    found_is = c.loop-t.invariant.found;
-    wave_is = c.loop-t.invariant.of_wave s all;
-  };
-}
+returns g c =
+    let old = c.args.self.now in
+    let now = c.solve_all-done.new.tasks in
+    let long = c.solve_all-done.auto.tasks in
+    let kept = c.as_mut_slice-tasks.ensures.len in
+    let same = ap length c.as_mut_slice-tasks.ensures.value in
+    let back = written_back old.tasks.len now _ (omega arith) in
+    record {
+      solver_is = c.solve_all-done.ensures.solver ∙ c.requires.solver;
+      pairs = ap pairs_of back ∙ c.solve_all-done.ensures.pairs ∙ ap pairs_of c.as_mut_slice-tasks.ensures.value;
+      done = λ e. subst (All (IsDone c.args.h.now c.args.p.now)) (sym back) (c.solve_all-done.ensures.done (not_false c.solve_all-done.result e));
+    }
