@@ -34,7 +34,8 @@ fn touches_two(h: &Hypergraph, p: &Partition, e: u32) -> bool
 
 /// The cut nets, in rising number.
 ///
-/// Each worker looks at a part of the nets, in a thread of its own.
+/// The nets are halved among threads, of which there are no more than workers: a half is halved again
+/// while each of its halves is a worker's share.
 pub(crate) fn nets_cut<R: Threads + Sync>(
     rt: &R,
     alloc: Global,
@@ -46,9 +47,7 @@ pub(crate) fn nets_cut<R: Threads + Sync>(
     requires some { 0 < workers }
     ensures { IfOk result (λ nets. nets.items ≡ cut_nets h.now p.now.blocks) }
 {
-    let share = (h.nets() as usize)
-        .div_ceil(workers as usize)
-        .max(LEAST_NETS);
+    let share = (h.nets() as usize / workers as usize).max(LEAST_NETS);
     (0..h.nets())
         .into_par_iter()
         .with_min_len(share)
