@@ -5,8 +5,8 @@
 //! partition is settled, or after eight rounds that made it cheaper.
 #![tactic(auto)]
 
-mod active;
 mod label;
+mod marks;
 mod pass;
 mod race;
 mod scores;

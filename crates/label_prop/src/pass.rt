@@ -5,7 +5,7 @@ ghost use Rattle.hg_defs.specs.Partition.{Fits};
 ghost use Rattle.refiner.specs.Logging.{LogsPass, LogsRounds};
 ghost use Rattle.round_log.specs.declared.record.Kind.TheVariants.{Label};
 
-use crate::active::Active;
+use crate::marks::{all_marked, mark_all};
 use crate::race::race_round;
 use crate::sweep::sweep_round;
 use crew::Gate;
@@ -54,13 +54,13 @@ pub fn label_pass<H: Threads + Sync, G: Gate>(
     ensures part { OnErr result (LogsRounds false Label h.now task.now p tally.old tally.new log.old log.new) }
 {
     let _blocks = p.blocks();
-    let mut active = Active::all(alloc, h)?;
+    let marks = all_marked(alloc, h)?;
     let mut part = p;
     'turns: for _ in 0..MOST_LOWERING {
         if part.settled(h) {
             return Ok(part);
         }
-        let (raced, saved) = race_round(rt, gate, alloc, h, task, part, &mut active, log)?;
+        let (raced, saved) = race_round(rt, gate, alloc, h, task, part, marks.as_slice(), log)?;
         count(tally, saved);
         part = raced;
         if saved == 0 {
@@ -68,7 +68,7 @@ pub fn label_pass<H: Threads + Sync, G: Gate>(
                 return Ok(part);
             };
             count(tally, saved);
-            active.take_all(h);
+            mark_all(marks.as_slice());
         }
     }
     Ok(part)

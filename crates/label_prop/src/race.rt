@@ -8,7 +8,7 @@ ghost use Rattle.move_table.specs.Closing.{ArePassesOf};
 ghost use Rattle.label_prop.specs.Workers.{IsIdlePass};
 ghost use Rattle.label_prop.specs.LabelRounds.{LogsLabelRound};
 
-use crate::active::Active;
+use crate::marks::mark_undone;
 use crate::shared::Shared;
 use crate::worker::visit_run;
 use crew::{Gate, each};
@@ -23,7 +23,7 @@ use std::sync::atomic::AtomicBool;
 use std::sync::atomic::Ordering::SeqCst;
 use std::thread::Threads;
 
-/// Lets each pass of a round visit its run of the vertices, all at once. Answers the passes, or none where
+/// Lets each pass of a round visit the marked vertices of its run, all at once. Answers the passes, or none where
 /// a worker had no memory.
 fn visit_all<H: Threads + Sync, G: Gate>(
     rt: &H,
@@ -51,7 +51,7 @@ fn visit_all<H: Threads + Sync, G: Gate>(
     Ok(Items::from_vec(passes))
 }
 
-/// Opens a round over a partition that fits, lets the workers visit the active vertices, and closes it.
+/// Opens a round over a partition that fits, lets the workers visit the marked vertices, and closes it.
 fn close_race<H: Threads + Sync, G: Gate>(
     rt: &H,
     gate: &G,
@@ -59,10 +59,10 @@ fn close_race<H: Threads + Sync, G: Gate>(
     h: &Hypergraph,
     p: Partition,
     workers: u32,
-    active: &Active,
+    marks: &[AtomicBool],
 ) -> Result<Closed, NoMemory>
     requires belongs { p.hyper ≡ h.now }
-    requires active { active.now ≡ vertex_count h.now }
+    requires marks { length marks.now ≡ vertex_count h.now }
     requires fits { Fits h.now p.k p.limit p.blocks }
     requires some { 1 ≤ workers }
     requires few { workers ≤ 64 }
@@ -80,8 +80,7 @@ fn close_race<H: Threads + Sync, G: Gate>(
         h,
         k,
         workers,
-        vertices: active.list(),
-        again: active.marks(),
+        marks,
         refused: &AtomicBool::new(false),
     };
     let passes = visit_all(rt, gate, &shared, passes)?;
@@ -92,8 +91,8 @@ fn close_race<H: Threads + Sync, G: Gate>(
 }
 
 /// Makes a raced round from a partition that fits, rolls it back to its best prefix, and logs it. Answers the
-/// partition after the moves that were kept, and what they saved. The next round's active vertices are those
-/// that the moves may have changed something for. Where there is no memory, nothing is logged.
+/// partition after the moves that were kept, and what they saved. Marked are then the vertices for which the
+/// moves may have changed something since they were visited. Where there is no memory, nothing is logged.
 pub(crate) fn race_round<H: Threads + Sync, G: Gate>(
     rt: &H,
     gate: &G,
@@ -101,23 +100,22 @@ pub(crate) fn race_round<H: Threads + Sync, G: Gate>(
     h: &Hypergraph,
     task: &Task,
     p: Partition,
-    active: &mut Active,
+    marks: &[AtomicBool],
     log: &mut Log,
 ) -> Result<(Partition, u64), NoMemory>
     requires belongs { p.hyper ≡ h.now }
     requires fits { Fits h.now p.k p.limit p.blocks }
     requires workers { (1 ≤ task.now.workers) × (task.now.workers ≤ 64) }
-    requires active { active.old ≡ vertex_count h.now }
+    requires marks { length marks.now ≡ vertex_count h.now }
     ensures ok { IfOk result (λ r. LogsLabelRound true h.now task.now p log.old log.new r.1 r.0) }
-    ensures active { active.new ≡ active.old }
     ensures err { OnErr result (log.new ≡ log.old) }
 {
     let _blocks = p.blocks();
-    let closed = close_race(rt, gate, alloc, h, p, task.workers, active)?;
+    let closed = close_race(rt, gate, alloc, h, p, task.workers, marks)?;
     let part = log.race(rt, alloc, h, Kind::Label, task.level, closed)?;
     let rounds = log.rounds();
     let round = &rounds[rounds.len() - 1];
-    active.follow(h, round.moves.slice());
+    mark_undone(h, marks, round.moves.slice(), round.kept);
     let saved = round.before.saturating_sub(round.after);
     Ok((part, saved))
 }

@@ -1,29 +1,26 @@
 //! What the workers of a round share.
 
-ghost use Rattle.std.specs.Prelude.{◌≡◌, ◌<◌, ◌≤◌, ◌^◌, All, length};
+ghost use Rattle.std.specs.Prelude.{◌≡◌, ◌≤◌, length};
 ghost use Rattle.hg_defs.specs.Hypergraph.{vertex_count};
 
 use incidence::Hypergraph;
 use move_table::Round;
 use std::sync::atomic::AtomicBool;
 
-/// The round, its hypergraph, its numbers of blocks and of workers, the vertices to visit, the marks of those
-/// that the next round has to visit, and whether a worker had no memory.
+/// The round, its hypergraph, its numbers of blocks and of workers, the marks of the vertices that are still to
+/// be visited, and whether a worker had no memory.
 #[derive(Drop)]
 pub(crate) struct Shared<'a> {
     pub(crate) round: &'a Round<'a>,
     pub(crate) h: &'a Hypergraph,
     pub(crate) k: u32,
     pub(crate) workers: u32,
-    pub(crate) vertices: &'a [u32],
-    pub(crate) again: &'a [AtomicBool],
+    pub(crate) marks: &'a [AtomicBool],
     pub(crate) refused: &'a AtomicBool,
     ghost hyper: { round.now.terms.part.hyper ≡ h.now },
     ghost blocks: { round.now.terms.part.k ≡ k },
     ghost few: { k ≤ 256 },
     ghost manned: { round.now.terms.workers ≡ workers },
     ghost shared: { workers ≤ 64 },
-    ghost listed: { All (λ v. v < vertex_count h.now) vertices.now },
-    ghost countable: { length vertices.now < 2 ^ 32 },
-    ghost marked: { length again.now ≡ vertex_count h.now },
+    ghost marked: { length marks.now ≡ vertex_count h.now },
 }

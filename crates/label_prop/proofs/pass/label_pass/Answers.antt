@@ -1,4 +1,4 @@
-use Rattle.std.proofs.Common.{rules, true, false, Result, Ok, Err, Option, List, ℕ, ◌+◌, inl, inr, true≢false, sym, subst, ◌∙◌, arith}
+use Rattle.std.proofs.Common.{true, false, Result, Ok, Err, Option, List, ℕ, ◌+◌, inl, inr, true≢false, sym, subst, ◌∙◌, arith}
 use Rattle.std.specs.Result.{OnErr}
 use Rattle.hg_defs.specs.Hypergraph.{Hyper, IsWithinLimits}
 use Rattle.hg_defs.specs.Partition.{IsPartition}
@@ -16,8 +16,8 @@ at_err : {T E X : Type 0} (r : Result T E) → X → OnErr r X
 at_err (Ok x) p = tt
 at_err (Err e) p = p
 
-pub returns-in_err-active-clause-part : goal.returns-in_err-active-clause-part
-returns-in_err-active-clause-part g c =
+pub returns-in_err-marks-clause-part : goal.returns-in_err-marks-clause-part
+returns-in_err-marks-clause-part g c =
     at_err c.from_residual.result
     (under_part c.args.h.now c.args.task.now c.args.p c.args.tally.now c.args.log.now 0 true c.args.p c.args.tally.now c.args.log.now
     (begun c.args.h.now c.args.task.now c.args.p c.args.tally.now c.args.log.now))
@@ -124,7 +124,6 @@ turns-preserved g c =
     let bounds = subst IsWithinLimits c.requires.belongs c.blocks-blocks.ensures.parted.bounds in
     elim c.if-saved-eq0.branch [
       | then-saved-eq0+in_ok-saved+in-Some w ↦ record {
-        active = search rules;
         underway = under_same_as c.args.h.now c.args.task.now c.args.p c.args.tally.now c.args.log.now (c.turns.counter + 1) w.part-is w.tally-is w.log-is
             (swept_lower c.args.h.now c.args.task.now c.args.p c.args.tally.now c.args.log.now c.requires.belongs whole c.requires.fits bounds
             c.requires.tallied.0 c.requires.tallied.1 c.turns.counter c.turns.part c.turns.tally c.turns.log c.turns.invariant.underway
@@ -136,7 +135,6 @@ turns-preserved g c =
             w.count-then-saved-eq0.new.tally w.count-then-saved-eq0.ensures);
       }
       | else-saved-eq0 w ↦ record {
-        active = search rules;
         underway = under_same_as c.args.h.now c.args.task.now c.args.p c.args.tally.now c.args.log.now (c.turns.counter + 1) w.part-is w.tally-is w.log-is
             (raced_lower c.args.h.now c.args.task.now c.args.p c.args.tally.now c.args.log.now c.requires.belongs whole c.requires.fits bounds
             c.requires.tallied.0 c.requires.tallied.1 c.turns.counter c.turns.part c.turns.tally c.turns.log c.turns.invariant.underway

@@ -1,9 +1,10 @@
-use Rattle.std.proofs.Common.{◌≡◌}
+use Rattle.std.proofs.Common.{◌≡◌, ◌≤◌}
 use Rattle.label_prop.specs.Workers.{IsIdlePass}
 use Rattle.label_prop.proofs.worker.visit_run.Given as goal
 
-abbrev pub invariant-loop-i : goal.invariant-loop-i
-invariant-loop-i g l = record {
+abbrev pub invariant-loop-v : goal.invariant-loop-v
+invariant-loop-v g l = record {
+  turns : l.turn ≤ l.v;
   blocks : l.scores.k ≡ l.shared.k;
   idle : IsIdlePass l.shared.round.now l.fn.pass.view.number l.pass;
 }
