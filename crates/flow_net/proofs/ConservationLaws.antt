@@ -240,45 +240,6 @@ tree_way heads levels ways sink node half t l s = record { root = t.root; steps 
         (subst (λ h. IsStep heads levels node h) (sym (get_or-set_same ways node half 0 l)) s)
     by v k ne p (inr q) = subst (λ h. IsStep heads levels v h) (sym (get_or-set_other ways node v half 0 q)) (t.steps v k ne p)
 
--- the search along the levels goes on at another place in the list of a node
-pub marked_at : (heads currents entries : List ℕ) (node place : ℕ) → IsMarked heads currents entries → place ≤ length heads →
-    (0 < place → tail heads (place - 1) ≡ node) → node < length currents → IsMarked heads (set currents node place) entries
-marked_at heads currents entries node place m l leaves inside =
-    let size = length-set currents node place in
-    record {
-      within = λ v k. by (λ v at. at ≤ length heads) v (subst (λ n. v < n) size k) l (λ u b. m.within u b);
-      leaves = λ v k. by (λ v at. 0 < at → tail heads (at - 1) ≡ v) v (subst (λ n. v < n) size k) leaves (λ u b. m.leaves u b);
-      entered = λ v k. m.entered v (subst (λ n. v < n) size k);
-    }
-  where
-    by : (P : ℕ → ℕ → Type 0) (v : ℕ) → v < length currents → P node place →
-        ((u : ℕ) → u < length currents → P u (slice_index currents u)) → P v (slice_index (set currents node place) v)
-    by P v k here others = cases (cases_eq v node)
-      where
-        cases : (v ≡ node) ⊎ (v ≢ node) → P v (slice_index (set currents node place) v)
-        cases (inl q) =
-            subst (λ u. P u (slice_index (set currents node place) u)) (sym q)
-            (subst (P node) (sym (get_or-set_same currents node place 0 inside)) here)
-        cases (inr q) = subst (P v) (sym (get_or-set_other currents node v place 0 q)) (others v k)
-
--- the search along the levels passes over a half
-pub marked_next : (heads nexts firsts currents entries : List ℕ) (node half : ℕ) → IsLinked heads nexts firsts → IsMarked heads currents entries →
-    half < length heads → tail heads half ≡ node → node < length currents
-    → IsMarked heads (set currents node (slice_index nexts half)) entries
-marked_next heads nexts firsts currents entries node half linked m l leaves inside =
-    let next = linked.next half l in
-    let low = next.within in
-    marked_at heads currents entries node (slice_index nexts half) m (omega arith) (λ p. next.leaves p ∙ leaves) inside
-
--- a node is entered by a half
-pub marked_by : (heads currents entries : List ℕ) (node half : ℕ) → IsMarked heads currents entries → half < length heads → length entries ≡ length currents
-    → IsMarked heads currents (set entries node half)
-marked_by heads currents entries node half m l long = record { within = m.within; leaves = m.leaves; entered = λ v k. by v k (cases_eq v node) }
-  where
-    by : (v : ℕ) → v < length currents → (v ≡ node) ⊎ (v ≢ node) → slice_index (set entries node half) v < length heads
-    by v k (inl q) = subst (λ x. x < length heads) (sym (ap (slice_index (set entries node half)) q ∙ get_or-set_same entries node half 0 (omega arith))) l
-    by v k (inr q) = subst (λ x. x < length heads) (sym (get_or-set_other entries node v half 0 q)) (m.entered v k)
-
 -- ---- one raise after another
 
 pub raised_then : (heads : List ℕ) (source sink a b : ℕ) (old mid new : List ℕ) → length mid ≡ length old → IsRaised heads source sink a old mid →

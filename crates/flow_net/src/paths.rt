@@ -88,7 +88,8 @@ fn seek(halves: Halves<'_>, levels: &[u32], rests: &[u64], node: u32, start: u32
 }
 
 /// One step of the search for a way down the levels, from a node other than the sink: along the next
-/// of its halves that has a rest and leads a level lower, and back where none is left. Answers the node reached, or none where none is left at the source.
+/// of its halves that has a rest and leads a level lower, and back where none is left. Answers the node
+/// reached, or none where none is left at the source.
 fn step(
     halves: Halves<'_>,
     levels: &[u32],
