@@ -1,7 +1,7 @@
 -- Vertices inside a block: those none of whose nets touches two blocks.
-use Rattle.std.proofs.Common.{◌≡◌, ◌≢◌, ℕ, ◌+◌, ◌<◌, ◌≤◌, Option, Some, None, List, [], nat_eq, nat_lt, true, false, length, map, All, Contains, get_or}
+use Rattle.std.proofs.Common.{◌≡◌, ◌≢◌, ℕ, ◌<◌, Option, Some, None, List, [], nat_eq, nat_lt, false, length, map, All, Contains, get_or}
 use Rattle.std.proofs.Common.{ℤ, pos, ◌-ℤ◌, ◌<ℤ◌, refl, sym, ap, subst, ◌∙◌, arith}
-use Rattle.std.proofs.lemmas.Bool.{eqb-true, eq-eqb, ltb-true, ltb-false, lt-ltb}
+use Rattle.std.proofs.lemmas.Bool.{eqb-true, eq-eqb, ltb-false}
 use Rattle.std.proofs.lemmas.Int.{ints}
 use Rattle.hg_defs.specs.Sums.{total}
 use Rattle.hg_defs.specs.Hypergraph.{Hyper, IsHypergraph, vertex_count, net_count, net_of}
@@ -9,7 +9,7 @@ use Rattle.hg_defs.specs.Partition.{IsPartition, block_of}
 use Rattle.hg_defs.specs.Cost.{connectivity}
 use Rattle.hg_defs.specs.Pins.{pins_in}
 use Rattle.hg_defs.specs.Incidence.{nets_of}
-use Rattle.hg_defs.specs.Moves.{gain, best_block}
+use Rattle.hg_defs.specs.Moves.{best_block}
 use Rattle.hg_defs.proofs.DistinctLaws.{connectivity-sum, pins_in-sum, pins_in-times, times_of-positive, Contains-map, blocks_of_pins}
 use Rattle.hg_defs.proofs.SumLaws.{total-zero}
 use Rattle.hg_defs.proofs.MoveLaws.{best_block_is}

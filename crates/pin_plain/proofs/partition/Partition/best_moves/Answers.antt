@@ -1,6 +1,5 @@
-use Rattle.std.proofs.Common.{◌≡◌, ◌∙◌, ◌++◌, ◌∷◌, ℕ, List, [], option_map, slice_index, ap, sym, arith}
+use Rattle.std.proofs.Common.{◌∙◌, ◌++◌, ◌∷◌, ℕ, [], option_map, slice_index, ap, sym, arith}
 use Rattle.std.specs.declared.cmp.Reverse.{Reverse}
-use Rattle.pin_plain.specs.BestMoves.{best_moves}
 use Rattle.pin_plain.proofs.RankLaws.{ranked_is, best_none, best_some, best_all}
 use Rattle.pin_plain.proofs.partition.Partition.best_moves.Goals as goal
 
