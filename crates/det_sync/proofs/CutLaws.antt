@@ -32,7 +32,8 @@ first_pin (u ∷ pins) v e = (omega arith, ap (λ (o : Option ℕ). is o) e)
 pub cut_by_count : (h : Hyper) (k : ℕ) (p : List ℕ) (v e : ℕ) → IsHypergraph h → IsPartition h k p → v < vertex_count h → e < net_count h
     → Contains (net_of h e).pins v → nat_lt (pins_in p (net_of h e).pins (block_of p v)) (length (net_of h e).pins) ≡ is_cut h p e
 cut_by_count h k p v e good whole vertex net pin =
-    by (pins_in p (net_of h e).pins (block_of p v)) (length (net_of h e).pins) (connectivity p (net_of h e).pins) (pins_in-le p (net_of h e).pins (block_of p v))
+    by (pins_in p (net_of h e).pins (block_of p v)) (length (net_of h e).pins) (connectivity p (net_of h e).pins)
+    (pins_in-le p (net_of h e).pins (block_of p v))
     (some_blocks p (net_of h e).pins v pin) (whole_by_count h k p v e good whole vertex net pin)
   where
     by : (count size blocks : ℕ) → count ≤ size → 0 < blocks → nat_eq blocks 1 ≡ nat_eq count size → nat_lt count size ≡ nat_lt 1 blocks

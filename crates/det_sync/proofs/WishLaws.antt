@@ -2,7 +2,8 @@
 use Rattle.std.proofs.Common.{◌≡◌, ℕ, zero, suc, ◌+◌, ◌-◌, ◌<◌, ◌≤◌, ◌⊎◌, inl, inr, List, [], ◌∷◌, ◌++◌}
 use Rattle.std.proofs.Common.{map, filter, cond, take, drop, All, IsPermutation}
 use Rattle.std.proofs.Common.{Option, Some, None, option_map, option_to_list, is_some, get_or, length}
-use Rattle.std.proofs.Common.{Bool, true, ◌||◌, true≢false, IsSorted, Ordering, Less, Equal, Greater, is_lt, nat_cmp, false, refl, sym, ap, ap₂, ◌∙◌, subst, arith}
+use Rattle.std.proofs.Common.{Bool, true, ◌||◌, true≢false, IsSorted, Ordering, Less, Equal, Greater, is_lt, nat_cmp}
+use Rattle.std.proofs.Common.{false, refl, sym, ap, ap₂, ◌∙◌, subst, arith}
 use Rattle.std.specs.List.{range_with_len, list_any}
 use Rattle.std.specs.Ordering.{ordering_then}
 use Rattle.std.proofs.Math.Seq.{take-add}
