@@ -14,7 +14,8 @@ use Rattle.flow_pair.specs.declared.solve.PairEnd.{PairEnd}
 use Rattle.flow_round.specs.declared.worker.Task.{Task}
 use Rattle.flow_round.specs.declared.worker.Worker.{Worker}
 use Rattle.flow_round.specs.PairTurns.{IsPairBelow, IsTurn, is_of_wave}
-use Rattle.flow_round.specs.Waves.{AreTouched, HasTask, HasEnd, IsDone, IsTask, IsIdle, IsBusy, IsReady, IsSolved, HasRun, HaveNoEnds, MayGainEnd, GainsEnds, end_at, pairs_of}
+use Rattle.flow_round.specs.Waves.{AreTouched, HasTask, HasEnd, IsDone, IsTask, IsIdle, IsBusy, IsReady, IsSolved, HasRun}
+use Rattle.flow_round.specs.Waves.{HaveNoEnds, MayGainEnd, GainsEnds, end_at, pairs_of}
 
 -- ---- pairs that a net touches
 
@@ -151,7 +152,8 @@ busy_more h k s old new x busy same more w = record {
 pub end_turn : (h : Hyper) (p : Parted) (tasks : List Task) (x : ℕ × ℕ) (end : Option PairEnd) → All (IsDone h p) tasks → HasEnd tasks x end
     → IsTurn h p.k p.limit p.blocks x end
 end_turn h p tasks x end all has =
-    subst (IsTurn h p.k p.limit p.blocks x) (sym has.3) (subst (λ y. IsTurn h p.k p.limit p.blocks y has.0.end) has.2 (All-contains (IsDone h p) tasks has.0 all has.1))
+    subst (IsTurn h p.k p.limit p.blocks x) (sym has.3)
+        (subst (λ y. IsTurn h p.k p.limit p.blocks y has.0.end) has.2 (All-contains (IsDone h p) tasks has.0 all has.1))
 
 -- a worker's ends were written
 module _ (h : Hyper) (p : Parted) (s : ℕ) (old ends more : List (Option PairEnd)) (tasks : List Task) (of_s : All (IsTask p.k s) tasks)

@@ -1,7 +1,7 @@
 //! The pairs of a wave that a net touches, and who solves them.
 
-ghost use Rattle.std.specs.Prelude.{◌≡◌, ◌≢◌, ℕ, ◌<◌, ◌-◌, ◌++◌, ◌∷◌, [], All, Contains, IfOk, OnOk, length, map, true, false};
-ghost use Rattle.std.specs.Prelude.{MatchOption};
+ghost use Rattle.std.specs.Prelude.{◌≡◌, ℕ, ◌<◌, ◌-◌, ◌++◌, ◌∷◌, [], All, Contains, IfOk, OnOk, length, map};
+ghost use Rattle.std.specs.Prelude.{true, false, MatchOption};
 ghost use Rattle.flow_pair.specs.CutNets.{AreCutLists};
 ghost use Rattle.flow_round.specs.PairTurns.{is_of_wave};
 ghost use Rattle.flow_round.specs.Waves.{AreTouched, AreWorkers, HasTask, IsBusy, pairs_of};

@@ -4,8 +4,8 @@ ghost use Rattle.std.specs.Prelude.{◌≡◌, ◌⊎◌, ℕ, ◌<◌, ◌≤�
 ghost use Rattle.hg_defs.specs.Partition.{Fits};
 ghost use Rattle.flow_pair.specs.CutNets.{AreCutLists};
 ghost use Rattle.flow_round.specs.PairTurns.{IsPairBelow, IsTurn};
-ghost use Rattle.flow_round.specs.Waves.{AreWorkers, IsBusy, IsReady, IsDone, IsSolved, HasEnd, HasTask, HasRun, pairs_of};
-ghost use Rattle.flow_round.specs.Waves.{GainsEnds, MayGainEnd, HaveNoEnds, AreTouched, end_at};
+ghost use Rattle.flow_round.specs.Waves.{AreWorkers, IsBusy, IsReady, IsDone, IsSolved, HasEnd, HasTask, HasRun};
+ghost use Rattle.flow_round.specs.Waves.{GainsEnds, MayGainEnd, HaveNoEnds, AreTouched, end_at, pairs_of};
 
 use crate::deal::{Touched, deal, touched_pairs};
 use crate::table::{place_of, put_end};

@@ -12,7 +12,7 @@ pub record_race-requires-clause-raced : goal.record_race-requires-clause-raced
 record_race-requires-clause-raced g c κs within = (closed_ready c.args.closed c.into_parts-part.ensures.raced c.args.h.now c.requires.belongs
     c.into_parts-part.result.part
     c.into_parts-part.ensures.part c.into_parts-part.result.moves c.into_parts-part.ensures.moves c.into_parts-part.result.gains
-      c.into_parts-part.ensures.gains).raced
+    c.into_parts-part.ensures.gains).raced
 
 pub record_race-requires-clause-opened : goal.record_race-requires-clause-opened
 record_race-requires-clause-opened g c κs within = (closed_ready c.args.closed c.into_parts-part.ensures.raced c.args.h.now c.requires.belongs
@@ -23,7 +23,7 @@ pub record_race-requires-clause-sum : goal.record_race-requires-clause-sum
 record_race-requires-clause-sum g c κs within = (closed_ready c.args.closed c.into_parts-part.ensures.raced c.args.h.now c.requires.belongs
     c.into_parts-part.result.part
     c.into_parts-part.ensures.part c.into_parts-part.result.moves c.into_parts-part.ensures.moves c.into_parts-part.result.gains
-      c.into_parts-part.ensures.gains).sum
+    c.into_parts-part.ensures.gains).sum
 
 pub record_race-requires-clause-before : goal.record_race-requires-clause-before
 record_race-requires-clause-before g c κs within = closed_before c.args.closed c.into_parts-part.ensures.raced c.args.h.now c.requires.belongs
