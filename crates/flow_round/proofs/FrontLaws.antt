@@ -186,7 +186,7 @@ module _ (h : Hyper) (old now next : Front) (s a b : ℕ) (sound : IsHypergraph 
           ∙ ap (λ x. record old.part { blocks = x }) (more_blocks h old.part.k old.part.limit sound old.part.blocks q now.ends.items s a t refl taken.turns
           turn_there)
           ∙ ap (λ (es : List (Option PairEnd)). record old.part
-              { blocks = after_turns (end_at old.part.k es) (wave_below old.part.k s (a + 1)) old.part.blocks })
+          { blocks = after_turns (end_at old.part.k es) (wave_below old.part.k s (a + 1)) old.part.blocks })
           (sym pair.ends);
       turns = subst (λ (es : List (Option PairEnd)). AreTurns h old.part.k old.part.limit (end_at old.part.k es) (wave_below old.part.k s (a + 1))
           old.part.blocks) (sym pair.ends)

@@ -153,7 +153,7 @@ pub end_turn : (h : Hyper) (p : Parted) (tasks : List Task) (x : ℕ × ℕ) (en
     → IsTurn h p.k p.limit p.blocks x end
 end_turn h p tasks x end all has =
     subst (IsTurn h p.k p.limit p.blocks x) (sym has.3)
-        (subst (λ y. IsTurn h p.k p.limit p.blocks y has.0.end) has.2 (All-contains (IsDone h p) tasks has.0 all has.1))
+    (subst (λ y. IsTurn h p.k p.limit p.blocks y has.0.end) has.2 (All-contains (IsDone h p) tasks has.0 all has.1))
 
 -- a worker's ends were written
 module _ (h : Hyper) (p : Parted) (s : ℕ) (old ends more : List (Option PairEnd)) (tasks : List Task) (of_s : All (IsTask p.k s) tasks)

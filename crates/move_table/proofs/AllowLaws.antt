@@ -98,7 +98,7 @@ module _ (table : TableId) (t : Terms) (slots id : ℕ) (me : Me (Unit {0}) View
       let all : AreCountsRead g a i (slice_index s.words i) = λ e b l m p.
       subst (λ z. IsCountRead g a e b (field (slice_index s.words z) (net_bits g.graph e) (field_place g e b))) p
       (read_also s.words s.views id me.0 ready.live (subst (λ z. IsStanding z s.words s.views) (sym ready.terms) k) at x
-          alone ready.number ready.may (word.Count e b) (l, m)) in
+      alone ready.number ready.may (word.Count e b) (l, m)) in
       (q.0, q.1, q.2, q.3, (q.4.0, (q.4.1, all)))
 
   -- a store doesn't tell what it found, which is known nevertheless
