@@ -2,3 +2,4 @@ pub mod IdleLaws
 pub mod PassLaws
 pub mod SweepLaws
 pub mod SharingLaws
+pub mod SettledLaws

@@ -10,6 +10,7 @@ mod marks;
 mod pass;
 mod race;
 mod scores;
+mod settled;
 mod shared;
 mod sweep;
 mod worker;

@@ -7,6 +7,7 @@ ghost use Rattle.round_log.specs.declared.record.Kind.TheVariants.{Label};
 
 use crate::marks::{all_marked, mark_all};
 use crate::race::race_round;
+use crate::settled::is_settled;
 use crate::sweep::sweep_round;
 use crew::Gate;
 use hg_base::NoMemory;
@@ -57,7 +58,8 @@ pub fn label_pass<H: Threads + Sync, G: Gate>(
     let marks = all_marked(alloc, h)?;
     let mut part = p;
     'turns: for _ in 0..MOST_LOWERING {
-        if part.settled(h) {
+        let settled = is_settled(alloc, h, &part, marks.as_slice())?;
+        if settled {
             return Ok(part);
         }
         let (raced, saved) = race_round(rt, gate, alloc, h, task, part, marks.as_slice(), log)?;

@@ -22,10 +22,16 @@ returns-in_err-marks-clause-part g c =
     (under_part c.args.h.now c.args.task.now c.args.p c.args.tally.now c.args.log.now 0 true c.args.p c.args.tally.now c.args.log.now
     (begun c.args.h.now c.args.task.now c.args.p c.args.tally.now c.args.log.now))
 
+pub returns-in_err-settled-clause-part : goal.returns-in_err-settled-clause-part
+returns-in_err-settled-clause-part g c =
+    at_err c.from_residual-in_err-settled.result
+    (under_part c.args.h.now c.args.task.now c.args.p c.args.tally.now c.args.log.now c.turns.counter true c.turns.part c.turns.tally c.turns.log
+    c.turns.invariant.underway)
+
 pub returns-then-settled-clause-pass : goal.returns-then-settled-clause-pass
 returns-then-settled-clause-pass g c =
     under_whole c.args.h.now c.args.task.now c.args.p c.args.tally.now c.args.log.now c.turns.counter true c.turns.part c.turns.tally c.turns.log
-    c.turns.invariant.underway (inl (c.settled.ensures.0 c.if-settled.true))
+    c.turns.invariant.underway (inl (c.in_ok-settled.ensures.0 c.if-settled.true))
 
 pub race_round-requires-clause-fits : goal.race_round-requires-clause-fits
 race_round-requires-clause-fits g c κs within =
@@ -47,7 +53,7 @@ count-requires-clause-rounds g c =
     let bounds = subst IsWithinLimits c.requires.belongs c.blocks-blocks.ensures.parted.bounds in
     let room = raced_room c.args.h.now c.args.task.now c.args.p c.args.tally.now c.args.log.now c.requires.belongs whole c.requires.fits bounds
     c.requires.tallied.0 c.requires.tallied.1 c.turns.counter c.turns.part c.turns.tally c.turns.log c.turns.invariant.underway
-    (λ settled. true≢false (sym (c.settled.ensures.1 settled) ∙ c.if-settled.false)) (let test = c.turns-test.true in omega arith)
+    (λ settled. true≢false (sym (c.in_ok-settled.ensures.1 settled) ∙ c.if-settled.false)) (let test = c.turns-test.true in omega arith)
     c.in_ok-raced.saved c.in_ok-raced.raced c.race_round.new.log c.in_ok-raced.ensures.ok in
     let a = room.0 in
     omega arith
@@ -58,7 +64,7 @@ count-requires-clause-gain g c =
     let bounds = subst IsWithinLimits c.requires.belongs c.blocks-blocks.ensures.parted.bounds in
     let room = raced_room c.args.h.now c.args.task.now c.args.p c.args.tally.now c.args.log.now c.requires.belongs whole c.requires.fits bounds
     c.requires.tallied.0 c.requires.tallied.1 c.turns.counter c.turns.part c.turns.tally c.turns.log c.turns.invariant.underway
-    (λ settled. true≢false (sym (c.settled.ensures.1 settled) ∙ c.if-settled.false)) (let test = c.turns-test.true in omega arith)
+    (λ settled. true≢false (sym (c.in_ok-settled.ensures.1 settled) ∙ c.if-settled.false)) (let test = c.turns-test.true in omega arith)
     c.in_ok-raced.saved c.in_ok-raced.raced c.race_round.new.log c.in_ok-raced.ensures.ok in
     let a = room.1 in
     omega arith
@@ -74,7 +80,7 @@ returns-in_err-saved-clause-part g c =
     c.race_round.new.log
     (raced_same c.args.h.now c.args.task.now c.args.p c.args.tally.now c.args.log.now c.requires.belongs whole c.requires.fits bounds
     c.requires.tallied.0 c.requires.tallied.1 c.turns.counter c.turns.part c.turns.tally c.turns.log c.turns.invariant.underway
-    (λ settled. true≢false (sym (c.settled.ensures.1 settled) ∙ c.if-settled.false)) (let test = c.turns-test.true in omega arith)
+    (λ settled. true≢false (sym (c.in_ok-settled.ensures.1 settled) ∙ c.if-settled.false)) (let test = c.turns-test.true in omega arith)
     c.in_ok-raced.saved c.in_ok-raced.raced c.race_round.new.log c.in_ok-raced.ensures.ok c.count.new.tally c.count.ensures c.if-saved-eq0.true)))
 
 pub returns-in_default-clause-pass : goal.returns-in_default-clause-pass
@@ -83,7 +89,7 @@ returns-in_default-clause-pass g c =
     let bounds = subst IsWithinLimits c.requires.belongs c.blocks-blocks.ensures.parted.bounds in
     rested_whole c.args.h.now c.args.task.now c.args.p c.args.tally.now c.args.log.now c.requires.belongs whole c.requires.fits bounds
     c.requires.tallied.0 c.requires.tallied.1 c.turns.counter c.turns.part c.turns.tally c.turns.log c.turns.invariant.underway
-    (λ settled. true≢false (sym (c.settled.ensures.1 settled) ∙ c.if-settled.false)) (let test = c.turns-test.true in omega arith)
+    (λ settled. true≢false (sym (c.in_ok-settled.ensures.1 settled) ∙ c.if-settled.false)) (let test = c.turns-test.true in omega arith)
     c.in_ok-raced.saved c.in_ok-raced.raced c.race_round.new.log c.in_ok-raced.ensures.ok c.count.new.tally c.count.ensures c.if-saved-eq0.true
     c.sweep_round.new.log c.sweep_round.new.part
     (subst (λ (o : Option ℕ). SweepsOrRests c.args.h.now c.args.task.now c.in_ok-raced.raced c.race_round.new.log c.sweep_round.new.log o
@@ -96,7 +102,7 @@ count-requires-then-saved-eq0-clause-rounds g c =
     let bounds = subst IsWithinLimits c.requires.belongs c.blocks-blocks.ensures.parted.bounds in
     let room = swept_room c.args.h.now c.args.task.now c.args.p c.args.tally.now c.args.log.now c.requires.belongs whole c.requires.fits bounds
     c.requires.tallied.0 c.requires.tallied.1 c.turns.counter c.turns.part c.turns.tally c.turns.log c.turns.invariant.underway
-    (λ settled. true≢false (sym (c.settled.ensures.1 settled) ∙ c.if-settled.false)) (let test = c.turns-test.true in omega arith)
+    (λ settled. true≢false (sym (c.in_ok-settled.ensures.1 settled) ∙ c.if-settled.false)) (let test = c.turns-test.true in omega arith)
     c.in_ok-raced.saved c.in_ok-raced.raced c.race_round.new.log c.in_ok-raced.ensures.ok c.count.new.tally c.count.ensures c.if-saved-eq0.true c.in-Some.saved
     c.sweep_round.new.log c.sweep_round.new.part
     (subst (λ (o : Option ℕ). SweepsOrRests c.args.h.now c.args.task.now c.in_ok-raced.raced c.race_round.new.log c.sweep_round.new.log o
@@ -110,7 +116,7 @@ count-requires-then-saved-eq0-clause-gain g c =
     let bounds = subst IsWithinLimits c.requires.belongs c.blocks-blocks.ensures.parted.bounds in
     let room = swept_room c.args.h.now c.args.task.now c.args.p c.args.tally.now c.args.log.now c.requires.belongs whole c.requires.fits bounds
     c.requires.tallied.0 c.requires.tallied.1 c.turns.counter c.turns.part c.turns.tally c.turns.log c.turns.invariant.underway
-    (λ settled. true≢false (sym (c.settled.ensures.1 settled) ∙ c.if-settled.false)) (let test = c.turns-test.true in omega arith)
+    (λ settled. true≢false (sym (c.in_ok-settled.ensures.1 settled) ∙ c.if-settled.false)) (let test = c.turns-test.true in omega arith)
     c.in_ok-raced.saved c.in_ok-raced.raced c.race_round.new.log c.in_ok-raced.ensures.ok c.count.new.tally c.count.ensures c.if-saved-eq0.true c.in-Some.saved
     c.sweep_round.new.log c.sweep_round.new.part
     (subst (λ (o : Option ℕ). SweepsOrRests c.args.h.now c.args.task.now c.in_ok-raced.raced c.race_round.new.log c.sweep_round.new.log o
@@ -127,7 +133,7 @@ turns-preserved g c =
         underway = under_same_as c.args.h.now c.args.task.now c.args.p c.args.tally.now c.args.log.now (c.turns.counter + 1) w.part-is w.tally-is w.log-is
             (swept_lower c.args.h.now c.args.task.now c.args.p c.args.tally.now c.args.log.now c.requires.belongs whole c.requires.fits bounds
             c.requires.tallied.0 c.requires.tallied.1 c.turns.counter c.turns.part c.turns.tally c.turns.log c.turns.invariant.underway
-            (λ settled. true≢false (sym (c.settled.ensures.1 settled) ∙ c.if-settled.false)) (let test = c.turns-test.true in omega arith)
+            (λ settled. true≢false (sym (c.in_ok-settled.ensures.1 settled) ∙ c.if-settled.false)) (let test = c.turns-test.true in omega arith)
             c.in_ok-raced.saved c.in_ok-raced.raced c.race_round.new.log c.in_ok-raced.ensures.ok c.count.new.tally c.count.ensures w.if-saved-eq0.true
             w.in-Some.saved w.sweep_round.new.log w.sweep_round.new.part
             (subst (λ (o : Option ℕ). SweepsOrRests c.args.h.now c.args.task.now c.in_ok-raced.raced c.race_round.new.log w.sweep_round.new.log o
@@ -138,7 +144,7 @@ turns-preserved g c =
         underway = under_same_as c.args.h.now c.args.task.now c.args.p c.args.tally.now c.args.log.now (c.turns.counter + 1) w.part-is w.tally-is w.log-is
             (raced_lower c.args.h.now c.args.task.now c.args.p c.args.tally.now c.args.log.now c.requires.belongs whole c.requires.fits bounds
             c.requires.tallied.0 c.requires.tallied.1 c.turns.counter c.turns.part c.turns.tally c.turns.log c.turns.invariant.underway
-            (λ settled. true≢false (sym (c.settled.ensures.1 settled) ∙ c.if-settled.false)) (let test = c.turns-test.true in omega arith)
+            (λ settled. true≢false (sym (c.in_ok-settled.ensures.1 settled) ∙ c.if-settled.false)) (let test = c.turns-test.true in omega arith)
             c.in_ok-raced.saved c.in_ok-raced.raced c.race_round.new.log c.in_ok-raced.ensures.ok c.count.new.tally c.count.ensures
             (let some = w.if-saved-eq0.false in omega arith));
       }
