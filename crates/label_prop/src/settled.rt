@@ -55,7 +55,18 @@ fn marked_gains(
     one_gains(alloc, h, p, listed.as_slice())
 }
 
+/// Whether all are marked.
+fn all_set(marks: &[AtomicBool]) -> bool {
+    for mark in marks {
+        if !mark.load(SeqCst) {
+            return false;
+        }
+    }
+    true
+}
+
 /// Whether no single allowed move makes the partition cheaper. Where a marked vertex gains, no other one is asked.
+/// Where all are marked, the marks tell nothing, and each vertex is asked once.
 pub(crate) fn is_settled(
     alloc: Global,
     h: &Hypergraph,
@@ -66,7 +77,7 @@ pub(crate) fn is_settled(
     requires marks { length marks.now ≡ vertex_count h.now }
     ensures { IfOk result (λ settled. IsTrue settled ↔ IsSettled h.now p.now.k p.now.limit p.now.blocks) }
 {
-    if marked_gains(alloc, h, p, marks)? {
+    if !all_set(marks) && marked_gains(alloc, h, p, marks)? {
         return Ok(false);
     }
     Ok(p.settled(h))
