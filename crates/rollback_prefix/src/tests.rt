@@ -107,7 +107,7 @@ fn kept(length: u32, saved: u64) -> Kept {
     Kept { length, saved }
 }
 
-/// Rolls the moves back, and checks how many are kept, what they save and what they leave.
+/// Keeps the best of the moves, and checks how many these are, what they save and what they leave.
 fn try_keep_best<R: Threads + Sync + Abort>(
     rt: &R,
     alloc: Global,
@@ -126,8 +126,28 @@ fn try_keep_best<R: Threads + Sync + Abort>(
     let mut p = parted(rt, alloc, h, limit, after)?;
     assert!(rt; keep_best(rt, alloc, h, &mut p, moves)? == kept);
     assert_eq!(rt; p.cost(h), cost);
-    let mut q = parted(rt, alloc, h, limit, after)?;
-    assert_eq!(rt; roll_back(rt, alloc, h, &mut q, moves)?, kept.length);
+    Ok(())
+}
+
+/// Rolls the moves back, and checks how many are kept and what they leave.
+fn try_roll_back<R: Threads + Sync + Abort>(
+    rt: &R,
+    alloc: Global,
+    h: &Hypergraph,
+    limit: u64,
+    before: &[u32],
+    after: &[u32],
+    moves: &[Move],
+    kept: u32,
+    cost: u64,
+) -> Result<(), Fail>
+    requires moves { EndAt h.now 2 after.now moves.now }
+    requires before { undone after.now moves.now ≡ before.now }
+{
+    assert!(rt; parted(rt, alloc, h, limit, before)?.fits());
+    let mut p = parted(rt, alloc, h, limit, after)?;
+    assert_eq!(rt; roll_back(rt, alloc, h, &mut p, moves)?, kept);
+    assert_eq!(rt; p.cost(h), cost);
     Ok(())
 }
 
@@ -172,15 +192,17 @@ fn prefixes(rt: HostRuntime) -> Result<(), Fail> {
         9,
     )?;
     let h = one_net(alloc)?;
+    let (before, after) = ([0, 1], [1, 0]);
     try_keep_best(
         &rt,
         alloc,
         &h,
         2,
-        &[0, 1],
-        &[1, 0],
+        &before,
+        &after,
         SWAP.as_slice(),
         kept(1, 5),
         0,
-    )
+    )?;
+    try_roll_back(&rt, alloc, &h, 2, &before, &after, SWAP.as_slice(), 1, 0)
 }
