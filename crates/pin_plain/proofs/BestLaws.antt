@@ -167,6 +167,18 @@ load_fits h k p loads w bounds loaded small i d l =
 pub best_below : (h : Hyper) (k l : ℕ) (p : List ℕ) (v b : ℕ) → v < vertex_count h → best_block h l p v k ≡ Some b → b < k
 best_below h k l p v b vertex e = (best_block_is h k l p v b vertex e).allowed.block
 
+pub best_other : (h : Hyper) (k l : ℕ) (p : List ℕ) (v b : ℕ) → v < vertex_count h → best_block h l p v k ≡ Some b → b ≢ block_of p v
+best_other h k l p v b vertex e = (best_block_is h k l p v b vertex e).allowed.other
+
+-- the best block, as it was found in what a partition lends
+pub lent_best :
+    (h lent : Hyper) (k k' l l' : ℕ) (p p' : List ℕ) (v b g : ℕ) (found : Option (ℕ × ℕ)) → lent ≡ h → k' ≡ k → l' ≡ l → p' ≡ p → found ≡ Some (b, g)
+    → option_map (λ (m : ℕ × ℕ). m.0) found ≡ best_block lent l' p' v k' → best_block h l p v k ≡ Some b
+lent_best h lent k k' l l' p p' v b g found eh ek el ep is best =
+    sym
+    (ap (option_map (λ (m : ℕ × ℕ). m.0)) (sym is) ∙ best ∙ ap (λ (x : Hyper). best_block x l' p' v k') eh ∙ ap (λ (n : ℕ). best_block h n p' v k') el
+    ∙ ap (λ (q : List ℕ). best_block h l q v k') ep ∙ ap (best_block h l p v) ek)
+
 pub unsettled_some : (h : Hyper) (k l : ℕ) (p : List ℕ) (v : ℕ) → v < vertex_count h → (r : Option (ℕ × ℕ)) → is_some r ≡ true →
     option_map (λ (m : ℕ × ℕ). m.0) r ≡ best_block h l p v k → IsSettled h k l p → ⊥
 unsettled_some h k l p v vertex None some e settled = absurd (true≢false (sym some))

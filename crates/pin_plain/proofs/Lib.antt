@@ -9,3 +9,4 @@ pub mod SweepLaws
 pub mod SettleLaws
 pub mod RankLaws
 pub mod InnerLaws
+pub mod QuietLaws

@@ -6,7 +6,10 @@ use Rattle.std.proofs.Math.Bool.{or-true, or-false}
 use Rattle.std.proofs.lemmas.List.{length-set, get_or-set_same, get_or-set_other, take_more_set, set-get_or}
 use Rattle.std.proofs.lemmas.List.{get_or_default, get_or_past, get_or-replicate, length-replicate}
 use Rattle.std.proofs.lemmas.List.Folds.{list_any-append, list_any_more}
-use Rattle.std.proofs.lemmas.List.Elements.{All-head, All-tail}
+use Rattle.std.proofs.lemmas.List.{length-take-le, get_or-take}
+use Rattle.std.proofs.lemmas.List.Elements.{All-head, All-tail, All-contains}
+use Rattle.std.proofs.lemmas.Bool.Decides.{Decides-eqb}
+use Rattle.std.proofs.lemmas.Map.Made.{is_member-Decides}
 use Rattle.std.proofs.lemmas.Bool.{cases_eq, cases_lt, eq-eqb, ne_eqb, eqb-true, eqb-false, ltb-true, ltb-false, lt-ltb, leb-true, leb-false, le-leb}
 use Rattle.std.specs.Set.{is_member}
 use Rattle.hg_defs.specs.Sums.{total}
@@ -395,6 +398,24 @@ clear_after first sums touched count tracked less cleared b = by (cases_eq (slic
     by : (slice_index sums b ≡ 0) ⊎ (slice_index sums b ≢ 0) → slice_index sums b ≡ 0
     by (inl e) = e
     by (inr q) = cleared b (tracked.listed b (let l = less b in let n : slice_index sums b ≢ 0 = q in omega arith))
+
+-- where no listed sum is above a number, none is
+pub none_pass : (sums touched : List ℕ) (count loss : ℕ) → IsTracked sums touched count →
+    ((i : ℕ) → i < count → slice_index sums (slice_index touched i) ≤ loss) → (b : ℕ) → slice_index sums b ≤ loss
+none_pass sums touched count loss tracked each b = by (cases_lt 0 (slice_index sums b))
+  where
+    all : All (λ c. slice_index sums c ≤ loss) (take count touched)
+    all i d l =
+        let few = tracked_count sums touched count tracked in
+        let places = tracked.places in
+        let len = length-take-le count touched (omega arith) in
+        let low : i < count = omega arith in
+        subst (λ c. slice_index sums c ≤ loss) (sym (get_or-take count touched i d low ∙ get_or_default touched i d 0 (omega arith))) (each i low)
+
+    by : (0 < slice_index sums b) ⊎ (slice_index sums b ≤ 0) → slice_index sums b ≤ loss
+    by (inl some) = All-contains (λ c. slice_index sums c ≤ loss) (take count touched) b all
+        ((is_member-Decides Decides-eqb (take count touched) b).0 (tracked.listed b some))
+    by (inr none) = omega arith
 
 -- ---- the best of the first blocks
 

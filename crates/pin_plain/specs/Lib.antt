@@ -5,3 +5,4 @@ pub mod Scores
 pub mod ScoredNets
 pub mod Settling
 pub mod BestMoves
+pub mod Quiet

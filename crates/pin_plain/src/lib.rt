@@ -5,6 +5,7 @@ mod counts;
 mod gains;
 mod lent;
 mod partition;
+mod quiet;
 mod scores;
 mod seen;
 mod sums;

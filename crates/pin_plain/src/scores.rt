@@ -1,7 +1,7 @@
 //! Scores of the moves of one vertex: what its nets save for each block that they touch.
 
 ghost use Rattle.std.specs.Prelude.{◌≡◌, ◌≢◌, ℕ, ◌+◌, ◌*◌, ◌/◌, ◌<◌, ◌≤◌, ◌^◌, ◌-◌, All, length};
-ghost use Rattle.std.specs.Prelude.{slice_index, if◌then◌else◌, pos, IfSome, option_map};
+ghost use Rattle.std.specs.Prelude.{slice_index, if◌then◌else◌, pos, IfSome, option_map, true};
 ghost use Rattle.std.specs.Option.{ForSome};
 ghost use Rattle.hg_base.specs.Packed as packed;
 ghost use Rattle.hg_base.specs.Packed.{IsWidth, count_at, fields_of};
@@ -11,6 +11,7 @@ ghost use Rattle.hg_defs.specs.Hypergraph.{vertex_count, net_count};
 ghost use Rattle.hg_defs.specs.Partition.{block_of};
 ghost use Rattle.hg_defs.specs.Incidence.{nets_of};
 ghost use Rattle.hg_defs.specs.Moves.{best_block, gain};
+ghost use Rattle.pin_plain.specs.Quiet.{IsQuiet};
 ghost use Rattle.pin_plain.specs.Savings.{net_saved, net_lost};
 ghost use Rattle.pin_plain.specs.Scores.{IsClear, is_between};
 
@@ -20,6 +21,14 @@ use crate::lent::{Lent, Scored};
 use crate::seen::Seen;
 use crate::sums::Sums;
 use hg_base::{FREE, bits_of, field, words_of};
+
+/// What a vertex may do: its best block and the gain there, where there is one, and whether no other block
+/// would make the partition cheaper, with room or without.
+#[derive(Drop)]
+pub struct Sought {
+    pub best: Option<(u32, u64)>,
+    pub quiet: bool,
+}
 
 /// What is kept while moves are scored: a sum for each block, and which blocks a net has touched.
 #[derive(Drop)]
@@ -160,31 +169,36 @@ impl Scores {
         loss
     }
 
-    /// The best block of a vertex, and the gain there, where there is one.
-    pub fn best_move(&mut self, lent: &Lent<'_>, v: u32) -> Option<(u32, u64)>
+    /// The best block of a vertex and the gain there, where there is one, and whether the vertex is quiet.
+    pub fn seek(&mut self, lent: &Lent<'_>, v: u32) -> Sought
         requires clear { IsClear self.old.sums }
         requires vertex { v < vertex_count lent.now.h.now }
-        ensures best { option_map (λ m. m.0) result ≡ best_block lent.now.h.now lent.now.limit lent.now.blocks.now v
-            lent.now.k }
-        ensures gain { IfSome result (λ m. pos m.1 ≡ gain lent.now.h.now lent.now.blocks.now v m.0) }
-        ensures bound { IfSome result (λ m. m.1 < 2 ^ 55) }
+        ensures best { option_map (λ m. m.0) result.best ≡ best_block lent.now.h.now lent.now.limit lent.now.blocks.now
+            v lent.now.k }
+        ensures gain { IfSome result.best (λ m. pos m.1 ≡ gain lent.now.h.now lent.now.blocks.now v m.0) }
+        ensures bound { IfSome result.best (λ m. m.1 < 2 ^ 55) }
+        ensures quiet { result.quiet ≡ true → IsQuiet lent.now.h.now lent.now.k lent.now.blocks.now v }
         ensures clear { IsClear self.new.sums }
     {
         if lent.h.fix(v) != FREE {
-            return None;
+            return Sought {
+                best: None,
+                quiet: true,
+            };
         }
         let weight = lent.h.vertex_weight(v);
         let loss = self.score(lent, v);
-        let best = self.sums.top(
+        let top = self.sums.top(
             lent.loads,
             lent.limit,
             weight,
             lent.blocks[v as usize],
             loss,
         );
-        let found = self.with_gain(best, loss);
+        let quiet = !self.sums.pass(loss);
+        let best = self.with_gain(top, loss);
         self.sums.clear();
-        found
+        Sought { best, quiet }
     }
 
     /// A block with its sum less the loss.

@@ -1,7 +1,7 @@
 //! The sums that are kept for the blocks while the moves of one vertex are scored.
 
 ghost use Rattle.std.specs.Prelude.{◌≡◌, ◌+◌, ◌<◌, ◌≤◌, ◌^◌, ◌↔◌, All, IsTrue, length};
-ghost use Rattle.std.specs.Prelude.{replicate, slice_index, slice_set};
+ghost use Rattle.std.specs.Prelude.{false, replicate, slice_index, slice_set};
 ghost use Rattle.std.specs.Option.{ForSome};
 ghost use Rattle.pin_plain.specs.Scores.{IsHigher};
 
@@ -87,6 +87,18 @@ impl Sums {
             }
         }
         best
+    }
+
+    /// Whether the sum of a block is above the loss.
+    pub fn pass(&self, loss: u64) -> bool
+        ensures { result ≡ false → (b : ℕ) → slice_index self.now b ≤ loss }
+    {
+        for i in 0..self.count {
+            if self.sums[self.touched[i] as usize] > loss {
+                return true;
+            }
+        }
+        false
     }
 
     /// Sets all sums back to 0.

@@ -4,14 +4,16 @@ ghost use Rattle.std.specs.Prelude.{◌≡◌, ◌≢◌, ℕ, ◌+◌, ◌*◌,
 ghost use Rattle.std.specs.Prelude.{ℤ, pos, ◌-ℤ◌, ◌≤ℤ◌, ◌<ℤ◌, false, IsTrue, ◌↔◌, IfOk, IfSome, OnOk};
 ghost use Rattle.std.specs.Prelude.{OnErr, option_map, option_to_list};
 ghost use Rattle.hg_defs.specs.Sums.{total_z};
-ghost use Rattle.hg_defs.specs.Hypergraph.{vertex_count};
+ghost use Rattle.hg_defs.specs.Hypergraph.{vertex_count, IsWithinLimits};
 ghost use Rattle.hg_defs.specs.Replay.{replay};
 ghost use Rattle.hg_defs.specs.Moves as sweeps;
 ghost use Rattle.hg_defs.specs.Moves.{IsSettled, best_block, gain, move_of};
+ghost use Rattle.pin_plain.specs.Quiet.{AreQuiet};
 ghost use Rattle.pin_plain.specs.Scores.{IsClear};
 ghost use Rattle.pin_plain.specs.Settling.{Settles, BreaksOff};
 
 use crate::partition::Partition;
+use crate::quiet::wake;
 use crate::scores::Scores;
 use hg_base::{Gains, Move, NoMemory, Verts};
 use incidence::Hypergraph;
@@ -35,7 +37,7 @@ impl Partition {
         ensures bound { IfSome result (λ m. m.1 < 2 ^ 55) }
         ensures clear { IsClear scores.new.sums }
     {
-        scores.best_move(&self.lend(h), v)
+        scores.seek(&self.lend(h), v).best
     }
 
     /// Whether no single allowed move makes the partition cheaper.
@@ -52,18 +54,35 @@ impl Partition {
         true
     }
 
-    /// Moves a vertex to its best block, where there is one, and answers the move.
-    fn visit(&mut self, h: &Hypergraph, v: u32, scores: &mut Scores) -> Option<Move>
+    /// Moves a vertex to its best block, where there is one, and answers the move. A marked vertex isn't
+    /// looked at.
+    fn visit(
+        &mut self,
+        h: &Hypergraph,
+        v: u32,
+        scores: &mut Scores,
+        marks: &mut [bool],
+    ) -> Option<Move>
         requires belongs { self.old.hyper ≡ h.now }
         requires vertex { v < vertex_count h.now }
         requires clear { IsClear scores.old.sums }
+        requires quiet { AreQuiet h.now self.old.k self.old.blocks marks.old }
         ensures made { result ≡ option_map (move_of h.now self.old.blocks v)
             (best_block h.now self.old.limit self.old.blocks v self.old.k) }
         ensures after { self.new ≡ record self.old { blocks = replay self.old.blocks (option_to_list result) } }
         ensures clear { IsClear scores.new.sums }
+        ensures quiet { AreQuiet h.now self.old.k self.new.blocks marks.new }
     {
-        let (to, gain) = self.best_move(h, v, scores)?;
+        if marks[v as usize] {
+            return None;
+        }
+        let sought = scores.seek(&self.lend(h), v);
+        let Some((to, gain)) = sought.best else {
+            marks[v as usize] = sought.quiet;
+            return None;
+        };
         let from = self.blocks()[v as usize];
+        wake(&self.lend(h), v, to, marks);
         self.shift(h, v, to);
         Some(Move {
             vertex: v,
@@ -72,6 +91,44 @@ impl Partition {
             worker: 0,
             booked: gain as i64,
         })
+    }
+
+    /// Sweeps, where the marked vertices are quiet and need no visit. Those that are marked then are quiet.
+    fn sweep_marked(
+        &mut self,
+        alloc: Global,
+        h: &Hypergraph,
+        marks: &mut [bool],
+        log: &mut Moves,
+    ) -> Result<bool, NoMemory>
+        requires belongs { self.old.hyper ≡ h.now }
+        requires quiet { AreQuiet h.now self.old.k self.old.blocks marks.old }
+        ensures after { OnOk result (self.new ≡ record self.old {
+          blocks = replay self.old.blocks (sweeps.sweep h.now self.old.k self.old.limit self.old.blocks);
+        }) }
+        ensures log { OnOk result (log.new ≡ log.old ++ sweeps.sweep h.now self.old.k self.old.limit self.old.blocks) }
+        ensures settled { IfOk result (λ moved. (moved ≡ false) ↔ IsSettled h.now self.old.k self.old.limit
+            self.old.blocks) }
+        ensures quiet { OnOk result (AreQuiet h.now self.old.k self.new.blocks marks.new) }
+        ensures err { OnErr result ((self.new ≡ self.old) × (log.new ≡ log.old)) }
+    {
+        let count = h.vertices();
+        let mut moves = mem::replace(log, Moves::new(alloc)).into_vec();
+        let before = moves.len();
+        if moves.reserve(count as usize).is_err() {
+            *log = Moves::from_vec(moves);
+            return Err(NoMemory);
+        }
+        let mut scores = Scores::new();
+        for v in 0..count {
+            let Some(step) = self.visit(h, v, &mut scores, marks) else {
+                continue;
+            };
+            moves.push(step)?;
+        }
+        let moved = moves.len() > before;
+        *log = Moves::from_vec(moves);
+        Ok(moved)
     }
 
     /// Visits all vertices in rising number, and moves each to its allowed block of the highest gain above
@@ -94,27 +151,15 @@ impl Partition {
             self.old.blocks) }
         ensures err { OnErr result ((self.new ≡ self.old) × (log.new ≡ log.old)) }
     {
-        let count = h.vertices();
-        let mut moves = mem::replace(log, Moves::new(alloc)).into_vec();
-        let before = moves.len();
-        if moves.reserve(count as usize).is_err() {
-            *log = Moves::from_vec(moves);
-            return Err(NoMemory);
-        }
-        let mut scores = Scores::new();
-        for v in 0..count {
-            let Some(step) = self.visit(h, v, &mut scores) else {
-                continue;
-            };
-            moves.push(step)?;
-        }
-        let moved = moves.len() > before;
-        *log = Moves::from_vec(moves);
-        Ok(moved)
+        let mut marks = unmarked(alloc, h)?;
+        self.sweep_marked(alloc, h, marks.as_mut_slice(), log)
     }
 
     /// Sweeps until the partition is settled, and appends a round for each sweep that moved something.
     /// Answers the number of these rounds.
+    ///
+    /// Only the first sweep looks at all vertices. A later one looks at those that moved, those whose nets a
+    /// move changed so that they may gain more, and those that wait for room.
     ///
     /// Where there is no memory, the logged sweeps were made, or one more.
     pub fn settle(
@@ -130,12 +175,12 @@ impl Partition {
         ensures err { OnErr result (BreaksOff h.now self.old.k self.old.limit self.old.blocks self.new.blocks log.old
             log.new) }
     {
-        let _vertices = h.vertices();
+        let mut marks = unmarked(alloc, h)?;
         let mut before = self.cost(h);
         let mut rounds = 0;
         loop {
             let mut moves = Moves::new(alloc);
-            if !self.sweep(alloc, h, &mut moves)? {
+            if !self.sweep_marked(alloc, h, marks.as_mut_slice(), &mut moves)? {
                 return Ok(rounds);
             }
             let after = before - saved_by(moves.slice());
@@ -146,6 +191,14 @@ impl Partition {
             before = after;
         }
     }
+}
+
+/// A mark for each vertex, and none is marked.
+fn unmarked(alloc: Global, h: &Hypergraph) -> Result<Vec<bool>, NoMemory>
+    ensures quiet { IfOk result (λ marks. (k : ℕ) (p : List ℕ) → AreQuiet h.now k p marks.items) }
+    ensures bounds { IsWithinLimits h.now }
+{
+    Ok(vec![in alloc; false; h.vertices() as usize]?)
 }
 
 /// What moves save together, none of which is booked with a loss.
