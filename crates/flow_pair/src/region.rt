@@ -41,10 +41,10 @@ fn may_leave(h: &Hypergraph, blocks: &[u32], block: u32, v: u32) -> bool
     requires vertex { v < vertex_count h.now }
     ensures { result ≡ is_free_in h.now blocks.now block v }
 {
-    if h.fix(v) != FREE {
+    if blocks[v as usize] != block {
         return false;
     }
-    blocks[v as usize] == block
+    h.fix(v) == FREE
 }
 
 /// Appends the free ones of some vertices that are in a block.
