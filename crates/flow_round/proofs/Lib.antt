@@ -3,5 +3,5 @@ pub mod SwapLaws
 pub mod OrderLaws
 pub mod WaveLaws
 pub mod TableLaws
-pub mod TaskLaws
+pub mod FoundLaws
 pub mod FrontLaws

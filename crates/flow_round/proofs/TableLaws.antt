@@ -2,11 +2,11 @@
 use Rattle.std.proofs.Common.{◌≡◌, ◌≢◌, ◌⊎◌, inl, inr, ℕ, ◌+◌, ◌-◌, ◌*◌, ◌<◌, ◌≤◌, List, [], ◌∷◌, ◌++◌, take, length, All, Contains, Option, None}
 use Rattle.std.proofs.Common.{refl, sym, ap, ap₂, subst, ◌∙◌, arith, slice_set, get_or-set_same, get_or-set_other}
 use Rattle.std.proofs.lemmas.Bool.{cases_eq, cases_lt}
-use Rattle.std.proofs.lemmas.List.Elements.{All-head, All-tail, Contains-push_cases}
+use Rattle.std.proofs.lemmas.List.Elements.{All-head, All-tail}
 use Rattle.hg_defs.specs.Hypergraph.{Hyper}
 use Rattle.flow_pair.specs.declared.solve.PairEnd.{PairEnd}
 use Rattle.flow_round.specs.PairTurns.{IsPairBelow, IsTurn, AreTurns, after_turn, after_turns}
-use Rattle.flow_round.specs.declared.worker.Task.{Task}
+use Rattle.flow_round.specs.declared.worker.Found.{Found}
 use Rattle.flow_round.specs.Waves.{HasEnd, end_at}
 
 -- ---- places
@@ -100,7 +100,7 @@ pair_eq : (x : ℕ × ℕ) (a b : ℕ) → x.0 ≡ a → x.1 ≡ b → (a, b) �
 pair_eq x a b e f = let pair : ℕ → ℕ → ℕ × ℕ = λ c d. (c, d) in ap₂ pair (sym e) (sym f)
 
 -- what stands for a pair once an end was written: that end, where it is that of the pair, or what stood there before
-pub put_cases : (k : ℕ) (ends : List (Option PairEnd)) (t : Task) (x : ℕ × ℕ) → length ends ≡ k * k → IsPairBelow k (t.first, t.second)
+pub put_cases : (k : ℕ) (ends : List (Option PairEnd)) (t : Found) (x : ℕ × ℕ) → length ends ≡ k * k → IsPairBelow k (t.first, t.second)
     → IsPairBelow k x
     → (((t.first, t.second) ≡ x) × (end_at k (slice_set ends (t.first * k + t.second) t.end) x ≡ t.end))
     ⊎ (end_at k (slice_set ends (t.first * k + t.second) t.end) x ≡ end_at k ends x)
@@ -123,7 +123,7 @@ put_cases k ends t x long bt bx = by (cases_eq x.0 t.first) (cases_eq x.1 t.seco
     by (inr n) r = inr (end_at-other k ends t.first t.second t.end x bt.below bx.below (λ z. n (ap (λ (y : ℕ × ℕ). y.0) z)))
 
 -- the end of a task is written
-module _ (k : ℕ) (ends old : List (Option PairEnd)) (tasks : List Task) (t : Task) (long : length ends ≡ k * k)
+module _ (k : ℕ) (ends old : List (Option PairEnd)) (tasks : List Found) (t : Found) (long : length ends ≡ k * k)
     (bt : IsPairBelow k (t.first, t.second)) (c : Contains tasks t)
   where
     abbrev written : List (Option PairEnd)
@@ -137,29 +137,3 @@ module _ (k : ℕ) (ends old : List (Option PairEnd)) (tasks : List Task) (t : T
             → (end_at k written x ≡ end_at k old x) ⊎ HasEnd tasks x (end_at k written x)
         by (inl e) = inr (t, c, e.0, e.1)
         by (inr e) = subst (λ (z : Option PairEnd). (z ≡ end_at k old x) ⊎ HasEnd tasks x z) (sym e) was
-
-    pub has_put : (x : ℕ × ℕ) → IsPairBelow k x → ((t.first, t.second) ≡ x) ⊎ HasEnd tasks x (end_at k ends x) → HasEnd tasks x (end_at k written x)
-    has_put x bx was = by (put_cases k ends t x long bt bx) was
-      where
-        by : (((t.first, t.second) ≡ x) × (end_at k written x ≡ t.end)) ⊎ (end_at k written x ≡ end_at k ends x)
-            → ((t.first, t.second) ≡ x) ⊎ HasEnd tasks x (end_at k ends x) → HasEnd tasks x (end_at k written x)
-        by (inl e) w = (t, c, e.0, e.1)
-        by (inr e) (inr w) = subst (λ (z : Option PairEnd). HasEnd tasks x z) (sym e) w
-        by (inr e) (inl is) =
-            let low : t.first < k = (let a = bt.order in let b = bt.below in omega arith) in (
-              t,
-              c,
-              is,
-              subst (λ y. end_at k written y ≡ t.end) is (end_at-here k ends t.first t.second t.end long low bt.below),
-            )
-
-    -- a task is still to be written, or its end stands in the table
-    pub put_next : (left : List Task) (x : Task) → IsPairBelow k (x.first, x.second)
-        → Contains (left ++ t ∷ []) x ⊎ HasEnd tasks (x.first, x.second) (end_at k ends (x.first, x.second))
-        → Contains left x ⊎ HasEnd tasks (x.first, x.second) (end_at k written (x.first, x.second))
-    put_next left x bx (inr has) = inr (has_put (x.first, x.second) bx (inr has))
-    put_next left x bx (inl d) = by (Contains-push_cases left t x d)
-      where
-        by : Contains left x ⊎ (t ≡ x) → Contains left x ⊎ HasEnd tasks (x.first, x.second) (end_at k written (x.first, x.second))
-        by (inl e) = inl e
-        by (inr e) = inr (has_put (x.first, x.second) bx (inl (ap (λ (y : Task). (y.first, y.second)) e)))

@@ -1,10 +1,10 @@
 -- What stands while pairs are solved in waves.
-use Rattle.std.specs.Prelude.{◌≡◌, ◌≢◌, ◌⊎◌, ℕ, ◌+◌, ◌-◌, ◌<◌, ◌*◌, List, [], map, All, Contains, true, false, slice_index_or, Option, None}
+use Rattle.std.specs.Prelude.{◌≡◌, ◌≢◌, ◌⊎◌, ℕ, ◌+◌, ◌-◌, ◌<◌, ◌*◌, List, [], All, Contains, true, slice_index_or, Option, None}
 use Rattle.hg_defs.specs.Hypergraph.{Hyper}
 use Rattle.round_log.specs.Rounds.{touching}
 use Rattle.pin_plain.specs.Parted.{Parted}
 use Rattle.flow_pair.specs.declared.solve.PairEnd.{PairEnd}
-use Rattle.flow_round.specs.declared.worker.Task.{Task}
+use Rattle.flow_round.specs.declared.worker.Found.{Found}
 use Rattle.flow_round.specs.declared.worker.Worker.{Worker}
 use Rattle.flow_round.specs.PairTurns.{IsPairBelow, IsTurn, is_of_wave}
 
@@ -17,60 +17,42 @@ pub record AreTouched (h : Hyper) (p : Parted) (s n : ℕ) (firsts : List ℕ) :
   pub wave : All (λ a. is_of_wave p.k s a ≡ true) firsts
   pub all : (a : ℕ) → a < n → is_of_wave p.k s a ≡ true → touching h p.blocks a (s - a) ≢ [] → Contains firsts a
 
--- the pairs of tasks
-abbrev pub pairs_of : List Task → List (ℕ × ℕ)
-pairs_of tasks = map (λ t. (t.first, t.second)) tasks
-
 -- a pair of a wave
-pub record IsTask (k s : ℕ) (t : Task) : Type 0 where
+pub record IsFound (k s : ℕ) (t : Found) : Type 0 where
   pub below : IsPairBelow k (t.first, t.second)
   pub sum : t.first + t.second ≡ s
 
 -- a pair with its end for a partition
-abbrev pub IsDone : Hyper → Parted → Task → Type 0
+abbrev pub IsDone : Hyper → Parted → Found → Type 0
 IsDone h p t = IsTurn h p.k p.limit p.blocks (t.first, t.second) t.end
 
--- a worker of the hypergraph without tasks
+-- a worker of the hypergraph that found nothing
 pub record IsIdle (h : Hyper) (w : Worker) : Type 0 where
   pub solver_is : w.solver ≡ h
-  pub none : w.tasks.items ≡ []
+  pub none : w.found.items ≡ []
 
 abbrev pub AreWorkers : Hyper → List Worker → Type 0
 AreWorkers h workers = All (IsIdle h) workers
 
--- a worker of the hypergraph with tasks of a wave
-pub record IsBusy (h : Hyper) (k s : ℕ) (w : Worker) : Type 0 where
-  pub solver_is : w.solver ≡ h
-  pub tasks_are : All (IsTask k s) w.tasks.items
-
--- a worker of the hypergraph with tasks
-pub record IsReady (h : Hyper) (k : ℕ) (w : Worker) : Type 0 where
-  pub solver_is : w.solver ≡ h
-  pub below : All (λ t. IsPairBelow k (t.first, t.second)) w.tasks.items
-
--- a worker with tasks of a wave whose pairs have their ends for a partition
+-- a worker of the hypergraph that found ends of pairs of a wave for a partition
 pub record IsSolved (h : Hyper) (p : Parted) (s : ℕ) (w : Worker) : Type 0 where
   pub solver_is : w.solver ≡ h
-  pub tasks_are : All (IsTask p.k s) w.tasks.items
-  pub done : All (IsDone h p) w.tasks.items
+  pub found_are : All (IsFound p.k s) w.found.items
+  pub done : All (IsDone h p) w.found.items
 
--- one of the tasks of some worker is that of the pair
-abbrev pub HasTask : List Worker → ℕ × ℕ → Type 0
-HasTask workers x = (w : Worker) × Contains workers w × Contains (pairs_of w.tasks.items) x
-
--- the worker after it solved its pairs, or failed
-pub record HasRun (h : Hyper) (p : Parted) (old new : Worker) : Type 0 where
-  pub solver_is : new.solver ≡ h
-  pub pairs : pairs_of new.tasks.items ≡ pairs_of old.tasks.items
-  pub done : new.failed ≡ false → All (IsDone h p) new.tasks.items
-
--- one of the tasks is that of the pair, and has this end
-abbrev pub HasEnd : List Task → ℕ × ℕ → Option PairEnd → Type 0
-HasEnd tasks x end = (t : Task) × Contains tasks t × ((t.first, t.second) ≡ x) × (end ≡ t.end)
+-- this end was found for the pair
+abbrev pub HasEnd : List Found → ℕ × ℕ → Option PairEnd → Type 0
+HasEnd found x end = (t : Found) × Contains found t × ((t.first, t.second) ≡ x) × (end ≡ t.end)
 
 -- the pairs of a wave have no ends yet
 abbrev pub HaveNoEnds : ℕ → ℕ → List (Option PairEnd) → Type 0
 HaveNoEnds k s ends = (x : ℕ × ℕ) → IsPairBelow k x → x.0 + x.1 ≡ s → end_at k ends x ≡ None
+
+-- those pairs of a wave that have an end have that for a partition
+abbrev pub MayHaveEnds : Hyper → Parted → ℕ → List (Option PairEnd) → Type 0
+MayHaveEnds h p s ends =
+    (x : ℕ × ℕ) → IsPairBelow p.k x → x.0 + x.1 ≡ s
+    → (end_at p.k ends x ≡ None) ⊎ IsTurn h p.k p.limit p.blocks x (end_at p.k ends x)
 
 -- the pairs of a wave have their ends for a partition
 abbrev pub HaveEnds : Hyper → Parted → ℕ → List (Option PairEnd) → Type 0

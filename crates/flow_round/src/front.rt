@@ -5,8 +5,8 @@ ghost use Rattle.flow_round.specs.PairTurns.{IsPairBelow, IsTurn, after_turn, wa
 ghost use Rattle.flow_round.specs.Fronts.{IsFront, TakesPairs};
 ghost use Rattle.flow_round.specs.Waves.{AreWorkers, HaveEnds, end_at};
 
-use crate::deal::partner_of;
 use crate::table::{end_of, place_of};
+use crate::touched::partner_of;
 use crate::worker::{Worker, solve_wave};
 use crew::Gate;
 use flow_pair::{CutNets, NoMemory, PairEnd, assign_region};

@@ -1,12 +1,12 @@
 //! Flow refinement of disjoint pairs of blocks at once.
 #![tactic(auto)]
 
-mod deal;
 mod front;
 pub mod laws;
 mod pass;
 mod refine;
 mod table;
+mod touched;
 mod worker;
 
 pub use pass::wave_pass;

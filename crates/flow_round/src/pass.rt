@@ -6,6 +6,7 @@ ghost use Rattle.hg_defs.specs.Cost.{cost};
 ghost use Rattle.round_log.specs.Passes.{block_pairs};
 ghost use Rattle.round_log.specs.declared.record.Kind.TheVariants.{Flow};
 ghost use Rattle.refiner.specs.Logging.{LogsPass, LogsRounds};
+ghost use Rattle.flow_pair.specs.CutNets.{AreCutLists};
 ghost use Rattle.flow_pair.specs.Turns.{TakesTurn, TakesTurns};
 ghost use Rattle.flow_round.specs.PairTurns.{IsTurn, AreTurns, after_turn};
 ghost use Rattle.flow_round.specs.Waves.{AreWorkers, end_at};
@@ -21,6 +22,7 @@ use pin_plain::Partition;
 use refiner::{Log, Tally, Task};
 use round_log::{LoggedRound, RoundList};
 use std::alloc::Global;
+use std::thread;
 use std::thread::Threads;
 
 /// Records the round of a pair, where it has an end. Answers the cost afterwards.
@@ -99,13 +101,51 @@ fn workers_of(alloc: Global, h: &Hypergraph, count: u32) -> Result<Vec<Worker>, 
         workers.push(Worker {
             number,
             solver: PairSolver::new(alloc, h),
-            tasks: Vec::new(alloc),
-            load: 0,
+            found: Vec::new(alloc),
             turn: 0,
-            failed: false,
         })?;
     }
     Ok(workers)
+}
+
+/// A copy of a partition.
+fn copy_of(alloc: Global, h: &Hypergraph, p: &Partition) -> Result<Partition, NoMemory>
+    requires { p.now.hyper ≡ h.now }
+    ensures { IfOk result (λ copy. copy ≡ p.now) }
+{
+    let blocks = Blocks::from_vec(Vec::from_slice(alloc, p.blocks())?);
+    Partition::of(alloc, h, p.k(), p.limit(), blocks)
+}
+
+/// The cut nets of a partition, and a copy of it. Where there is more than one worker, two threads make them.
+fn cut_and_copy<R: Threads + Sync>(
+    rt: &R,
+    alloc: Global,
+    h: &Hypergraph,
+    p: &Partition,
+    workers: u32,
+) -> Result<(CutNets, Partition), NoMemory>
+    requires { p.now.hyper ≡ h.now }
+    ensures cut { IfOk result (λ made. AreCutLists h.now p.now.k p.now.blocks made.0) }
+    ensures copy { IfOk result (λ made. made.1 ≡ p.now) }
+{
+    if workers == 1 {
+        let cut = CutNets::of(alloc, h, p)?;
+        let copy = copy_of(alloc, h, p)?;
+        return Ok((cut, copy));
+    }
+    let (cut, copy) = thread::join(
+        rt,
+        || -> Result<CutNets, NoMemory>
+            requires { p.now.hyper ≡ h.now }
+            ensures { IfOk result (AreCutLists h.entry.now p.entry.now.k p.entry.now.blocks) }
+        { CutNets::of(alloc, h, p) },
+        || -> Result<Partition, NoMemory>
+            requires { p.now.hyper ≡ h.now }
+            ensures { IfOk result (λ copy. copy ≡ p.entry.now) }
+        { copy_of(alloc, h, p) },
+    );
+    Ok((cut?, copy?))
 }
 
 /// Makes a flow pass over one level. The pairs of blocks are solved in waves of those with one sum,
@@ -134,12 +174,12 @@ pub fn wave_pass<R: Threads + Sync, G: Gate>(
 {
     let level = task.level;
     let k = p.k();
+    let _blocks = p.blocks();
     let before = p.cost(h);
-    let blocks = Blocks::from_vec(Vec::from_slice(alloc, p.blocks())?);
-    let mut part = Partition::of(alloc, h, k, p.limit(), blocks)?;
+    let (cut, mut part) = cut_and_copy(rt, alloc, h, &p, task.workers)?;
     let mut workers = workers_of(alloc, h, task.workers)?;
     let mut front = Front {
-        cut: CutNets::of(alloc, h, &p)?,
+        cut,
         ends: empty_table(alloc, k)?,
         part: p,
     };

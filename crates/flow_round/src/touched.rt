@@ -1,20 +1,18 @@
-//! The pairs of a wave that a net touches, and who solves them.
+//! The pairs of a wave that a net touches.
 
-ghost use Rattle.std.specs.Prelude.{◌≡◌, ℕ, ◌<◌, ◌-◌, ◌++◌, ◌∷◌, [], All, Contains, IfOk, OnOk, length, map};
-ghost use Rattle.std.specs.Prelude.{true, false, MatchOption};
+ghost use Rattle.std.specs.Prelude.{◌≡◌, ◌-◌, ◌<◌, IfOk, MatchOption, false, map, true};
 ghost use Rattle.flow_pair.specs.CutNets.{AreCutLists};
 ghost use Rattle.flow_round.specs.PairTurns.{is_of_wave};
-ghost use Rattle.flow_round.specs.Waves.{AreTouched, AreWorkers, HasTask, IsBusy, pairs_of};
+ghost use Rattle.flow_round.specs.Waves.{AreTouched};
 
-use crate::worker::{Task, Worker};
 use flow_pair::{CutNets, NoMemory};
 use incidence::Hypergraph;
 use pin_plain::Partition;
 use std::alloc::Global;
 use std::cmp::Reverse;
 
-/// A pair of a wave: how long the lists of its blocks are, and its first block.
-pub(crate) type Touched = (Reverse<usize>, u32);
+/// A pair of a wave: what room its blocks have and how long their lists are, and its first block.
+pub(crate) type Touched = (Reverse<(u64, usize)>, u32);
 
 /// The second block of the pair of a wave with this first block, where there is one.
 pub(crate) fn partner_of(k: u32, wave: u32, a: u32) -> Option<u32>
@@ -33,7 +31,14 @@ pub(crate) fn partner_of(k: u32, wave: u32, a: u32) -> Option<u32>
     Some(b)
 }
 
-/// The pairs of a wave that a net touches, the longest lists first.
+/// The room that a block has.
+fn room_of(p: &Partition, block: u32) -> u64
+    requires { block < p.now.k }
+{
+    p.limit().saturating_sub(p.weight(block))
+}
+
+/// The pairs of a wave that a net touches, those with the most room first: their regions are the largest ones.
 pub(crate) fn touched_pairs(
     alloc: Global,
     h: &Hypergraph,
@@ -52,66 +57,11 @@ pub(crate) fn touched_pairs(
             continue;
         };
         if cut.touch(h, p, first, second) {
+            let room = room_of(p, first).saturating_add(room_of(p, second));
             let length = cut.len_of(first).saturating_add(cut.len_of(second));
-            pairs.push((Reverse(length), first))?;
+            pairs.push((Reverse((room, length)), first))?;
         }
     }
     pairs.sort_unstable();
     Ok(pairs)
-}
-
-/// The first one of the workers who have the least to do.
-fn least_loaded(workers: &[Worker]) -> usize
-    requires { 0 < length workers.now }
-    ensures { result < length workers.now }
-{
-    let mut least = 0;
-    for i in 1..workers.len() {
-        if workers[i].load < workers[least].load {
-            least = i;
-        }
-    }
-    least
-}
-
-impl Worker {
-    /// Takes a pair to solve.
-    fn take(&mut self, first: u32, second: u32, length: usize) -> Result<(), NoMemory>
-        ensures solver { self.new.solver ≡ self.old.solver }
-        ensures pairs { OnOk result (pairs_of self.new.tasks.items ≡ pairs_of self.old.tasks.items ++ (first, second)
-            ∷ []) }
-    {
-        self.load = self.load.saturating_add(length);
-        self.tasks.push(Task {
-            first,
-            second,
-            end: None,
-        })?;
-        Ok(())
-    }
-}
-
-/// Deals pairs of a wave to the workers, each to one who has the least to do.
-pub(crate) fn deal(
-    h: &Hypergraph,
-    p: &Partition,
-    wave: u32,
-    pairs: &[Touched],
-    workers: &mut [Worker],
-) -> Result<(), NoMemory>
-    requires some { 0 < length workers.old }
-    requires workers { AreWorkers h.now workers.old }
-    requires wave { All (λ a. is_of_wave p.now.k wave a ≡ true) (map (λ pair. pair.1) pairs.now) }
-    ensures busy { OnOk result (All (IsBusy h.now p.now.k wave) workers.new) }
-    ensures dealt { OnOk result ((a : ℕ) → Contains (map (λ pair. pair.1) pairs.now) a → HasTask workers.new (
-      a,
-      wave
-          - a,
-    )) }
-{
-    for pair in pairs {
-        let least = least_loaded(workers);
-        workers[least].take(pair.1, wave - pair.1, pair.0.0)?;
-    }
-    Ok(())
 }

@@ -1,4 +1,4 @@
-use Rattle.std.proofs.Common.{◌≡◌, ℕ, List, Option, ◌++◌, ◌∙◌, [], length, sym, ap, ap₂, subst, arith, ◌+◌, ◌-◌, ◌*◌, false, Result, Ok, Err, OnErr}
+use Rattle.std.proofs.Common.{◌≡◌, List, Option, ◌++◌, ◌∙◌, [], length, sym, ap, ap₂, subst, arith, ◌+◌, ◌-◌, ◌*◌, false, Result, Ok, Err, OnErr}
 use Rattle.std.proofs.lemmas.List.{append-nil}
 use Rattle.std.proofs.lemmas.List.Elements.{All-nil}
 use Rattle.hg_defs.specs.Hypergraph.{Hyper, IsHypergraph}
@@ -20,7 +20,7 @@ use Rattle.flow_round.proofs.pass.wave_pass.Goals as goal
 
 pub record_turns-requires-clause-table : goal.record_turns-requires-clause-table
 record_turns-requires-clause-table g c =
-    let part = ap (λ (x : Parted). x.k) c.in_ok-part.ensures ∙ c.k-k.ensures in
+    let part = ap (λ (x : Parted). x.k) c.in_ok-cut.ensures.copy in
     ap length c.as_slice-ends.ensures.value ∙ c.in_ok-take_waves.ensures.front.table_is
     ∙ ap (λ (x : Parted). x.k * x.k) c.in_ok-take_waves.ensures.turns.same ∙ ap (λ k. k * k) (sym part)
 
@@ -28,12 +28,8 @@ pub record_turns-requires-clause-turns : goal.record_turns-requires-clause-turns
 record_turns-requires-clause-turns g c =
     let h = c.args.h.now in
     let p = c.args.p in
-    let make : Hyper → ℕ → ℕ → List ℕ → Parted = λ x k l q. record { hyper = x; k = k; limit = l; blocks = q } in
-    let blocks = c.from_vec-blocks.ensures ∙ c.in_ok-from_slice.ensures.items ∙ c.blocks-2.ensures.value in
-    let same : c.in_ok-part.part ≡ p =
-    c.in_ok-part.ensures ∙ ap₂ (λ x k. make x k c.limit.result c.from_vec-blocks.result) (sym c.requires.belongs) c.k-k.ensures
-    ∙ ap₂ (make p.hyper p.k) c.limit.ensures blocks in
-    let parted = c.blocks-2.ensures.parted in
+    let same = c.in_ok-cut.ensures.copy in
+    let parted = c.blocks-blocks.ensures.parted in
     let sound = subst IsHypergraph c.requires.belongs parted.sound in
     let whole = subst (λ (x : Hyper). IsPartition x p.k p.blocks) c.requires.belongs parted.partition in
     let turns = (waves_pass_order h p.k p.limit (end_at p.k c.take_waves.new.self.ends.items) p.blocks sound whole c.requires.fits
@@ -47,14 +43,11 @@ returns-clause-pass g c =
     let p = c.args.p in
     let q = c.record_turns.new.p in
     let made = c.record_turns.new.rounds.items in
-    let make : Hyper → ℕ → ℕ → List ℕ → Parted = λ x k l r. record { hyper = x; k = k; limit = l; blocks = r } in
-    let blocks = c.from_vec-blocks.ensures ∙ c.in_ok-from_slice.ensures.items ∙ c.blocks-2.ensures.value in
-    let same : c.in_ok-part.part ≡ p =
-    c.in_ok-part.ensures ∙ ap₂ (λ x k. make x k c.limit.result c.from_vec-blocks.result) (sym c.requires.belongs) c.k-k.ensures
-    ∙ ap₂ (make p.hyper p.k) c.limit.ensures blocks in
-    let whole = subst (λ (x : Hyper). IsPartition x p.k p.blocks) c.requires.belongs c.blocks-2.ensures.parted.partition in
+    let part = c.in_ok-cut.part in
+    let same : part ≡ p = c.in_ok-cut.ensures.copy in
+    let whole = subst (λ (x : Hyper). IsPartition x p.k p.blocks) c.requires.belongs c.blocks-blocks.ensures.parted.partition in
     let turns = subst (λ (x : Parted). TakesTurns h c.args.task.now.level (block_pairs x.k) [] x q [] made) same
-    (subst (λ (xs : List LoggedRound). TakesTurns h c.args.task.now.level (block_pairs c.in_ok-part.part.k) [] c.in_ok-part.part q xs made)
+    (subst (λ (xs : List LoggedRound). TakesTurns h c.args.task.now.level (block_pairs part.k) [] part q xs made)
     c.new-rounds.ensures.items c.in_ok-after.ensures.turns) in
     pass_logged h c.args.task.now p q c.args.tally.now _ c.args.log.now c.add.new.self made whole c.requires.fits turns
     (c.in_ok-add.ensures.ok ∙ ap (λ (xs : List LoggedRound). c.args.log.now ++ xs) c.from_vec.ensures)

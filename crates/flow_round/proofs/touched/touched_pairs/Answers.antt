@@ -4,11 +4,11 @@ use Rattle.std.specs.declared.cmp.Reverse.{Reverse}
 use Rattle.round_log.specs.Rounds.{touching}
 use Rattle.flow_round.specs.PairTurns.{is_of_wave}
 use Rattle.flow_round.specs.Waves.{AreTouched}
-use Rattle.flow_round.proofs.TaskLaws.{touched_more, touched_same, touched_sorted}
-use Rattle.flow_round.proofs.deal.touched_pairs.Goals as goal
-use Rattle.flow_round.proofs.deal.touched_pairs.Goals.{then-touch+in_ok-push, else-touch}
+use Rattle.flow_round.proofs.FoundLaws.{touched_more, touched_same, touched_sorted}
+use Rattle.flow_round.proofs.touched.touched_pairs.Goals as goal
+use Rattle.flow_round.proofs.touched.touched_pairs.Goals.{then-touch+in_ok-push, else-touch}
 
-abbrev first_of : Reverse ℕ × ℕ → ℕ
+abbrev first_of : Reverse (ℕ × ℕ) × ℕ → ℕ
 first_of pair = pair.1
 
 pub loop-first-preserved : goal.loop-first-preserved

@@ -1,10 +1,9 @@
-use Rattle.std.proofs.Common.{◌≡◌, ◌⊎◌, ◌<◌, ◌∙◌, ℕ, All, length, get_or, sym, ap, subst, arith}
+use Rattle.std.proofs.Common.{◌≡◌, ◌⊎◌, ◌<◌, ◌∙◌, ℕ, length, get_or, sym, subst, arith}
 use Rattle.std.proofs.Common.{length-set, get_or-set_other}
-use Rattle.flow_round.specs.declared.worker.Task.{Task}
 use Rattle.flow_round.specs.declared.worker.Worker.{Worker}
-use Rattle.flow_round.specs.PairTurns.{IsPairBelow, IsTurn}
+use Rattle.flow_round.specs.PairTurns.{IsPairBelow}
 use Rattle.flow_round.specs.Waves.{IsIdle, IsSolved, HasEnd, end_at}
-use Rattle.flow_round.proofs.TaskLaws.{gain_more, put_more, idle_more, task_at}
+use Rattle.flow_round.proofs.FoundLaws.{gain_more, idle_more}
 use Rattle.flow_round.proofs.worker.hand_all_over.Goals as goal
 
 pub loop-worker-preserved : goal.loop-worker-preserved
@@ -26,10 +25,8 @@ loop-worker-preserved c =
     let was = get_or workers at d in
     let solved = c.requires.solved in
     let mine = subst (IsSolved h p s) (sym (is d)) (solved at d low_old) in
-    let told = subst (λ k. (x : ℕ × ℕ) → IsPairBelow k x → (end_at k more x ≡ end_at k ends x) ⊎ HasEnd was.tasks.items x (end_at k more x))
+    let told = subst (λ k. (x : ℕ × ℕ) → IsPairBelow k x → (end_at k more x ≡ end_at k ends x) ⊎ HasEnd was.found.items x (end_at k more x))
     c.k-k.ensures c.hand_over.ensures.ends in
-    let put = subst (λ k. All (λ (t : Task). HasEnd was.tasks.items (t.first, t.second) (end_at k more (t.first, t.second))) was.tasks.items)
-    c.k-k.ensures c.hand_over.ensures.put in
     let idle : IsIdle h now = record { solver_is = c.hand_over.ensures.solver ∙ mine.solver_is; none = c.hand_over.ensures.idle } in
     record {
       table = c.hand_over.auto.ends ∙ i.table;
@@ -37,14 +34,5 @@ loop-worker-preserved c =
       passed = idle_more h workers at now low idle i.passed;
       rest = λ j e l m. get_or-set_other workers at j now e (λ x. absurd (omega (arith, l, x))) ∙ i.rest j e (omega (arith, l)) (let n = length-set workers at
           now in omega (arith, m, n));
-      gained = gain_more h p s c.args.ends.now ends more was.tasks.items mine.tasks_are mine.done told i.gained;
-      put = put_more h p s c.args.ends.now ends more was.tasks.items mine.tasks_are mine.done told old at d solved low_old
-          (ap (λ (v : Worker). v.tasks.items) (sym (is d))) i.put put;
+      gained = gain_more h p s c.args.ends.now ends more was.found.items mine.found_are mine.done told i.gained;
     }
-
-pub returns-clause-put : goal.returns-clause-put
-returns-clause-put c =
-    let h = c.args.h.now in
-    let p = c.args.p.now in
-    λ x has. task_at (λ y. IsTurn h p.k p.limit p.blocks y (end_at p.k c.loop-worker.ends y)) c.args.workers.now x
-    (λ i d l. c.loop-worker.invariant.put i d (let t = c.loop-worker-test.false in omega (arith, l, t))) has
