@@ -1,5 +1,9 @@
--- A round begins in balance.
-use Rattle.std.proofs.Common.{◌≡◌, ℕ, zero, suc, ◌<◌, List, [], ◌∷◌, length, get_or, refl, arith}
+-- A round begins in balance, with the words that a partition has ready.
+use Rattle.std.proofs.Common.{◌≡◌, ℕ, zero, suc, ◌+◌, ◌<◌, List, [], ◌∷◌, length, get_or, refl, ap, ◌∙◌, arith}
+use Rattle.hg_defs.specs.Hypergraph.{net_of}
+use Rattle.hg_defs.proofs.MoveLaws.{connectivity_counts}
+use Rattle.pin_plain.specs.Opened.{IsOpened}
+use Rattle.pin_plain.proofs.CountLaws.{fields_enough}
 use Rattle.move_core.specs.State.{IsOpening}
 use Rattle.move_core.proofs.OpenLaws.{opening_balance}
 use Rattle.move_core.specs.Balance.{IsSetup}
@@ -33,3 +37,16 @@ begins t words ok wide opening = record {
           omega arith;
     }
     each (suc i) l = absurd (omega arith)
+
+-- the words that a partition has ready are those of an opening
+pub is_opening : (t : Terms) (words : List ℕ) → IsTerms t → IsOpened t.part.hyper t.part.k t.part.blocks words → IsOpening (terms_setup t)
+    (table_readings (terms_setup t) words)
+is_opening t words k h = record {
+  claim = λ v l. h.zeros v (omega arith);
+  name = λ v l. h.names v l;
+  load = λ b l. h.loads b l;
+  count = λ e b l m. h.counts e b l (let enough = fields_enough (length (net_of t.part.hyper e).pins) t.part.k in omega arith);
+  spread = λ e l. h.spreads e l ∙ ap (λ x. 64 + x) (connectivity_counts t.part.hyper t.part.k t.part.blocks e k.parted.sound k.parted.partition l);
+  next = h.zeros _ (omega arith);
+  cursor = h.zeros _ (omega arith);
+}

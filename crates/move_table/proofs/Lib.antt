@@ -9,7 +9,6 @@ pub mod ReadyLaws
 pub mod CarryLaws
 pub mod PassedLaws
 pub mod MoveLaws
-pub mod FillLaws
 pub mod BeginLaws
 pub mod CloseLaws
 pub mod GatherLaws

@@ -1,7 +1,7 @@
 -- A round may be shared by threads: its words are atomic, and all else of it is only read.
 use denote.Param.Send.{IsSync, sendable, shr_sync, view_sync, struct_sync, recorded_sync}
 use Rattle.std.proofs.Crossing.{crosses}
-use Rattle.pin_plain.specs.contracts.partition.Partition as partition
+use Rattle.pin_plain.specs.contracts.partition.ready.Ready as ready
 use Rattle.move_table.specs.contracts.view.Terms as terms
 use Rattle.move_table.specs.contracts.place.NetPlace as place
 use Rattle.move_table.specs.contracts.round.Round as round
@@ -19,8 +19,8 @@ use denote.Struct.Declared as declared
 use Rattle.atomic_table.specs.declared.shared.TableRule.{Ghosts}
 use Rattle.atomic_table.specs.contracts.owned.Table as tables
 
-partition_sync : IsSync partition.the_row
-partition_sync = search (sendable, crosses) depth 20
+ready_sync : IsSync ready.the_row
+ready_sync = search (sendable, crosses) depth 20
 
 place_sync : IsSync place.the_row
 place_sync = search (sendable, crosses) depth 20
@@ -32,7 +32,7 @@ hyper_sync : (ℓ : _) (κ : _) → IsSync (ShrRef ℓ κ graph.the_row)
 hyper_sync ℓ κ = shr_sync ℓ κ graph.the_row (hyper.the_sync)
 
 terms_field_sync : IsSync (terms.the_field).row
-terms_field_sync = search (sendable, crosses, partition_sync) depth 20
+terms_field_sync = search (sendable, crosses, ready_sync) depth 20
 
 table_field_sync : (V K P : RattleType) (g : Ghosts P.Denot unit.Denot V.Denot K.Denot) →
     IsSync (tables.the_field unit V K P global.the_row g impls.ghosts).row

@@ -3,5 +3,4 @@ pub mod Standing
 pub mod Seen
 pub mod Steps
 pub mod Calls
-pub mod Opening
 pub mod Closing

@@ -3,10 +3,11 @@
 ghost use Rattle.std.specs.Prelude.{◌≡◌, ◌<◌, ◌≤◌, [], IfOk, IfErr, length};
 ghost use Rattle.hg_defs.specs.Partition.{Fits};
 ghost use Rattle.move_core.specs.State.{blank};
-ghost use Rattle.move_table.specs.Standing.{IsTerms, first_view};
-ghost use Rattle.move_table.specs.Calls.{AreFresh, IsRound};
+ghost use Rattle.move_table.specs.Places.{word_count};
+ghost use Rattle.move_table.specs.Standing.{terms_setup, IsTerms, first_view};
+ghost use Rattle.move_table.specs.Calls.{AreFresh, HasNetPlaces};
 
-use crate::open::{Filled, fill, lay_out};
+use crate::open::lay_out;
 use crate::pass::{Pass, Passes};
 use crate::place::NetPlace;
 use crate::round::Round;
@@ -43,26 +44,25 @@ pub(crate) struct Begun {
     pub(crate) nets: Vec<NetPlace>,
     pub(crate) table: Table<(), View, Terms, Balanced, Global>,
     pub(crate) passes: Passes,
-    pub(crate) cost: u64,
 }
 
-/// Takes all memory of a round, fills its words, and makes its passes.
+/// Takes all memory of a round, copies its words, and makes its passes.
 fn begin(alloc: Global, hyper: &Hypergraph, terms: &Terms) -> Result<Begun, NoMemory>
     requires terms { IsTerms terms.now }
     requires belongs { hyper.now ≡ terms.now.part.hyper }
-    ensures round { IfOk result (λ b. IsRound hyper.now terms.now b.nets.items b.table.shared.table_id
-        b.table.shared.key b.cost) }
+    ensures nets { IfOk result (λ b. HasNetPlaces (terms_setup terms.now) b.nets.items) }
+    ensures key { IfOk result (λ b. b.table.shared.key ≡ terms.now) }
+    ensures wide { IfOk result (λ b. b.table.shared.table_id.words ≡ word_count (terms_setup terms.now)) }
+    ensures bare { IfOk result (λ b. b.table.shared.table_id.slots ≡ 0) }
     ensures passes { IfOk result (λ b. AreFresh b.table.shared.table_id terms.now b.passes) }
 {
-    let layout = lay_out(alloc, hyper, terms)?;
-    let Filled { words, cost } = fill(alloc, hyper, terms, &layout)?;
-    let (table, seat) = Table::of_words(alloc, words.as_slice(), terms)?;
+    let nets = lay_out(alloc, hyper, terms)?;
+    let (table, seat) = Table::of_words(alloc, terms.part.words(), terms)?;
     let passes = make_passes(alloc, &table.shared, seat, terms.workers)?;
     Ok(Begun {
-        nets: layout.nets,
+        nets,
         table,
         passes,
-        cost,
     })
 }
 
@@ -83,6 +83,7 @@ impl<'h> Round<'h> {
         ensures passes { IfOk result (λ r. AreFresh r.0.table r.0.terms r.1) }
         ensures refused { IfErr result (λ e. e.0 ≡ part) }
     {
+        let (part, opening_cost) = part.into_ready(hyper);
         let _blocks = part.blocks();
         let terms = Terms { part, workers };
         match begin(alloc, hyper, &terms) {
@@ -91,7 +92,6 @@ impl<'h> Round<'h> {
                     nets,
                     table,
                     passes,
-                    cost,
                 },
             ) => Ok((
                 Round {
@@ -99,13 +99,13 @@ impl<'h> Round<'h> {
                     terms,
                     nets,
                     table,
-                    opening_cost: cost,
+                    opening_cost,
                 },
                 passes,
             )),
             Err(NoMemory) => {
                 let Terms { part, workers: _ } = terms;
-                Err((part, NoMemory))
+                Err((part.into_partition(), NoMemory))
             }
         }
     }

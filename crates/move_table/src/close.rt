@@ -169,10 +169,8 @@ impl<'h> Round<'h> {
         } = self;
         end_words(table, passes);
         lay_moves(done.as_slice(), moves.as_mut_slice());
-        let Terms {
-            mut part,
-            workers: _,
-        } = terms;
+        let Terms { part, workers: _ } = terms;
+        let mut part = part.into_partition();
         let opening = Snapshot::of(&part);
         make_moves(&mut part, hyper, moves.as_slice());
         Ok(Closed {

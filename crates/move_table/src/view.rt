@@ -1,13 +1,13 @@
 //! What a round is over, and what is known of a pass.
 
 use move_core::{Account, Word};
-use pin_plain::Partition;
+use pin_plain::Ready;
 
 /// What a round is over: the partition at its opening, and how many passes it has.
 #[derive(Drop)]
 pub struct Terms {
     /// The partition at the opening, with its hypergraph, number of blocks and limit.
-    pub part: Partition,
+    pub part: Ready,
     /// How many passes the round has.
     pub workers: u32,
 }

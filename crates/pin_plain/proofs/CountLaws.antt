@@ -4,7 +4,7 @@ use Rattle.std.proofs.Common.{if◌then◌else◌, nat_eq, nat_lt, nat_le, List,
 use Rattle.std.proofs.Common.{slice_index, get_or, slice_set, refl, sym, ap, ◌∙◌, subst, arith, true≢false}
 use Rattle.std.proofs.lemmas.Bool.{eqb-true, eqb-false, ne_eqb, eq-eqb, ltb-true, ltb-false, lt-ltb, leb-true, cases_eq, cases_lt}
 use Rattle.hg_base.specs.Packed.{count_at, IsWidth, fields_of, bits_of, words_of, field}
-use Rattle.hg_defs.specs.Hypergraph.{Hyper, IsHypergraph, vertex_count, net_count, net_of, Suits}
+use Rattle.hg_defs.specs.Hypergraph.{Hyper, IsHypergraph, IsWithinLimits, vertex_count, net_count, net_of, Suits}
 use Rattle.hg_defs.specs.Partition.{IsPartition, block_of}
 use Rattle.hg_defs.specs.Pins.{pins_in}
 use Rattle.hg_defs.specs.Moves.{moved}
@@ -12,7 +12,7 @@ use Rattle.std.specs.Set.{is_member}
 use Rattle.std.specs.List.{range_with_len}
 use Rattle.std.specs.List.Sorted.{IsStrictlyIncreasing}
 use Rattle.hg_defs.specs.Incidence.{is_on, nets_of}
-use Rattle.hg_defs.proofs.SumLaws.{sum_below_more, sum_below-le, sum_below-constant, weight_if}
+use Rattle.hg_defs.proofs.SumLaws.{sum_below_more, sum_below-le, sum_below-constant, sum_below-add, weight_if}
 use Rattle.hg_defs.proofs.DistinctLaws.{times_of-once, pins_in-set, pins_in-set_old, pins_in-set_apart, pins_in-sum, blocks_of_pins}
 use Rattle.std.proofs.Math.Bool.{or-false, or-true}
 use Rattle.std.proofs.lemmas.Bool.Decides.{Decides-eqb}
@@ -21,7 +21,7 @@ use Rattle.std.proofs.lemmas.List.Folds.{list_any_at}
 use Rattle.std.proofs.lemmas.List.FromFn.{length-range_with_len, get_or-range_with_len}
 use Rattle.incidence.proofs.IndexLaws.{sum_below_upto-le, nets_of-below, nets_of-rising, is_pin_new, is_pin_more}
 use Rattle.pin_plain.proofs.GainLaws.{nets_of-hold, two_within}
-use Rattle.pin_plain.specs.Counts.{net_bits, net_words, net_start, HasLayout, HoldsCounts, counts_of, counts_before, counts_between}
+use Rattle.pin_plain.specs.Counts.{net_bits, net_words, words_at_net, net_place, net_start, all_words, HasLayout, HoldsCounts, counts_of, counts_before, counts_between}
 
 -- ---- the width of a net's counts
 
@@ -57,19 +57,26 @@ word_below bits words b width = at_width (λ w. b < words * (64 / w) → b / (64
 -- ---- where the words of a net stand
 
 module _ (h : Hyper) (k : ℕ) where
-  pub net_start_next : (e : ℕ) → net_start h k (e + 1) ≡ net_start h k e + net_words h k e
-  net_start_next e = sum_below_more (net_words h k) e
+  pub net_place_next : (e : ℕ) → net_place h k (e + 1) ≡ net_place h k e + words_at_net h k e
+  net_place_next e = let m = sum_below_more (words_at_net h k) e in omega arith
 
-  pub net_part : (e : ℕ) → e < net_count h → net_start h k e + net_words h k e ≤ net_start h k (net_count h)
+  pub net_place-le : (e i : ℕ) → e ≤ i → net_place h k e ≤ net_place h k i
+  net_place-le e i l = let m = sum_below_upto-le (words_at_net h k) e i l in omega arith
+
+  pub net_part : (e : ℕ) → e < net_count h → net_start h k e + net_words h k e ≤ all_words h k
   net_part e l =
-      let next = net_start_next e in
-      let upto = sum_below_upto-le (net_words h k) (e + 1) (net_count h) (omega arith) in
+      let next = net_place_next e in
+      let upto = net_place-le (e + 1) (net_count h) (omega arith) in
       omega arith
 
-  pub all_words-le : 2 ≤ k → Suits h k → net_start h k (net_count h) ≤ 2 ^ 26
-  all_words-le some suits =
+  pub all_words-le : 2 ≤ k → k ≤ 256 → IsWithinLimits h → Suits h k → all_words h k ≤ 2 ^ 27
+  all_words-le some few bounds suits =
       let each = sum_below-le (net_words h k) (λ e. k) (net_count h) (λ e l. words-le (length (net_of h e).pins) k some) in
       let sum = sum_below-constant k (net_count h) in
+      let one = sum_below-constant 1 (net_count h) in
+      let both = sum_below-add (λ e. 1) (net_words h k) (net_count h) in
+      let vertices = bounds.vertices in
+      let nets = bounds.nets in
       omega arith
 
   parts_apart : (e i x y : ℕ) → e < net_count h → i < net_count h → i ≢ e → x < net_words h k e → y < net_words h k i → net_start h k i + y ≢ net_start h k
@@ -78,8 +85,8 @@ module _ (h : Hyper) (k : ℕ) where
   parts_apart e i x y l m other a b = by (cases_lt i e)
     where
       by : (i < e) ⊎ (e ≤ i) → net_start h k i + y ≢ net_start h k e + x
-      by (inl q) = let next = net_start_next i in let upto = sum_below_upto-le (net_words h k) (i + 1) e (omega arith) in omega arith
-      by (inr q) = let next = net_start_next e in let upto = sum_below_upto-le (net_words h k) (e + 1) i (omega arith) in omega arith
+      by (inl q) = let next = net_place_next i in let upto = net_place-le (i + 1) e (omega arith) in omega arith
+      by (inr q) = let next = net_place_next e in let upto = net_place-le (e + 1) i (omega arith) in omega arith
 
   -- where the words of net e alone change, the other nets keep their counts
   pub HoldsCounts-net :

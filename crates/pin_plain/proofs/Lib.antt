@@ -10,3 +10,4 @@ pub mod SettleLaws
 pub mod RankLaws
 pub mod InnerLaws
 pub mod QuietLaws
+pub mod OpeningLaws

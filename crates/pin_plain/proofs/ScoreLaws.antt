@@ -42,7 +42,7 @@ module _ (h : Hyper) (k : ℕ) (p starts words : List ℕ) (told : IsTold h k p 
 pub told_few : (h : Hyper) (k : ℕ) (p starts words : List ℕ) → IsTold h k p starts words → length words < 2 ^ 32
 told_few h k p starts words told =
     let all = told.laid.all in
-    let few = all_words-le h k told.parted.some told.parted.suits in
+    let few = all_words-le h k told.parted.some told.parted.few told.parted.bounds told.parted.suits in
     omega arith
 
 -- ---- what is saved and lost, of the numbers that are read

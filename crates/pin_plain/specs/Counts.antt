@@ -1,20 +1,33 @@
--- The pin counts of all nets, packed into words: the words of each net stand after those of the nets before it.
-use Rattle.std.specs.Prelude.{◌≡◌, ℕ, ◌*◌, ◌<◌, List, length, slice_index, nat_eq, nat_lt, if◌then◌else◌}
+-- The pin counts of all nets, packed into words: the words of each net stand after those of the nets before it. Between them
+-- there is room for all else that a round has in its words.
+use Rattle.std.specs.Prelude.{◌≡◌, ℕ, ◌+◌, ◌*◌, ◌<◌, List, length, slice_index, nat_eq, nat_lt, if◌then◌else◌}
 use Rattle.std.specs.Set.{is_member}
 use Rattle.hg_defs.specs.Sums.{sum_below}
-use Rattle.hg_defs.specs.Hypergraph.{Hyper, net_count, net_of}
+use Rattle.hg_defs.specs.Hypergraph.{Hyper, vertex_count, net_count, net_of}
 use Rattle.hg_defs.specs.Pins.{pins_in}
 use Rattle.hg_base.specs.Packed.{bits_of, fields_of, words_of, count_at}
 
--- the bits, words and start of a net's counts
+-- the bits and words of a net's counts
 abbrev pub net_bits : Hyper → ℕ → ℕ
 net_bits h e = bits_of (length (net_of h e).pins)
 
 abbrev pub net_words : Hyper → ℕ → ℕ → ℕ
 net_words h k e = words_of (length (net_of h e).pins) k
 
+-- where the words of a net begin: one for the number of its blocks, and then its counts. Before those of all nets a round has
+-- two words a vertex, two more, and one a block
+abbrev pub words_at_net : Hyper → ℕ → ℕ → ℕ
+words_at_net h k e = 1 + net_words h k e
+
+abbrev pub net_place : Hyper → ℕ → ℕ → ℕ
+net_place h k e = 2 * vertex_count h + 2 + k + sum_below (words_at_net h k) e
+
 abbrev pub net_start : Hyper → ℕ → ℕ → ℕ
-net_start h k e = sum_below (net_words h k) e
+net_start h k e = net_place h k e + 1
+
+-- how many words there are
+abbrev pub all_words : Hyper → ℕ → ℕ
+all_words h k = net_place h k (net_count h)
 
 -- where the counts of each net start
 pub record HasStarts (h : Hyper) (k : ℕ) (starts : List ℕ) : Type 0 where
@@ -30,7 +43,7 @@ pub record HasWidths (h : Hyper) (widths : List ℕ) : Type 0 where
 pub record HasLayout (h : Hyper) (k : ℕ) (starts words : List ℕ) : Type 0 where
   pub nets : length starts ≡ net_count h
   pub starts_at : (e : ℕ) → e < net_count h → slice_index starts e ≡ net_start h k e
-  pub all : length words ≡ net_start h k (net_count h)
+  pub all : length words ≡ all_words h k
 
 -- the words hold these counts, also in the fields past block k
 abbrev pub HoldsCounts : Hyper → ℕ → List ℕ → (ℕ → ℕ → ℕ) → Type 0

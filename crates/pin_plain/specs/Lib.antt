@@ -6,3 +6,4 @@ pub mod ScoredNets
 pub mod Settling
 pub mod BestMoves
 pub mod Quiet
+pub mod Opened

@@ -3,11 +3,11 @@
 ghost use Rattle.std.specs.Prelude.{◌≡◌, ◌≢◌, ℕ, ◌+◌, ◌*◌, ◌/◌, ◌%◌, ◌^◌, ◌<◌, ◌≤◌, All, length};
 ghost use Rattle.std.specs.Prelude.{slice_index, replicate, IfOk, if◌then◌else◌, nat_eq};
 ghost use Rattle.hg_base.specs.Packed.{count_at, IsWidth, fields_of};
-ghost use Rattle.hg_defs.specs.Hypergraph.{vertex_count, net_count, Suits};
+ghost use Rattle.hg_defs.specs.Hypergraph.{vertex_count, Suits};
 ghost use Rattle.hg_defs.specs.Partition.{block_of};
 ghost use Rattle.hg_defs.specs.Moves.{moved};
 ghost use Rattle.hg_defs.specs.Pins.{pins_in};
-ghost use Rattle.pin_plain.specs.Counts.{net_start, counts_of, HasLayout, HasStarts, HasWidths, HoldsCounts};
+ghost use Rattle.pin_plain.specs.Counts.{all_words, counts_of, HasLayout, HasStarts, HasWidths, HoldsCounts};
 ghost use Rattle.pin_plain.specs.Parted.{IsParted};
 
 use hg_base::{NoMemory, bits_of, field, lower_field, place_of, raise_field, words_of};
@@ -129,24 +129,24 @@ pub struct Layout {
     pub words: u32,
 }
 
-/// Lays out the counts of all nets for `k` blocks.
+/// Lays out the counts of all nets for `k` blocks, with room for the other words of a round.
 pub fn lay_out(alloc: Global, h: &Hypergraph, k: u32) -> Result<Layout, NoMemory>
     requires some { 2 ≤ k }
     requires few { k ≤ 256 }
     requires suits { Suits h.now k }
     ensures starts { IfOk result (λ l. HasStarts h.now k l.starts.items) }
     ensures widths { IfOk result (λ l. HasWidths h.now l.widths.items) }
-    ensures words { IfOk result (λ l. l.words ≡ net_start h.now k (net_count h.now)) }
+    ensures words { IfOk result (λ l. l.words ≡ all_words h.now k) }
 {
     let nets = h.nets();
     let mut starts = Vec::with_capacity(alloc, nets as usize)?;
     let mut widths = Vec::with_capacity(alloc, nets as usize)?;
-    let mut words = 0;
+    let mut words = 2 * h.vertices() + 2 + k;
     for e in 0..nets {
         let size = h.pins(e).len() as u32;
-        starts.push(words)?;
+        starts.push(words + 1)?;
         widths.push(bits_of(size) as u8)?;
-        words += words_of(size, k);
+        words += 1 + words_of(size, k);
     }
     Ok(Layout {
         starts,

@@ -4,6 +4,7 @@
 mod counts;
 mod gains;
 mod lent;
+mod opening;
 mod partition;
 mod quiet;
 mod scores;
@@ -11,7 +12,7 @@ mod seen;
 mod sums;
 
 pub use hg_base::NoMemory;
-pub use partition::{BestMove, Partition};
+pub use partition::{BestMove, Partition, Ready};
 
 #[cfg(test)]
 mod tests;

@@ -11,6 +11,7 @@ ghost use Rattle.hg_defs.specs.Contraction.{after};
 ghost use Rattle.pin_plain.specs.Parted.{IsParted, IsLoaded, loads_after, KeepsCost};
 
 mod best;
+mod ready;
 mod sweep;
 
 use crate::counts::{count, count_nets, lay_out, move_pin};
@@ -19,6 +20,7 @@ use crate::lent::Lent;
 pub use best::BestMove;
 use hg_base::{Blocks, Items, NoMemory, bits_of, cost_of};
 use incidence::Hypergraph;
+pub use ready::Ready;
 use std::alloc::Global;
 use std::marker::Model;
 use std::snapshot::Snapshot;

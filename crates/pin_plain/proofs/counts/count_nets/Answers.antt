@@ -7,7 +7,7 @@ use Rattle.pin_plain.proofs.counts.count_nets.Goals as goal
 pub count_net-requires-clause-few : goal.count_net-requires-clause-few
 count_net-requires-clause-few c =
     let all = c.requires.laid.all in
-    let few = all_words-le c.args.h.now c.args.k c.requires.parted.some c.requires.parted.suits in
+    let few = all_words-le c.args.h.now c.args.k c.requires.parted.some c.requires.parted.few c.requires.parted.bounds c.requires.parted.suits in
     omega arith
 
 pub count_net-requires-clause-inside : goal.count_net-requires-clause-inside

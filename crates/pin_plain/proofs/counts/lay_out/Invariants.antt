@@ -1,5 +1,5 @@
 use Rattle.std.proofs.Common.{◌≡◌, ℕ, ◌<◌, length, slice_index}
-use Rattle.pin_plain.specs.Counts.{net_start, net_bits}
+use Rattle.pin_plain.specs.Counts.{net_place, net_start, net_bits}
 use Rattle.pin_plain.proofs.counts.lay_out.Given as goal
 
 abbrev pub invariant-loop-e : goal.invariant-loop-e
@@ -8,5 +8,5 @@ invariant-loop-e l = record {
   starts : (i : ℕ) → i < l.e → slice_index l.starts.items i ≡ net_start l.h l.k i;
   width_nets : length l.widths.items ≡ l.e;
   widths : (i : ℕ) → i < l.e → slice_index l.widths.items i ≡ net_bits l.h i;
-  next : l.words ≡ net_start l.h l.k l.e;
+  next : l.words ≡ net_place l.h l.k l.e;
 }

@@ -23,7 +23,7 @@ lower-requires-clause-inside c =
 pub lower-requires-clause-few : goal.lower-requires-clause-few
 lower-requires-clause-few c =
     let all = c.requires.laid.all in
-    let few = all_words-le c.args.h.now c.args.k c.requires.parted.some c.requires.parted.suits in
+    let few = all_words-le c.args.h.now c.args.k c.requires.parted.some c.requires.parted.few c.requires.parted.bounds c.requires.parted.suits in
     omega arith
 
 pub lower-requires-clause-held : goal.lower-requires-clause-held
@@ -52,7 +52,7 @@ raise-requires-clause-inside c =
 pub raise-requires-clause-few : goal.raise-requires-clause-few
 raise-requires-clause-few c =
     let all = c.requires.laid.all in
-    let few = all_words-le c.args.h.now c.args.k c.requires.parted.some c.requires.parted.suits in
+    let few = all_words-le c.args.h.now c.args.k c.requires.parted.some c.requires.parted.few c.requires.parted.bounds c.requires.parted.suits in
     omega arith
 
 pub raise-requires-clause-room : goal.raise-requires-clause-room

@@ -55,7 +55,10 @@ make_moves-requires-clause-blocks c =
     let laid = is_laid_out t ps c.as_slice.result.now c.lay_moves.new.moves g c.lay_moves.ensures in
     let wide_out : c.in-Ok.gathered.moves.len ≡ length c.lay_moves.new.moves = search rules in
     let back = written_back c.in-Ok.gathered.moves.len c.lay_moves.new.moves (drop (length c.lay_moves.new.moves) c.in-Ok.gathered.moves.items) wide_out in
-    subst (All (λ (m : Move). m.to < t.part.k)) (sym (c.as_slice-2.ensures.value ∙ back)) laid.blocks
+    let given : Parted = c.into_partition-part.result in
+    let same : given ≡ t.part = c.into_partition-part.ensures in
+    subst (λ (p : Parted). All (λ (m : Move). m.to < p.k) c.as_slice-2.result.now) (sym same)
+    (subst (All (λ (m : Move). m.to < t.part.k)) (sym (c.as_slice-2.ensures.value ∙ back)) laid.blocks)
 
 pub returns-clause-permuted : goal.returns-clause-permuted
 returns-clause-permuted c =
@@ -98,9 +101,13 @@ invariant_of-result c =
     let laid = is_laid_out t ps c.as_slice.result.now c.lay_moves.new.moves g c.lay_moves.ensures in
     let wide_out : c.in-Ok.gathered.moves.len ≡ length c.lay_moves.new.moves = search rules in
     let back = written_back c.in-Ok.gathered.moves.len c.lay_moves.new.moves (drop (length c.lay_moves.new.moves) c.in-Ok.gathered.moves.items) wide_out in
+    let given : Parted = c.into_partition-part.result in
+    let same : given ≡ t.part = c.into_partition-part.ensures in
+    let after : Parted → List Move → Parted = λ p ms. record p { blocks = replay p.blocks ms } in
+    let made : c.make_moves.new.part ≡ after t.part c.lay_moves.new.moves =
+    c.make_moves.ensures ∙ ap (λ (p : Parted). after p c.as_slice-2.result.now) same ∙ ap (after t.part) (c.as_slice-2.ensures.value ∙ back) in
     let opened : c.of-opening.result.value.blocks ≡ t.part.blocks = search rules in (
       ended_as t ps c.lay_moves.new.moves c.of-opening.result.value.blocks c.make_moves.new.part c.from_vec.result c.from_vec-2.result laid.ends opened
-          (c.make_moves.ensures ∙ ap (λ (ms : List Move). record t.part { blocks = replay t.part.blocks ms }) (c.as_slice-2.ensures.value ∙ back))
-          (c.from_vec.ensures ∙ back) (search rules),
-      c.self.invariant.priced ∙ sym (ap₂ cost (ap (λ (p : Parted). p.hyper) c.make_moves.ensures) opened),
+          made (c.from_vec.ensures ∙ back) (search rules),
+      c.self.invariant.priced ∙ sym (ap₂ cost (ap (λ (p : Parted). p.hyper) made) opened),
     )

@@ -25,5 +25,5 @@ pub count-requires-clause-few : goal.count-requires-clause-few
 count-requires-clause-few c =
     let words = ap length c.as_slice.ensures.value in
     let all = c.self.invariant.laid.all in
-    let few = all_words-le c.self.inside.hyper.value c.self.inside.k c.self.invariant.parted.some c.self.invariant.parted.suits in
+    let few = all_words-le c.self.inside.hyper.value c.self.inside.k c.self.invariant.parted.some c.self.invariant.parted.few c.self.invariant.parted.bounds c.self.invariant.parted.suits in
     omega arith

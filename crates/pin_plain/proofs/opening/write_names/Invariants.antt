@@ -1,6 +1,6 @@
 use Rattle.std.proofs.Common.{◌≡◌, ℕ, ◌+◌, ◌<◌, slice_index}
-use Rattle.move_table.specs.Opening.{SameOutside}
-use Rattle.move_table.proofs.open.write_names.Given as goal
+use Rattle.pin_plain.specs.Opened.{SameOutside}
+use Rattle.pin_plain.proofs.opening.write_names.Given as goal
 
 abbrev pub invariant-loop-v : goal.invariant-loop-v
 invariant-loop-v l = record {

@@ -1,0 +1,135 @@
+//! A partition as a round begins with it.
+
+ghost use Rattle.std.specs.Prelude.{◌≡◌};
+ghost use Rattle.hg_defs.specs.Cost.{cost};
+ghost use Rattle.pin_plain.specs.Parted.{IsParted};
+ghost use Rattle.pin_plain.specs.Opened.{IsOpened};
+
+use super::Partition;
+use crate::opening::open_words;
+use hg_base::Blocks;
+use incidence::Hypergraph;
+use std::marker::Model;
+use std::snapshot::Snapshot;
+
+/// A partition whose words are those with which a round begins. A round copies them, and they stay as they
+/// are until the partition is given back.
+#[derive(Drop)]
+pub struct Ready {
+    hyper: Snapshot<Hypergraph>,
+    k: u32,
+    limit: u64,
+    blocks: Blocks,
+    loads: Vec<u64>,
+    starts: Vec<u32>,
+    widths: Vec<u8>,
+    words: Vec<u64>,
+}
+
+impl Model for Ready {
+    ghost use Rattle.pin_plain.specs.Parted.{Parted, IsTallied};
+    ghost use Rattle.pin_plain.specs.Opened.{IsOpened};
+
+    ghost Value = { Parted };
+
+    ghost view = { λ p. record { hyper = p.hyper.value; k = p.k; limit = p.limit; blocks = p.blocks } };
+
+    ghost invariant = { λ p. IsTallied p.hyper.value p.k p.blocks p.loads.items p.starts.items p.widths.items
+        p.words.items × IsOpened p.hyper.value p.k p.blocks p.words.items };
+}
+
+impl Ready {
+    /// The words with which a round begins.
+    pub fn words(&self) -> &[u64]
+        ensures { IsOpened self.now.hyper self.now.k self.now.blocks result.now }
+    {
+        self.words.as_slice()
+    }
+
+    /// The block of each vertex.
+    pub fn blocks(&self) -> &[u32]
+        ensures value { result.now ≡ self.now.blocks }
+        ensures parted { IsParted self.now.hyper self.now.k self.now.blocks }
+    {
+        self.blocks.slice()
+    }
+
+    /// The number of blocks.
+    pub fn k(&self) -> u32
+        ensures { result ≡ self.now.k }
+    {
+        self.k
+    }
+
+    /// The limit on the load of a block.
+    pub fn limit(&self) -> u64
+        ensures { result ≡ self.now.limit }
+    {
+        self.limit
+    }
+
+    /// Gives the partition back.
+    pub fn into_partition(self) -> Partition
+        ensures { result ≡ self }
+    {
+        let Ready {
+            hyper,
+            k,
+            limit,
+            blocks,
+            loads,
+            starts,
+            widths,
+            words,
+        } = self;
+        Partition {
+            hyper,
+            k,
+            limit,
+            blocks,
+            loads,
+            starts,
+            widths,
+            words,
+        }
+    }
+}
+
+impl Partition {
+    /// Makes the partition ready for a round, and tells its cost.
+    pub fn into_ready(self, h: &Hypergraph) -> (Ready, u64)
+        requires { self.hyper ≡ h.now }
+        ensures same { result.0 ≡ self }
+        ensures cost { result.1 ≡ cost h.now self.blocks }
+    {
+        let Partition {
+            hyper,
+            k,
+            limit,
+            blocks,
+            loads,
+            starts,
+            widths,
+            mut words,
+        } = self;
+        let cost = open_words(
+            words.as_mut_slice(),
+            h,
+            k,
+            blocks.slice(),
+            loads.as_slice(),
+            starts.as_slice(),
+        );
+        let ready = Ready {
+            hyper,
+            k,
+            limit,
+            blocks,
+            loads,
+            starts,
+            widths,
+            words,
+        };
+        (ready, cost)
+    }
+}
