@@ -238,21 +238,28 @@ fn projection(rt: HostRuntime) -> Result<(), Fail> {
     Ok(())
 }
 
+/// Checks the words with which a round in so many blocks begins.
+fn try_words(rt: &impl Abort, alloc: Global, k: u32) -> Result<(), Fail>
+    requires some { 2 ≤ k }
+    requires few { k ≤ 4 }
+{
+    let h = Hypergraph::build(alloc, four_nets(alloc)?)?;
+    let p = parted(rt, alloc, &h, k, 7, &[0, 0, 1, 1, 0, 0, 1])?;
+    let (ready, cost) = p.into_ready(&h);
+    assert_eq!(rt; (cost, ready.k(), ready.limit()), (18, k, 7));
+    assert_eq!(rt; ready.blocks(), [0, 0, 1, 1, 0, 0, 1].as_slice());
+    let mut words = Vec::from_slice(alloc, &[0, 0, 0, 0, 0, 0, 0, 0, 0])?;
+    words.extend_from_slice(&[0, 0, 1, 1, 0, 0, 1])?;
+    words.extend_from_slice(&[4, 3, 0, 0][..k as usize])?;
+    words.extend_from_slice(&[65, 2, 66, 65_539, 66, 65_538, 66, 131_073])?;
+    assert_eq!(rt; ready.words(), words.as_slice());
+    assert_eq!(rt; ready.into_partition().cost(&h), 18);
+    Ok(())
+}
+
 #[test]
 fn words_of_a_round(rt: HostRuntime) -> Result<(), Fail> {
-    let h = Hypergraph::build(rt.alloc(), four_nets(rt.alloc())?)?;
-    // by the counts of two blocks, and by the pins where there are four
-    for k in [2u32, 4] {
-        let p = parted(&rt, rt.alloc(), &h, k, 7, &[0, 0, 1, 1, 0, 0, 1])?;
-        let (ready, cost) = p.into_ready(&h);
-        assert_eq!(rt; (cost, ready.k(), ready.limit()), (18, k, 7));
-        assert_eq!(rt; ready.blocks(), [0, 0, 1, 1, 0, 0, 1].as_slice());
-        let mut words = Vec::from_slice(rt.alloc(), &[0, 0, 0, 0, 0, 0, 0, 0, 0])?;
-        words.extend_from_slice(&[0, 0, 1, 1, 0, 0, 1])?;
-        words.extend_from_slice(&[4, 3, 0, 0][..k as usize])?;
-        words.extend_from_slice(&[65, 2, 66, 65_539, 66, 65_538, 66, 131_073])?;
-        assert_eq!(rt; ready.words(), words.as_slice());
-        assert_eq!(rt; ready.into_partition().cost(&h), 18);
-    }
-    Ok(())
+    // By the counts of two blocks, and by the pins where there are four.
+    try_words(&rt, rt.alloc(), 2)?;
+    try_words(&rt, rt.alloc(), 4)
 }
