@@ -1,15 +1,12 @@
 -- The moves of all passes together, and of one pass that has taken the others over.
 use Rattle.std.proofs.Common.{◌≡◌, ◌≢◌, ℕ, zero, suc, ◌+◌, ◌-◌, ◌<◌, ◌≤◌, inl, inr, Bool, true, false, List, [], ◌∷◌, ◌++◌, map, length}
-use Rattle.std.proofs.Common.{length-append, take, drop, get_or, set, get_or-set_same, get_or-set_other, slice_index, slice_index_or}
+use Rattle.std.proofs.Common.{length-append, take, drop, get_or, slice_index, slice_index_or}
 use Rattle.std.proofs.Common.{nat_eq, if◌then◌else◌, All, ℤ, pos, ◌+ℤ◌, refl, sym, ap, ◌∙◌, subst, arith}
-use Rattle.std.specs.List.{flat_map}
 use Rattle.std.proofs.lemmas.Int.{ints}
 use Rattle.std.proofs.lemmas.Bool.{cases_eq, cases_lt, eq-eqb, ne_eqb}
-use Rattle.std.proofs.lemmas.List.{get_or_append_left, get_or-append-add, length-map, get_or-map, append-nil}
-use Rattle.std.proofs.lemmas.Grind.{flat_map-append}
+use Rattle.std.proofs.lemmas.List.{get_or_append_left, get_or-append-add}
 use Rattle.std.proofs.Math.Seq.{take-suc}
 use mathlib.Core.List.{map-append}
-use Rattle.move_table.specs.declared.grant.Done.{Done}
 use Rattle.std.proofs.lemmas.List.Elements.{All-head, All-tail}
 use Rattle.hg_defs.specs.declared.moves.Move.{Move}
 use Rattle.hg_defs.specs.Sums.{total, total_z}
@@ -19,7 +16,7 @@ use Rattle.move_core.specs.AtRest.{booked_by_worker}
 use Rattle.move_core.proofs.TimesLaws.{times_at}
 use Rattle.move_table.specs.declared.view.View.{View}
 use Rattle.move_table.specs.Calls.{RacedPass}
-use Rattle.move_table.specs.Closing.{IsKeptPass, all_moves, all_numbers, all_gains, AreByNumber, united_all}
+use Rattle.move_table.specs.Closing.{IsKeptPass, all_moves, all_numbers, all_gains, united_all}
 
 -- an item that is there, whatever else would be told
 pub same_default : {A : Type 0} (xs : List A) (i : ℕ) (d e : A) → i < length xs → get_or xs i d ≡ get_or xs i e
@@ -79,6 +76,16 @@ placed_right out n1 n2 m1 m2 w a k m l =
 -- each pass has drawn as many numbers as it has moves
 abbrev pub AreNumbered : List RacedPass → Type 0
 AreNumbered ps = All (λ p. length p.view.account.numbers ≡ length p.view.account.moves) ps
+
+-- as many numbers as moves
+pub all_numbered : (ps : List RacedPass) → AreNumbered ps → length (all_numbers ps) ≡ length (all_moves ps)
+all_numbered [] h = refl
+all_numbered (p ∷ ps) h =
+    let r = all_numbered ps (All-tail (λ (z : RacedPass). length z.view.account.numbers ≡ length z.view.account.moves) p ps h) in
+    let o = All-head (λ (z : RacedPass). length z.view.account.numbers ≡ length z.view.account.moves) p ps h in
+    let a = length-append p.view.account.numbers (all_numbers ps) in
+    let b = length-append p.view.account.moves (all_moves ps) in
+    omega arith
 
 -- ---- one pass that has taken the others over
 
@@ -227,25 +234,6 @@ booked_here a (suc j) (p ∷ ps) h l =
 
 -- ---- the loops
 
-pub flat_map_more : {X A : Type 0} (f : X → List A) (xs : List X) (i : ℕ) (d : X) → i < length xs → flat_map f (take (i + 1) xs) ≡ flat_map f
-    (take i xs) ++ f
-    (get_or xs i d)
-flat_map_more {X} {A} f xs i d l =
-    ap (λ n. flat_map f (take n xs)) (one i) ∙ ap (flat_map f) (take-suc xs i d l) ∙ flat_map-append f (take i xs) (get_or xs i d ∷ []) ∙
-    ap (λ ys. flat_map f (take i xs) ++ ys) (append-nil (f (get_or xs i d)))
-  where
-    one : (n : ℕ) → n + 1 ≡ suc n
-    one n = omega arith
-
--- what one pass more has done
-pub gathered_more : {B : Type 0} (f : Done → B) (g : RacedPass → List B) (done more items : List Done) (ps : List RacedPass) (i : ℕ) (p : RacedPass) →
-    items ≡ done ++ more → map f done ≡ flat_map g (take i ps) → map f more ≡ g p → p ≡ get_or ps i p → i < length ps →
-    map f items ≡ flat_map g (take (i + 1) ps)
-gathered_more f g done more items ps i p e h o q l =
-    ap (map f) e ∙ map-append f done more ∙ ap (λ ys. ys ++ map f more) h ∙ ap (λ ys. flat_map g (take i ps) ++ ys) o ∙
-    ap (λ z. flat_map g (take i ps) ++ g z)
-    q ∙ sym (flat_map_more g ps i p l)
-
 pub gains_more : {gain : ℤ} (gains items : List ℤ) (ps : List RacedPass) (i : ℕ) (p : RacedPass) → items ≡ gains ++ gain ∷ [] →
     gains ≡ all_gains (take i ps) →
     gain ≡ p.view.account.gain → p ≡ get_or ps i p → i < length ps → items ≡ all_gains (take (i + 1) ps)
@@ -264,39 +252,6 @@ kept_more ps i p q l own h k d m =
       | inl e ↦ subst IsKeptPass (q ∙ same_default ps i p d l ∙ ap (λ j. get_or ps j d) (sym e)) own
       | inr n ↦ h k d (omega arith)
     ]
-
--- one move more in its place
-pub laid_more : (done : List Done) (out : List Move) (i : ℕ) → i < length done → length out ≡ length done →
-    ((k : ℕ) (d : Done) → k < length done → (slice_index_or done k d).number < length done) → ((j k : ℕ) (d : Done) → j < length done → k < length done →
-    j ≢ k → (slice_index_or done j d).number ≢ (slice_index_or done k d).number) →
-    ((k : ℕ) (d : Done) (m : Move) → k < i → slice_index_or out (slice_index_or done k d).number m ≡ (slice_index_or done k d).action) → (e : Done) →
-    e ≡ slice_index_or done i e → (k : ℕ) (d : Done) (m : Move) → k < i + 1 → slice_index_or (set out e.number e.action) (slice_index_or done k d).number
-    m ≡
-    (slice_index_or done k d).action
-laid_more done out i l wide below apart h e here k d m q =
-    let same : slice_index_or done i d ≡ e = same_default done i d e l ∙ sym here in
-    elim (cases_eq k i) [
-      | inl z ↦
-          subst (λ (x : Done). slice_index_or (set out e.number e.action) x.number m ≡ x.action) (sym (ap (λ j. slice_index_or done j d) z ∙ same))
-          (get_or-set_same out e.number e.action m (let b = below i e l in let n = ap (λ (x : Done). x.number) here in omega arith))
-      | inr n ↦
-          get_or-set_other out e.number (slice_index_or done k d).number e.action m
-          (λ r. apart k i d (omega arith) l n (r ∙ ap (λ (x : Done). x.number) (sym same)))
-          ∙ h k d m (omega arith)
-    ]
-
-pub laid_all : (done : List Done) (out : List Move) → length out ≡ length done → ((k : ℕ) (d : Done) (m : Move) → k < length done →
-    slice_index_or out (slice_index_or done k d).number m ≡ (slice_index_or done k d).action) → AreByNumber (map (λ (d : Done). d.number) done)
-    (map (λ (d : Done). d.action) done) out
-laid_all done out wide h = record {
-  all = wide ∙ sym (length-map done (λ (d : Done). d.action));
-  places = λ k m l.
-      let n = length-map done (λ (d : Done). d.action) in
-      let q : k < length done = omega arith in
-      let d : Done = record { number = 0; action = m } in
-      ap (λ x. slice_index_or out x m) (get_or-map (λ (x : Done). x.number) done k d 0 q) ∙ h k d m q ∙
-      sym (get_or-map (λ (x : Done). x.action) done k d m q);
-}
 
 -- the pass that has taken others over is at rest as it was
 pub record IsAsBefore (v u : View) : Type 0 where

@@ -17,3 +17,4 @@ pub mod ClaimedLaws
 pub mod SharingLaws
 pub mod PassesLaws
 mod OrderLaws
+mod LaidLaws

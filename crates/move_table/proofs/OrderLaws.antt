@@ -1,17 +1,11 @@
 -- Items laid out by numbers, each number once, are the same items in another order.
 use Rattle.std.proofs.Common.{◌≡◌, ◌≢◌, ℕ, suc, ◌+◌, ◌-◌, ◌<◌, ◌≤◌, inl, inr, List, [], ◌∷◌, map, length, get_or, slice_index}
-use Rattle.std.proofs.Common.{slice_index_or, nat_lt, if◌then◌else◌, IsPermutation, pos, sym, ap, ◌∙◌, subst, arith}
+use Rattle.std.proofs.Common.{nat_lt, if◌then◌else◌, IsPermutation, sym, ap, ◌∙◌, subst, arith}
 use Rattle.std.specs.List.{remove}
 use Rattle.std.proofs.lemmas.Bool.{cases_lt, lt-ltb, le-ltb}
 use Rattle.std.proofs.lemmas.List.{length-map, get_or-map}
 use Rattle.std.proofs.lemmas.List.Edits.{length-remove, get_or-remove_below, get_or-remove_above}
 use Rattle.std.proofs.lemmas.List.Sorted.{IsPermutation-refl, IsPermutation-sym, IsPermutation-cons, IsPermutation-trans, IsPermutation-remove}
-use Rattle.hg_defs.specs.declared.moves.Move.{Move}
-use Rattle.move_table.specs.declared.grant.Done.{Done}
-use Rattle.move_table.specs.declared.view.Terms.{Terms}
-use Rattle.move_table.specs.Calls.{RacedPass}
-use Rattle.move_table.specs.Closing.{AreByNumber, all_moves}
-use Rattle.move_table.proofs.EndLaws.{IsGathered, HavePlaces, have_places}
 
 -- a number once another one is taken away: those above it fall by one
 abbrev fallen : ℕ → ℕ → ℕ
@@ -108,34 +102,3 @@ module _ {A : Type 0} where
       IsPermutation-trans (m ∷ items) (m ∷ remove out a) out
       (IsPermutation-cons m items (remove out a) (permuted (map (fallen a) numbers) items (remove out a) (rest_at a numbers m items out h)))
       (IsPermutation-sym out (m ∷ remove out a) taken)
-
--- the moves of all passes, laid out by the numbers drawn for them, are the moves in another order
-pub order_of_moves : (t : Terms) (passes : List RacedPass) (done : List Done) (out : List Move) → IsGathered t passes done →
-    AreByNumber (map (λ (d : Done). d.number) done) (map (λ (d : Done). d.action) done) out → IsPermutation (all_moves passes) out
-order_of_moves t passes done out g laid =
-    let h = have_places t passes done g in
-    let n = length-map done (λ (d : Done). d.number) in
-    let m = length-map done (λ (d : Done). d.action) in
-    let number_is : (k : ℕ) (d : Done) → k < length done → slice_index (map (λ (x : Done). x.number) done) k ≡ (slice_index_or done k d).number =
-    λ k d l. get_or-map (λ (x : Done). x.number) done k d 0 l in
-    subst (λ (ms : List Move). IsPermutation ms out) g.moves
-    (permuted (map (λ (d : Done). d.number) done) (map (λ (d : Done). d.action) done) out (record {
-      numbered = n ∙ sym m;
-      all = laid.all;
-      below = λ k l. below_at done h k (omega arith) m;
-      apart = λ j k l r o e. h.apart j k (blank_done) (omega arith) (omega arith) o (sym (number_is j blank_done (omega arith)) ∙ e ∙
-          number_is k blank_done (omega arith));
-      places = λ k d l. laid.places k d l;
-    }))
-  where
-    blank_done : Done
-    blank_done = record { number = 0; action = record { vertex = 0; from = 0; to = 0; worker = 0; booked = pos 0 } }
-
-    below_at : (done : List Done) → HavePlaces done → (k : ℕ) → k < length done → length (map (λ (d : Done). d.action) done) ≡ length done →
-        slice_index (map (λ (x : Done). x.number) done) k < length (map (λ (d : Done). d.action) done)
-    below_at done h k l m =
-        let b = h.below k blank_done l in
-        let e : slice_index (map (λ (x : Done). x.number) done) k ≡ (slice_index_or done k blank_done).number = get_or-map (λ (x : Done). x.number) done k
-        blank_done
-        0 l in
-        omega arith

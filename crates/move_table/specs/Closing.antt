@@ -1,5 +1,5 @@
 -- What a round leaves when it is closed.
-use Rattle.std.specs.Prelude.{◌≡◌, ℕ, ◌+◌, ◌<◌, List, [], ◌∷◌, map, length, drop, All, slice_index, slice_index_or, ℤ, pos, ◌-ℤ◌}
+use Rattle.std.specs.Prelude.{◌≡◌, ℕ, ◌+◌, ◌<◌, List, [], ◌∷◌, map, length, drop, All, slice_index, slice_index_or, slice_set, ℤ, pos, ◌-ℤ◌}
 use Rattle.std.specs.List.{flat_map}
 use mathlib.Core.Option.{some}
 use lib.ListN.{get_elem?}
@@ -45,6 +45,18 @@ all_gains passes = map (λ p. p.view.account.gain) passes
 pub record AreByNumber (numbers : List ℕ) (moves ordered : List Move) : Type 0 where
   pub all : length ordered ≡ length moves
   pub places : (k : ℕ) (m : Move) → k < length moves → slice_index_or ordered (slice_index numbers k) m ≡ slice_index_or moves k m
+
+-- moves put down one after the other, each at the place of its number, where the list has that place
+abbrev pub laid : List Move → List ℕ → List Move → List Move
+laid out [] moves = out
+laid out (n ∷ numbers) [] = out
+laid out (n ∷ numbers) (m ∷ moves) = laid (slice_set out n m) numbers moves
+
+-- as many places as there are moves, with the moves of all passes put down in them
+pub record AreLaid (passes : List RacedPass) (out : List Move) : Type 0 where
+  pub places : List Move
+  pub all : length places ≡ length (all_moves passes)
+  pub moves : out ≡ laid places (all_numbers passes) (all_moves passes)
 
 -- a closed round: the blocks at the opening, the partition, the moves in the order of their numbers, and the gains
 pub record RacedEnd : Type 0 where

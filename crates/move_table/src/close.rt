@@ -1,15 +1,14 @@
 //! How a round is closed.
 
-ghost use Rattle.std.specs.Prelude.{◌≡◌, ◌≢◌, ℕ, ◌+◌, ◌<◌, ◌≤◌, length, map, drop, All};
+ghost use Rattle.std.specs.Prelude.{◌≡◌, ℕ, ◌+◌, ◌<◌, ◌≤◌, length, map, drop, All};
 ghost use Rattle.std.specs.Prelude.{slice_index_or, IfOk, IfErr, OnOk, [], IsPermutation};
 ghost use Rattle.hg_defs.specs.Hypergraph.{vertex_count};
 ghost use Rattle.hg_defs.specs.Replay.{replay};
 ghost use Rattle.move_core.specs.declared.account.Stage.TheVariants.{Idle};
-ghost use Rattle.move_table.specs.declared.grant.Done.{Done};
 ghost use Rattle.move_table.specs.Steps.{IsResting};
 ghost use Rattle.move_table.specs.Calls.{RacedPass};
 ghost use Rattle.move_table.specs.Closing.{ArePassesOf, IsKeptPass, all_moves, all_numbers, all_gains};
-ghost use Rattle.move_table.specs.Closing.{AreByNumber, united_all, IsEnded};
+ghost use Rattle.move_table.specs.Closing.{AreByNumber, laid, AreLaid, united_all, IsEnded};
 
 use crate::closed::Closed;
 use crate::grant::Done;
@@ -26,38 +25,46 @@ use pin_plain::Partition;
 use std::alloc::Global;
 use std::snapshot::Snapshot;
 
-/// What all passes have done, and room for their moves in order.
+/// What the passes leave: the moves by their numbers, and the gains.
 #[derive(Drop)]
 pub(crate) struct Gathered {
-    done: Vec<Done>,
-    gains: Vec<i64>,
     moves: Vec<Move>,
+    gains: Vec<i64>,
 }
 
-/// How many moves the passes have made, which is how much room they want.
-fn room_for_all(passes: &[Pass]) -> usize {
-    let mut moves = 0usize;
+/// How many moves the passes have made.
+fn count_moves(passes: &[Pass]) -> Result<usize, NoMemory>
+    ensures { IfOk result (λ count. count ≡ length (all_moves passes.now)) }
+{
+    let mut count = 0usize;
     for pass in passes {
-        moves = moves.saturating_add(pass.done().len());
+        let Some(more) = count.checked_add(pass.done().len()) else {
+            return Err(NoMemory);
+        };
+        count = more;
     }
-    moves
+    Ok(count)
 }
 
-/// Copies what the passes have done.
+/// Lays the moves of a pass out by their numbers, where the list has those places.
+fn lay_moves(done: &[Done], moves: &mut [Move])
+    ensures { moves.new ≡ laid moves.old (map (λ d. d.number) done.now) (map (λ d. d.action) done.now) }
+{
+    for step in done {
+        let place = step.number as usize;
+        if place < moves.len() {
+            moves[place] = step.action;
+        }
+    }
+}
+
+/// Takes all memory of a close, and lays out what the passes have done.
 fn gather(alloc: Global, passes: &[Pass]) -> Result<Gathered, NoMemory>
-    ensures moves { IfOk result (λ g. map (λ d. d.action) g.done.items ≡ all_moves passes.now) }
-    ensures numbers { IfOk result (λ g. map (λ d. d.number) g.done.items ≡ all_numbers passes.now) }
+    ensures moves { IfOk result (λ g. AreLaid passes.now g.moves.items) }
     ensures gains { IfOk result (λ g. g.gains.items ≡ all_gains passes.now) }
-    ensures room { IfOk result (λ g. length g.moves.items ≡ length g.done.items) }
     ensures kept { OnOk result ((i : ℕ) (p : RacedPass) → i < length passes.now →
         IsKeptPass (slice_index_or passes.now i p)) }
 {
-    let mut done = Vec::with_capacity(alloc, room_for_all(passes))?;
-    let mut gains = Vec::with_capacity(alloc, passes.len())?;
-    for pass in passes {
-        done.extend_from_slice(pass.done())?;
-        gains.push(pass.gain())?;
-    }
     let blank = Move {
         vertex: 0,
         from: 0,
@@ -65,22 +72,13 @@ fn gather(alloc: Global, passes: &[Pass]) -> Result<Gathered, NoMemory>
         worker: 0,
         booked: 0,
     };
-    let moves = vec![in alloc; blank; done.len()]?;
-    Ok(Gathered { done, gains, moves })
-}
-
-/// Lays the moves out by their numbers.
-fn lay_moves(done: &[Done], moves: &mut [Move])
-    requires room { length moves.old ≡ length done.now }
-    requires below { (k : ℕ) (d : Done) → k < length done.now → (slice_index_or done.now k d).number < length
-        done.now }
-    requires apart { (j k : ℕ) (d : Done) → j < length done.now → k < length done.now → j ≢ k →
-        (slice_index_or done.now j d).number ≢ (slice_index_or done.now k d).number }
-    ensures { AreByNumber (map (λ d. d.number) done.now) (map (λ d. d.action) done.now) moves.new }
-{
-    for step in done {
-        moves[step.number as usize] = step.action;
+    let mut moves = vec![in alloc; blank; count_moves(passes)?]?;
+    let mut gains = Vec::with_capacity(alloc, passes.len())?;
+    for pass in passes {
+        lay_moves(pass.done(), moves.as_mut_slice());
+        gains.push(pass.gain())?;
     }
+    Ok(Gathered { moves, gains })
 }
 
 /// Makes the moves on a partition.
@@ -155,11 +153,7 @@ impl<'h> Round<'h> {
         let Ok(gathered) = gather(alloc, passes.slice()) else {
             return Err((self, passes, NoMemory));
         };
-        let Gathered {
-            done,
-            gains,
-            mut moves,
-        } = gathered;
+        let Gathered { moves, gains } = gathered;
         let Round {
             hyper,
             terms,
@@ -168,7 +162,6 @@ impl<'h> Round<'h> {
             opening_cost,
         } = self;
         end_words(table, passes);
-        lay_moves(done.as_slice(), moves.as_mut_slice());
         let Terms { part, workers: _ } = terms;
         let mut part = part.into_partition();
         let opening = Snapshot::of(&part);

@@ -1,4 +1,3 @@
-use Rattle.std.proofs.Common.{refl}
 use Rattle.move_table.proofs.BeginLaws.{begins, is_opening}
 use Rattle.move_table.proofs.begin.begin.Goals as goal
 
