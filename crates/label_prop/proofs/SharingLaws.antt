@@ -23,7 +23,10 @@ shared_sync κ = recorded_sync _ _ _ ((shared.the_type κ).to_one) (struct_sync 
     hyper_field_sync _ _,
     (
       search (sendable, crosses),
-      (search (sendable, crosses), (search (sendable, crosses) depth 20, (search (sendable, crosses) depth 20, tt))),
+      (
+        search (sendable, crosses),
+        (search (sendable, crosses), (search (sendable, crosses) depth 20, (search (sendable, crosses) depth 20, tt))),
+      ),
     ),
   ),
 ))

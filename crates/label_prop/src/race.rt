@@ -71,7 +71,7 @@ fn close_race<H: Threads + Sync, G: Gate>(
     ensures gains { IfOk result (λ c. length c.gains ≡ workers) }
 {
     let (_blocks, _vertices) = (p.blocks(), h.vertices());
-    let k = p.k();
+    let (k, limit) = (p.k(), p.limit());
     let Ok((round, passes)) = Round::open(alloc, h, p, workers) else {
         return Err(NoMemory);
     };
@@ -80,6 +80,7 @@ fn close_race<H: Threads + Sync, G: Gate>(
         h,
         k,
         workers,
+        limit,
         marks,
         refused: &AtomicBool::new(false),
     };

@@ -85,10 +85,7 @@ pub(crate) struct Scores {
     saved: [u64; 256],
     /// The blocks of the nets.
     touched: BlockSet,
-    /// What the nets lose.
-    lost: u64,
     ghost few: { k ≤ 256 },
-    ghost within: { (b : ℕ) → k ≤ b → slice_index saved b ≡ 0 },
 }
 
 impl Scores {
@@ -101,13 +98,12 @@ impl Scores {
             k,
             saved: [0; 256],
             touched: BlockSet::new(),
-            lost: 0,
         }
     }
 
     /// Adds what a net saves for a block.
     fn save(&mut self, block: u32, amount: u64)
-        requires { block < self.old.k }
+        requires { block < 256 }
         ensures { self.new.k ≡ self.old.k }
     {
         let place = block as usize;
@@ -116,19 +112,20 @@ impl Scores {
 
     /// Takes the block of the highest sum above what the nets lose, the lowest one at a tie, a vertex's own
     /// block left out. All sums are 0 then.
-    fn take_best(&mut self, own: u32) -> Option<u32>
+    fn take_best(&mut self, own: u32, lost: u64) -> Option<u32>
         ensures block { IfSome result (λ b. b < self.old.k) }
         ensures other { IfSome result (λ b. b ≢ own) }
         ensures blocks { self.new.k ≡ self.old.k }
     {
         let mut best = None;
-        let mut bar = self.lost;
+        let mut bar = lost;
         for place in 0..4 {
             let mut left = self.touched.words[place];
             while left > 0 {
                 let block = 64 * place as u32 + left.trailing_zeros();
                 let sum = self.saved[block as usize];
-                if sum > bar && block != own {
+                // No net has pins past the last block; that isn't known of a count that is only peeked.
+                if sum > bar && block != own && block < self.k {
                     bar = sum;
                     best = Some(block);
                 }
@@ -137,7 +134,6 @@ impl Scores {
             }
         }
         self.touched = BlockSet::new();
-        self.lost = 0;
         best
     }
 }
@@ -171,6 +167,19 @@ impl<'h> WalkedNet<'h> {
         ensures { result ≤ 2 ^ 25 }
     {
         self.h.pins(self.number).len() as u64
+    }
+
+    /// What the net saves at most where a pin goes to another block, as it touches so many.
+    fn most_saved(&self, spread: i64) -> u64
+        requires light { self.now.weight < 2 ^ 54 }
+        ensures { result < 2 ^ 55 }
+    {
+        let most = self.weight * u64::from(spread > 1);
+        if self.h.objective() == Objective::ExternalDegree {
+            2 * most
+        } else {
+            most
+        }
     }
 
     /// What the net saves where a pin goes to a block that has some of its pins.
@@ -237,9 +246,9 @@ fn peek_blocks(round: &Round, pass: &mut Pass, e: u32, bits: u32, from: u32, to:
 }
 
 impl Scores {
-    /// Adds what a net saves for each block, by the names of its pins. Answers how many are in one block.
+    /// Adds what a net saves for each block, by the names of its pins.
     #[tactic(auto, using(crate::proofs::IdleLaws::peeked))]
-    fn save_by_pins(&mut self, round: &Round, pass: &mut Pass, net: &WalkedNet<'_>, own: u32) -> u64
+    fn save_by_pins(&mut self, round: &Round, pass: &mut Pass, net: &WalkedNet<'_>)
         requires belongs { round.now.terms.part.hyper ≡ net.now.h.now }
         requires blocks { self.old.k ≡ round.now.terms.part.k }
         requires net { net.now.number < net_count net.now.h.now }
@@ -249,41 +258,54 @@ impl Scores {
         ensures pass { IsIdlePass round.now pass.old.view.number pass.new }
     {
         let mut seen = BlockSet::new();
-        let mut there = 0u64;
         for pin in net.h.pins(net.number) {
             let block = pass.peek_name(round, *pin);
-            there = there.wrapping_add(u64::from(block == own));
             if seen.insert(block) {
                 let amount = net.saved(round, pass, block);
                 self.save(block, amount);
                 self.touched.insert(block);
             }
         }
-        there
     }
 
-    /// Adds what a net saves for the blocks of a set, whose first one is given.
+    /// Adds an amount for each block of a set, of which the first one is that of a group of 64.
+    fn save_alike(&mut self, group: u32, found: u64, amount: u64)
+        requires { group < 4 }
+        ensures { self.new.k ≡ self.old.k }
+    {
+        let mut left = found;
+        while left > 0 {
+            self.save(64 * group + left.trailing_zeros(), amount);
+            left &= left - 1;
+        }
+    }
+
+    /// Adds what a net saves for the blocks of a set, of which the first one is that of a group of 64.
     fn save_set(
         &mut self,
         round: &Round,
         pass: &mut Pass,
         net: &WalkedNet<'_>,
-        first: u32,
+        group: u32,
         found: u64,
     )
         requires belongs { round.now.terms.part.hyper ≡ net.now.h.now }
         requires blocks { self.old.k ≡ round.now.terms.part.k }
         requires net { net.now.number < net_count net.now.h.now }
         requires light { net.now.weight < 2 ^ 54 }
-        requires first { first < 256 }
+        requires group { group < 4 }
         requires pass { IsIdlePass round.now pass.old.view.number pass.old }
         ensures blocks { self.new.k ≡ self.old.k }
         ensures pass { IsIdlePass round.now pass.old.view.number pass.new }
     {
-        self.touched.words[first as usize / 64] |= found;
+        self.touched.words[group as usize] |= found;
+        if net.h.objective() == Objective::Connectivity {
+            self.save_alike(group, found, net.weight);
+            return;
+        }
         let mut left = found;
         while left > 0 {
-            let block = first + left.trailing_zeros();
+            let block = 64 * group + left.trailing_zeros();
             // No net has pins past the last block; that isn't known of a count that is only peeked.
             if block < self.k {
                 let amount = net.saved(round, pass, block);
@@ -319,17 +341,16 @@ impl Scores {
                 break;
             }
             let found = peek_blocks(round, pass, net.number, bits, from, words.min(from + bits));
-            self.save_set(round, pass, net, 64 * group, found);
+            self.save_set(round, pass, net, group, found);
         }
     }
 
-    /// Adds what a net saves for each block, and answers how many of its pins are in one block. A net that
-    /// touches one block saves nothing for others.
+    /// Adds what a net saves for each block that it touches. A net that touches one block saves nothing for
+    /// others.
     #[tactic(auto, using(crate::proofs::IdleLaws::peeked))]
-    fn save_net(&mut self, round: &Round, pass: &mut Pass, net: &WalkedNet<'_>, own: u32) -> u64
+    fn save_net(&mut self, round: &Round, pass: &mut Pass, net: &WalkedNet<'_>)
         requires belongs { round.now.terms.part.hyper ≡ net.now.h.now }
         requires blocks { self.old.k ≡ round.now.terms.part.k }
-        requires own { own < self.old.k }
         requires net { net.now.number < net_count net.now.h.now }
         requires light { net.now.weight < 2 ^ 54 }
         requires pass { IsIdlePass round.now pass.old.view.number pass.old }
@@ -337,30 +358,15 @@ impl Scores {
         ensures pass { IsIdlePass round.now pass.old.view.number pass.new }
     {
         if pass.peek_spread(round, net.number) <= 1 {
-            return pass.peek_count(round, net.number, own);
+            return;
         }
         let bits = round.count_bits(net.number);
         let words = (self.k * bits).div_ceil(64);
         if words > FEW_WORDS && u64::from(words) > 4 * net.size() {
-            return self.save_by_pins(round, pass, net, own);
+            self.save_by_pins(round, pass, net);
+        } else {
+            self.save_by_words(round, pass, net, bits, words);
         }
-        self.save_by_words(round, pass, net, bits, words);
-        pass.peek_count(round, net.number, own)
-    }
-
-    /// Adds what a net saves for each block, and what it loses where a pin leaves a vertex's own one.
-    fn walk_net(&mut self, round: &Round, pass: &mut Pass, net: &WalkedNet<'_>, own: u32)
-        requires belongs { round.now.terms.part.hyper ≡ net.now.h.now }
-        requires blocks { self.old.k ≡ round.now.terms.part.k }
-        requires own { own < self.old.k }
-        requires net { net.now.number < net_count net.now.h.now }
-        requires light { net.now.weight < 2 ^ 54 }
-        requires pass { IsIdlePass round.now pass.old.view.number pass.old }
-        ensures blocks { self.new.k ≡ self.old.k }
-        ensures pass { IsIdlePass round.now pass.old.view.number pass.new }
-    {
-        let there = self.save_net(round, pass, net, own);
-        self.lost = self.lost.saturating_add(net.lost(there));
     }
 
     /// The block where a vertex saves most, where it saves something: the lowest one at a tie.
@@ -380,29 +386,43 @@ impl Scores {
         ensures blocks { self.new.k ≡ self.old.k }
         ensures pass { IsIdlePass round.now pass.old.view.number pass.new }
     {
-        if !is_border(round, pass, h, v) {
+        let own = round.opening(v);
+        let outlook = Outlook::of(round, pass, h, v, own);
+        if outlook.saved <= outlook.lost {
             return None;
         }
-        let own = round.opening(v);
         for e in h.nets_of(v) {
-            self.walk_net(round, pass, &WalkedNet::of(h, *e), own);
+            self.save_net(round, pass, &WalkedNet::of(h, *e));
         }
-        self.take_best(own)
+        self.take_best(own, outlook.lost)
     }
 }
 
-/// Whether one of a vertex's nets touches several blocks. All their spreads are read before one is
-/// looked at, so that the loads go on at the same time.
-#[tactic(auto, using(crate::proofs::IdleLaws::peeked))]
-fn is_border(round: &Round, pass: &mut Pass, h: &Hypergraph, v: u32) -> bool
-    requires belongs { round.now.terms.part.hyper ≡ h.now }
-    requires vertex { v < vertex_count h.now }
-    requires pass { IsIdlePass round.now pass.old.view.number pass.old }
-    ensures { IsIdlePass round.now pass.old.view.number pass.new }
-{
-    let mut most = 0;
-    for e in h.nets_of(v) {
-        most = pass.peek_spread(round, *e).max(most);
+/// What a vertex's nets lose where it leaves its block, and what they save at most at one other block.
+#[derive(Clone, Copy)]
+struct Outlook {
+    lost: u64,
+    saved: u64,
+}
+
+impl Outlook {
+    /// The outlook of a vertex in a block. Most vertices gain nowhere, and most of these are told by it.
+    #[tactic(auto, using(crate::proofs::IdleLaws::peeked))]
+    fn of(round: &Round, pass: &mut Pass, h: &Hypergraph, v: u32, own: u32) -> Self
+        requires belongs { round.now.terms.part.hyper ≡ h.now }
+        requires vertex { v < vertex_count h.now }
+        requires own { own < round.now.terms.part.k }
+        requires pass { IsIdlePass round.now pass.old.view.number pass.old }
+        ensures { IsIdlePass round.now pass.old.view.number pass.new }
+    {
+        let (mut lost, mut saved) = (0u64, 0u64);
+        for e in h.nets_of(v) {
+            let net = WalkedNet::of(h, *e);
+            let spread = pass.peek_spread(round, *e);
+            let there = pass.peek_count(round, *e, own);
+            saved = saved.saturating_add(net.most_saved(spread));
+            lost = lost.saturating_add(net.lost(there));
+        }
+        Outlook { lost, saved }
     }
-    most > 1
 }

@@ -7,7 +7,7 @@ use incidence::Hypergraph;
 use move_table::Round;
 use std::sync::atomic::AtomicBool;
 
-/// The round, its hypergraph, its numbers of blocks and of workers, the marks of the vertices that are still to
+/// The round, its hypergraph, its numbers of blocks and of workers, the limit on a load, the marks of the vertices that are still to
 /// be visited, and whether a worker had no memory.
 #[derive(Drop)]
 pub(crate) struct Shared<'a> {
@@ -15,6 +15,7 @@ pub(crate) struct Shared<'a> {
     pub(crate) h: &'a Hypergraph,
     pub(crate) k: u32,
     pub(crate) workers: u32,
+    pub(crate) limit: u64,
     pub(crate) marks: &'a [AtomicBool],
     pub(crate) refused: &'a AtomicBool,
     ghost hyper: { round.now.terms.part.hyper ≡ h.now },

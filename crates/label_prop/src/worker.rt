@@ -4,13 +4,26 @@ ghost use Rattle.std.specs.Prelude.{◌≡◌, ◌<◌};
 ghost use Rattle.hg_defs.specs.Hypergraph.{vertex_count};
 ghost use Rattle.label_prop.specs.Workers.{IsIdlePass};
 
-use crate::marks::mark_around;
+use crate::marks::mark_stirred;
 use crate::scores::Scores;
 use crate::shared::Shared;
 use crew::{Gate, span_of};
 use hg_base::{FREE, NoMemory};
 use move_table::Pass;
 use std::sync::atomic::Ordering::SeqCst;
+
+/// Whether a block seems to have room for a vertex. Other workers may be there first, and a vertex that is told
+/// otherwise makes no step on the load, which all of them share.
+#[tactic(auto, using(crate::proofs::IdleLaws::peeked))]
+fn has_room(shared: &Shared<'_>, pass: &mut Pass, v: u32, to: u32) -> bool
+    requires vertex { v < vertex_count shared.now.h.now }
+    requires block { to < shared.now.k }
+    requires pass { IsIdlePass shared.now.round.now pass.old.view.number pass.old }
+    ensures { IsIdlePass shared.now.round.now pass.old.view.number pass.new }
+{
+    let load = pass.peek_weight(shared.round, to);
+    load.saturating_add(shared.h.vertex_weight(v)) <= shared.limit
+}
 
 /// Visits a vertex: a free one goes to the block where it saves most, if there is room, and those around it are
 /// marked. If there is none, it is marked itself, and the next round tries again.
@@ -28,6 +41,10 @@ fn visit(shared: &Shared<'_>, pass: &mut Pass, scores: &mut Scores, v: u32) -> R
     let Some(to) = scores.best_block(round, pass, h, v) else {
         return Ok(());
     };
+    if !has_room(shared, pass, v, to) {
+        shared.marks[v as usize].store(true, SeqCst);
+        return Ok(());
+    }
     if !pass.claim(round, v) {
         return Ok(());
     }
@@ -35,7 +52,7 @@ fn visit(shared: &Shared<'_>, pass: &mut Pass, scores: &mut Scores, v: u32) -> R
     match pass.reserve(round, v, to) {
         Ok(grant) => {
             pass.carry(round, grant);
-            mark_around(h, shared.marks, v);
+            mark_stirred(shared, pass, v, round.opening(v), to);
         }
         Err(_) => {
             pass.unclaim(round, v);
