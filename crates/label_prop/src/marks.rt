@@ -1,8 +1,9 @@
 //! Which vertices are still to be visited: a mark for each.
 //!
-//! A round visits the marked vertices alone, and all others would score as they did. Whoever visits a vertex
-//! takes its mark away before it reads anything, and whoever moves one marks those around it afterwards, so
-//! that no move is missed.
+//! A round visits the marked vertices alone, and all others would gain no more than they did. Whoever visits a
+//! vertex takes its mark away before it reads anything, and whoever moves one marks those around it that may gain
+//! by that afterwards. Where two workers bring a net to a new block at once, neither may see it: what is missed so
+//! is found when the whole partition is asked whether it is settled.
 
 ghost use Rattle.std.specs.Prelude.{◌≡◌, ◌<◌, All, IfOk, length};
 ghost use Rattle.hg_defs.specs.Hypergraph.{vertex_count};
@@ -72,7 +73,7 @@ fn stirs(objective: Objective, old: u64, new: u64, size: usize) -> bool {
 }
 
 /// Marks the vertices that may gain more since a vertex went from a block to another, by the counts of its nets as
-/// they are peeked now. The pins of large nets are left as they are.
+/// they are peeked now. The pins of large nets are left as they are, and the one pin of a net is the vertex itself.
 #[tactic(auto, using(crate::proofs::IdleLaws::peeked))]
 pub(crate) fn mark_stirred(
     shared: &Shared<'_>,
@@ -91,7 +92,7 @@ pub(crate) fn mark_stirred(
     let objective = h.objective();
     for e in h.nets_of(v) {
         let pins = h.pins(*e);
-        if pins.len() > MOST_PINS {
+        if pins.len() < 2 || pins.len() > MOST_PINS {
             continue;
         }
         let old = pass.peek_count(round, *e, from);

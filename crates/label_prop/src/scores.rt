@@ -3,7 +3,7 @@
 //! Counts and names are peeked while other workers move, so a gain may be off. It decides where a worker
 //! tries to move a vertex, and nothing else.
 
-ghost use Rattle.std.specs.Prelude.{◌≡◌, ◌≢◌, ℕ, ◌+◌, ◌<◌, ◌≤◌, ◌^◌, IfSome, slice_index};
+ghost use Rattle.std.specs.Prelude.{◌≡◌, ◌≢◌, ◌+◌, ◌<◌, ◌≤◌, ◌^◌, IfSome};
 ghost use Rattle.hg_defs.specs.Hypergraph.{vertex_count, net_count};
 ghost use Rattle.hg_defs.specs.Partition.{block_of};
 ghost use Rattle.hg_base.specs.Packed.{IsWidth, fields_of};

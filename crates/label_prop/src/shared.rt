@@ -7,8 +7,8 @@ use incidence::Hypergraph;
 use move_table::Round;
 use std::sync::atomic::AtomicBool;
 
-/// The round, its hypergraph, its numbers of blocks and of workers, the limit on a load, the marks of the vertices that are still to
-/// be visited, and whether a worker had no memory.
+/// The round, its hypergraph, its numbers of blocks and of workers, the limit on a load, the marks of the vertices
+/// that are still to be visited, and whether a worker had no memory.
 #[derive(Drop)]
 pub(crate) struct Shared<'a> {
     pub(crate) round: &'a Round<'a>,

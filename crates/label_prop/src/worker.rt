@@ -25,8 +25,8 @@ fn has_room(shared: &Shared<'_>, pass: &mut Pass, v: u32, to: u32) -> bool
     load.saturating_add(shared.h.vertex_weight(v)) <= shared.limit
 }
 
-/// Visits a vertex: a free one goes to the block where it saves most, if there is room, and those around it are
-/// marked. If there is none, it is marked itself, and the next round tries again.
+/// Visits a vertex: a free one goes to the block where it saves most, if there is room, and those who may gain by
+/// that are marked. If there is none, it is marked itself, and the next round tries again.
 fn visit(shared: &Shared<'_>, pass: &mut Pass, scores: &mut Scores, v: u32) -> Result<(), NoMemory>
     requires blocks { scores.old.k ≡ shared.now.k }
     requires pass { IsIdlePass shared.now.round.now pass.old.view.number pass.old }
