@@ -9,15 +9,15 @@ use Rattle.std.proofs.lemmas.List.Sorted.{IsPermutation-map, All-permutation}
 use Rattle.hg_defs.specs.Sorting.{set_of}
 use Rattle.std.specs.List.{range_with_len}
 use Rattle.std.proofs.lemmas.List.FromFn.{length-map-range_with_len}
-use Rattle.hg_defs.specs.Hypergraph.{Net, Hyper, IsHypergraph, IsWithinLimits}
+use Rattle.hg_defs.specs.Hypergraph.{Net, Hyper, IsNet, IsHypergraph, IsWithinLimits}
 use Rattle.hg_defs.specs.Partition.{weight_in}
 use Rattle.hg_defs.specs.Contraction.{IsFull, fix_in, contract}
-use Rattle.hg_defs.proofs.ContractionLaws.{limits_kept}
+use Rattle.hg_defs.proofs.ContractionLaws.{hypergraph_kept, limits_kept}
 use Rattle.hg_defs.specs.Contraction.{image, images, merged_weight}
 use Rattle.hg_defs.proofs.SumLaws.{total-map, total-permutation}
 use Rattle.hg_defs.proofs.SortLaws.{Contains_head, Contains_later, lists_cmp_total, lists_exact, set_of-permutation}
 use Rattle.hg_defs.proofs.ContractionLaws.{Contains-from_images}
-use Rattle.contract_nets.specs.Merging.{mapped_net, is_kept, merged}
+use Rattle.contract_nets.specs.Merging.{mapped_net, is_kept, merged, AreWithin}
 use Rattle.contract_nets.specs.Keys.{Key, key_cmp, net_of_key, IsKey}
 use Rattle.contract_nets.proofs.SortedLaws.{AreRising, rising_from_keys, weight_of_all, net_of_all, pins_set, merged_is}
 
@@ -100,24 +100,37 @@ few_clusters h clusters count sound full limits =
     let v = kept.vertices in
     omega arith
 
--- the vertices, and the merged nets
-module _ (h mapped coarse : Hyper) (clusters : List ℕ) (count : ℕ) (keys sorted : List Key) (nets : mapped.nets ≡ map (mapped_net clusters) h.nets)
+-- sorted keys, merged
+module _ (h mapped : Hyper) (clusters : List ℕ) (count : ℕ) (keys sorted : List Key) (nets : mapped.nets ≡ map (mapped_net clusters) h.nets)
     (each : All (IsKey mapped) keys)
-    (kept : map (net_of_key mapped) keys ≡ filter is_kept mapped.nets) (moved : IsPermutation keys sorted) (up : IsSorted (key_cmp mapped) sorted)
+    (kept : map (net_of_key mapped) keys ≡ filter is_kept mapped.nets) (moved : IsPermutation keys sorted)
+    (up : IsSorted (key_cmp mapped) sorted) where
+  pub each_sorted : All (IsKey mapped) sorted
+  each_sorted = All-permutation (IsKey mapped) keys sorted moved each
+
+  pub nets_are : merged (map (net_of_key mapped) sorted) ≡ (contract h clusters count).nets
+  nets_are = coarse_from_keys h mapped clusters keys sorted nets each_sorted kept moved up
+
+  pub nets_within : IsHypergraph h → IsFull h clusters count → IsWithinLimits h → AreWithin (merged (map (net_of_key mapped) sorted))
+  nets_within sound full limits =
+      let most = limits_kept h clusters count (record { hypergraph = sound; full = full }) limits in
+      subst AreWithin (sym nets_are) (record { count = most.nets; pins = most.pins; weight = most.net_weight })
+
+-- the vertices, and the merged nets
+module _ (h coarse : Hyper) (clusters : List ℕ) (count : ℕ) (all : List Net) (nets : all ≡ (contract h clusters count).nets)
     (vertices : coarse ≡ record {
       weights = map (weight_in h.weights clusters) (range_with_len 0 count);
       nets = [];
       objective = h.objective;
       fixes = map (fix_in h.fixes clusters) (range_with_len 0 count);
     }) where
-  pub each_sorted : All (IsKey mapped) sorted
-  each_sorted = All-permutation (IsKey mapped) keys sorted moved each
+  pub coarse_is : record coarse { nets = all } ≡ contract h clusters count
+  coarse_is = ap₂ (λ (x : Hyper) (ns : List Net). record x { nets = ns }) vertices nets
 
-  pub coarse_is : record coarse { nets = merged (map (net_of_key mapped) sorted) } ≡ contract h clusters count
-  coarse_is = ap₂ (λ (x : Hyper) (ns : List Net). record x { nets = ns }) vertices (coarse_from_keys h mapped clusters keys sorted nets each_sorted kept
-      moved
-      up)
+  module _ (sound : IsHypergraph h) (full : IsFull h clusters count) where
+    pub coarse_limits : IsWithinLimits h → IsWithinLimits (record coarse { nets = all })
+    coarse_limits limits = subst IsWithinLimits (sym coarse_is) (limits_kept h clusters count (record { hypergraph = sound; full = full }) limits)
 
-  pub coarse_limits : IsHypergraph h → IsFull h clusters count → IsWithinLimits h →
-      IsWithinLimits (record coarse { nets = merged (map (net_of_key mapped) sorted) })
-  coarse_limits sound full limits = subst IsWithinLimits (sym coarse_is) (limits_kept h clusters count (record { hypergraph = sound; full = full }) limits)
+    pub coarse_sound : All (IsNet (length coarse.weights)) all
+    coarse_sound =
+        let kept = subst IsHypergraph (sym coarse_is) (hypergraph_kept h clusters count (record { hypergraph = sound; full = full })) in kept.nets

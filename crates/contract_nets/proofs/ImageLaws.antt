@@ -167,34 +167,34 @@ module _ (lists : Lists) (i : ℕ) (list pins : List ℕ) (a b : ℕ) (one : Has
   pub read_list : slice_range pins a b ≡ list
   read_list = ap (λ (xs : List ℕ). slice_range xs a b) read ∙ ap₂ (slice_range lists.pins) starts_at ends_at ∙ one.value
 
--- each result is a part
-pub record AreThere {E : Type 0} (results : List (Result Lists E)) (parts : List Lists) : Type 0 where
-  pub long : length parts ≡ length results
-  pub each : (j : ℕ) (r : Result Lists E) (d : Lists) → j < length results → get_or results j r ≡ Ok (get_or parts j d)
+-- each result is a value
+pub record AreThere {E X : Type 0} (results : List (Result X E)) (values : List X) : Type 0 where
+  pub long : length values ≡ length results
+  pub each : (j : ℕ) (r : Result X E) (d : X) → j < length results → get_or results j r ≡ Ok (get_or values j d)
 
-pub AreThere-start : {E : Type 0} → AreThere {E = E} [] []
+pub AreThere-start : {E X : Type 0} → AreThere {E = E} {X = X} [] []
 AreThere-start = record { long = refl; each = λ j r d l. absurd (omega arith) }
 
-pub AreThere-more : {E : Type 0} (results : List (Result Lists E)) (parts : List Lists) (result : Result Lists E) (part : Lists) → AreThere results parts →
-    result ≡ Ok part → AreThere (results ++ result ∷ []) (parts ++ part ∷ [])
-AreThere-more {E} results parts result part old is = record {
-  long = length_push parts part ∙ ap (λ x. x + 1) old.long ∙ sym (length_push results result);
+pub AreThere-more : {E X : Type 0} (results : List (Result X E)) (values : List X) (result : Result X E) (value : X) → AreThere results values →
+    result ≡ Ok value → AreThere (results ++ result ∷ []) (values ++ value ∷ [])
+AreThere-more {E} {X} results values result value old is = record {
+  long = length_push values value ∙ ap (λ x. x + 1) old.long ∙ sym (length_push results result);
   each = λ j r d l. by j r d l (cases_lt j (length results));
 }
   where
-    by : (j : ℕ) (r : Result Lists E) (d : Lists) → j < length (results ++ result ∷ []) → (j < length results) ⊎ (length results ≤ j) →
-        get_or (results ++ result ∷ []) j r ≡ Ok (get_or (parts ++ part ∷ []) j d)
+    by : (j : ℕ) (r : Result X E) (d : X) → j < length (results ++ result ∷ []) → (j < length results) ⊎ (length results ≤ j) →
+        get_or (results ++ result ∷ []) j r ≡ Ok (get_or (values ++ value ∷ []) j d)
     by j r d l (inl low) =
         let long = old.long in
         get_or_append_left results (result ∷ []) r j low
         ∙ old.each j r d low
-        ∙ ap (λ (p : Lists). Ok p) (sym (get_or_append_left parts (part ∷ []) d j (omega arith)))
+        ∙ ap (λ (p : X). Ok p) (sym (get_or_append_left values (value ∷ []) d j (omega arith)))
     by j r d l (inr high) =
         let long = old.long in
         let grown = length_push results result in
         get_or_push results result r j (omega arith)
         ∙ is
-        ∙ ap (λ (p : Lists). Ok p) (sym (get_or_push parts part d j (omega arith)))
+        ∙ ap (λ (p : X). Ok p) (sym (get_or_push values value d j (omega arith)))
 
 -- so they are the parts of all nets
 pub AreThere-all : {E : Type 0} (h : Hyper) (cs : List ℕ) (size : ℕ) (results : List (Result Lists E)) (parts : List Lists) → AreThere results parts →

@@ -2,8 +2,10 @@ pub mod ImageLaws
 pub mod KeyLaws
 pub mod VertexLaws
 pub mod RoomLaws
+pub mod NetLaws
 pub mod MergeLaws
 pub mod SortedLaws
 pub mod CoarseLaws
 pub mod FullLaws
 pub mod LedgerLaws
+pub mod CutLaws

@@ -3,3 +3,5 @@ pub mod Ledger
 pub mod Merging
 pub mod Keys
 pub mod Images
+pub mod Cuts
+pub mod Nets

@@ -1,8 +1,9 @@
 -- Nets with the clusters of their pins for pins, and equal neighbours of a list of nets, merged.
-use Rattle.std.specs.Prelude.{◌≡◌, ◌≢◌, ℕ, ◌+◌, ◌<◌, List, [], ◌∷◌, length, slice_index, slice_index_or, Bool, nat_le, if◌then◌else◌}
+use Rattle.std.specs.Prelude.{◌≡◌, ◌≢◌, ℕ, ◌+◌, ◌^◌, ◌<◌, ◌≤◌, List, [], ◌∷◌, length, slice_index, slice_index_or, Bool, nat_le, if◌then◌else◌}
 use Rattle.std.specs.Ordering.{is_eq, nat_cmp}
 use Rattle.std.specs.declared.cmp.Ordering.{Ordering}
 use Rattle.std.specs.Cmp.Lexicographic.{slice_cmp}
+use Rattle.hg_defs.specs.Sums.{total}
 use Rattle.hg_defs.specs.Hypergraph.{Net}
 use Rattle.hg_defs.specs.Contraction.{image}
 use Rattle.contract_nets.specs.declared.ledger.TheConstants.{DROPPED}
@@ -42,3 +43,9 @@ abbrev pub ArePlaces : List Net → List (List ℕ) → List ℕ → Type 0
 ArePlaces nets lists places =
     (e : ℕ) → e < length nets → slice_index places e ≢ DROPPED → HasPinsAt lists (slice_index places e)
     (slice_index_or nets e (record { weight = 0; pins = [] })).pins
+
+-- no more nets, pins and weight than a hypergraph may have
+pub record AreWithin (nets : List Net) : Type 0 where
+  pub count : length nets ≤ 2 ^ 22
+  pub pins : total (λ e. length e.pins) nets ≤ 2 ^ 25
+  pub weight : total (λ e. e.weight) nets < 2 ^ 54

@@ -2,6 +2,7 @@
 
 ghost use Rattle.std.specs.Prelude.{◌≡◌, ◌≢◌, ◌<◌, ◌≤◌, ◌^◌, ℕ, length, slice_index, replicate, All, IfOk, OnOk};
 ghost use Rattle.std.specs.Prelude as images;
+ghost use Rattle.contract_nets.specs.Nets.{all_nets};
 ghost use Rattle.hg_defs.specs.Hypergraph.{vertex_count, net_count, net_of};
 ghost use Rattle.hg_defs.specs.Contraction.{IsFull, image};
 ghost use Rattle.hg_defs.specs.Contraction as contraction;
@@ -12,7 +13,8 @@ ghost use Rattle.contract_nets.specs.Merging.{mapped_net, ArePlaces};
 use crate::images::map_nets;
 use crate::keys::{keys_of, sort_keys};
 use crate::ledger::{DROPPED, MergeLedger};
-use crate::merging::merge_nets;
+use crate::merging::{add_nets, merge_nets, write_places};
+use crate::nets::Nets;
 use crate::vertices::vertices_of;
 use hg_base::{FlatHyper, NoMemory};
 use incidence::Hypergraph;
@@ -62,13 +64,36 @@ fn merge(
         slice_index places.new e ≢ DROPPED) }
 {
     let _vertices = h.vertices();
-    let count = count_clusters(map);
+    let lists = merged_lists(rt, alloc, h, map, places)?;
+    let mut coarse = vertices_of(alloc, h, map, count_clusters(map))?;
+    add_nets(&mut coarse, &lists)?;
+    Ok(coarse)
+}
+
+/// The coarse nets, in lists that follow one another; writes the place of each net as [`merge`] does.
+fn merged_lists(
+    rt: &(impl Threads + Sync),
+    alloc: Global,
+    h: &Hypergraph,
+    map: &[u32],
+    places: &mut [u32],
+) -> Result<Vec<Nets>, NoMemory>
+    requires full { IsFull h.now map.now (cluster_count map.now) }
+    requires places { places.old ≡ replicate (net_count h.now) DROPPED }
+    ensures nets { IfOk result (λ lists. all_nets lists.items
+        ≡ (contraction.contract h.now map.now (cluster_count map.now)).nets) }
+    ensures placed { IfOk result (λ lists. ArePlaces (images.map (mapped_net map.now) h.now.nets)
+        (images.map (λ e. e.pins) (all_nets lists.items)) places.new) }
+    ensures all { OnOk result ((e : ℕ) → e < net_count h.now → 2 ≤ length (image map.now (net_of h.now e)) →
+        slice_index places.new e ≢ DROPPED) }
+{
+    let _vertices = h.vertices();
     let nets = map_nets(rt, alloc, h, map)?;
     let mut keys = keys_of(alloc, &nets)?;
     sort_keys(rt, &nets, &mut keys);
-    let mut coarse = vertices_of(alloc, h, map, count)?;
-    merge_nets(&nets, &keys, &mut coarse, places)?;
-    Ok(coarse)
+    let lists = merge_nets(rt, alloc, &nets, &keys)?;
+    write_places(&nets, &keys, places);
+    Ok(lists)
 }
 
 /// How many clusters a full clustering has: one more than its greatest number, or 0 where there is none.

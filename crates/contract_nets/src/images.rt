@@ -71,6 +71,15 @@ impl Images<'_> {
         self.h.nets()
     }
 
+    /// How many pins a net has on average, rounded up.
+    pub(crate) fn mean_pins(&self) -> usize {
+        let mut pins: usize = 0;
+        for part in &self.parts {
+            pins = pins.saturating_add(part.pins.len());
+        }
+        pins.div_ceil(self.h.nets().max(1) as usize)
+    }
+
     /// The clusters of a net.
     pub(crate) fn pins(&self, e: u32) -> &[u32]
         requires { e < net_count self.now }

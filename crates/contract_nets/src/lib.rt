@@ -3,10 +3,12 @@
 #![tactic(auto)]
 
 mod contraction;
+mod cuts;
 mod images;
 mod keys;
 mod ledger;
 mod merging;
+mod nets;
 mod vertices;
 
 pub use contraction::{contract, count_clusters};

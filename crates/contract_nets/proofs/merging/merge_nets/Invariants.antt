@@ -1,6 +1,6 @@
--- The nets so far, the one that isn't finished and those to come are all that is merged.
-use Rattle.contract_nets.proofs.MergeLaws.{IsMerging}
+-- The lists so far are there.
+use Rattle.contract_nets.proofs.ImageLaws.{AreThere}
 use Rattle.contract_nets.proofs.merging.merge_nets.Given as goal
 
-abbrev pub invariant-loop-key : goal.invariant-loop-key
-invariant-loop-key l = IsMerging l.nets l.initial.coarse l.keys l.key-index l.places l.coarse l.last l.weight
+abbrev pub invariant-loop-list : goal.invariant-loop-list
+invariant-loop-list g l = AreThere l.yielded l.lists.items

@@ -1,0 +1,159 @@
+-- Laws of keys cut into parts: the parts, merged by themselves, are all that is merged.
+use Rattle.std.proofs.Common.{◌≡◌, ◌≢◌, ℕ, zero, suc, ◌+◌, ◌-◌, ◌<◌, ◌≤◌, ◌⊎◌, inl, inr, Bool, true, false, if◌then◌else◌, List, [], ◌∷◌, ◌++◌}
+use Rattle.std.proofs.Common.{length, map, take, drop, get_or, slice_index, slice_range, Result, Ok, IfOk, nat_cmp, is_eq, refl, sym, ap, ap₂, ◌∙◌, subst, arith}
+use Rattle.std.proofs.lemmas.Bool.{cases_lt}
+use Rattle.std.proofs.lemmas.List.{append-nil, append_assoc, map-append, length-append, length_push, take_all, take_more, drop_more, drop-take, take-append-drop}
+use Rattle.std.proofs.lemmas.List.{take-take, get_or-take, length-take-le}
+use Rattle.std.specs.Cmp.Lexicographic.{slice_cmp}
+use Rattle.hg_defs.specs.Sums.{total}
+use Rattle.hg_defs.specs.Hypergraph.{Net, Hyper}
+use Rattle.hg_defs.proofs.SumLaws.{total-append}
+use Rattle.contract_nets.specs.Nets.{all_nets}
+use Rattle.contract_nets.proofs.ImageLaws.{AreThere}
+use Rattle.contract_nets.proofs.NetLaws.{all_nets-take_more}
+use Rattle.contract_nets.specs.Merging.{added, merged, AreWithin}
+use Rattle.contract_nets.specs.Keys.{Key, net_of_key, IsKey}
+use Rattle.contract_nets.specs.Cuts.{IsCut, AreCuts, part_of}
+use Rattle.contract_nets.proofs.MergeLaws.{added_test, added_other, tied_from_different}
+
+-- ---- nets that are merged by themselves
+
+added_some : (w : ℕ) (ps : List ℕ) (nets : List Net) → 0 < length (added w ps nets)
+added_some w ps [] = omega arith
+added_some w ps (e ∷ nets) = by (is_eq (slice_cmp nat_cmp ps e.pins)) refl
+  where
+    by : (b : Bool) → is_eq (slice_cmp nat_cmp ps e.pins) ≡ b → 0 < length (added w ps (e ∷ nets))
+    by true h = let same = ap length (added_test w ps e nets true h) in omega arith
+    by false h = let same = ap length (added_test w ps e nets false h) in omega arith
+
+merged_some : (xs : List Net) (e : Net) → 0 < length (merged (xs ++ e ∷ []))
+merged_some [] e = omega arith
+merged_some (x ∷ xs) e = added_some x.weight x.pins (merged (xs ++ e ∷ []))
+
+added-append : (w : ℕ) (ps : List ℕ) (es ys : List Net) → 0 < length es → added w ps (es ++ ys) ≡ added w ps es ++ ys
+added-append w ps [] ys h = absurd (omega arith)
+added-append w ps (e ∷ es) ys h = by (is_eq (slice_cmp nat_cmp ps e.pins)) refl
+  where
+    by : (b : Bool) → is_eq (slice_cmp nat_cmp ps e.pins) ≡ b → added w ps (e ∷ (es ++ ys)) ≡ added w ps (e ∷ es) ++ ys
+    by true k = added_test w ps e (es ++ ys) true k ∙ sym (ap (λ (zs : List Net). zs ++ ys) (added_test w ps e es true k))
+    by false k = added_test w ps e (es ++ ys) false k ∙ sym (ap (λ (zs : List Net). zs ++ ys) (added_test w ps e es false k))
+
+-- where two neighbours have different pins
+merged_apart : (xs : List Net) (e f : Net) (ys : List Net) → (e.pins ≡ f.pins → ⊥) → merged (xs ++ e ∷ f ∷ ys) ≡ merged (xs ++ e ∷ []) ++ merged (f ∷ ys)
+merged_apart [] e f ys o = added_other e.weight f.weight e.pins f.pins (merged ys) (tied_from_different e.pins f.pins o)
+merged_apart (x ∷ xs) e f ys o =
+    ap (added x.weight x.pins) (merged_apart xs e f ys o)
+    ∙ added-append x.weight x.pins (merged (xs ++ e ∷ [])) (merged (f ∷ ys)) (merged_some xs e)
+
+-- ---- keys up to a cut, and up to a later place
+
+module _ (nets : Hyper) (keys : List Key) (a b : ℕ) (order : a ≤ b) (end : b ≤ length keys) where
+  upto : take b keys ≡ take a keys ++ slice_range keys a b
+  upto =
+      let sum : a + (b - a) ≡ b = omega arith in
+      sym (take-append-drop a (take b keys))
+      ∙ ap₂ (λ (xs ys : List Key). xs ++ ys) (take-take a b keys order)
+      (ap (λ (n : ℕ). drop a (take n keys)) (sym sum) ∙ drop-take a (b - a) keys)
+
+  no_key : Key
+  no_key = (0, 0)
+
+  pub merged_cut : IsCut nets keys a → merged (map (net_of_key nets) (take b keys)) ≡ merged (map (net_of_key nets) (take a keys)) ++ merged
+      (map (net_of_key nets) (slice_range keys a b))
+  merged_cut cut = by (cases_lt 0 a) (cases_lt a b)
+    where
+      f : Key → Net
+      f = net_of_key nets
+
+      all : map f (take b keys) ≡ map f (take a keys) ++ map f (slice_range keys a b)
+      all = ap (map f) upto ∙ map-append f (take a keys) (slice_range keys a b)
+
+      by : (0 < a) ⊎ (a ≤ 0) → (a < b) ⊎ (b ≤ a) → merged (map f (take b keys)) ≡ merged (map f (take a keys)) ++ merged (map f (slice_range keys a b))
+      by (inr none) t =
+          let zero_at : a ≡ 0 = omega arith in
+          ap merged all
+          ∙ ap (λ (n : ℕ). merged (map f (take n keys) ++ map f (slice_range keys a b))) zero_at
+          ∙ ap (λ (n : ℕ). merged (map f (take n keys)) ++ merged (map f (slice_range keys a b))) (sym zero_at)
+      by (inl some) (inr same) =
+          let empty : b - a ≡ 0 = omega arith in
+          let no_more : slice_range keys a b ≡ [] = ap (λ (n : ℕ). take n (drop a keys)) empty in
+          ap merged (all ∙ ap (λ (ks : List Key). map f (take a keys) ++ map f ks) no_more ∙ append-nil (map f (take a keys)))
+          ∙ sym (append-nil (merged (map f (take a keys))))
+          ∙ ap (λ (ks : List Key). merged (map f (take a keys)) ++ merged (map f ks)) (sym no_more)
+      by (inl some) (inl more) =
+          let before = get_or keys (a - 1) (0, 0) in
+          let first = get_or keys a (0, 0) in
+          let step : a - 1 + 1 ≡ a = omega arith in
+          let low : take a keys ≡ take (a - 1) keys ++ before ∷ [] = ap (λ (n : ℕ). take n keys) (sym step) ∙ take_more keys (a - 1) (0, 0) (omega arith) in
+          let rest = take (b - a - 1) (drop (a + 1) keys) in
+          let size : b - a ≡ suc (b - a - 1) = omega arith in
+          let high : slice_range keys a b ≡ first ∷ rest = ap₂ (λ (n : ℕ) (ks : List Key). take n ks) size (drop_more keys a (0, 0) (omega arith)) in
+          let pushed : map f (take a keys) ≡ map f (take (a - 1) keys) ++ f before ∷ [] = ap (map f) low ∙ map-append f (take (a - 1) keys) (before ∷ []) in
+          ap merged (all ∙ ap₂ (λ (xs ys : List Net). xs ++ ys) pushed (ap (map f) high)
+          ∙ append_assoc (map f (take (a - 1) keys)) (f before ∷ []) (map f (first ∷ rest)))
+          ∙ merged_apart (map f (take (a - 1) keys)) (f before) (f first) (map f rest) (cut some (omega arith) (0, 0))
+          ∙ ap₂ (λ (xs ys : List Net). merged xs ++ merged ys) (sym pushed) (sym (ap (map f) high))
+
+-- ---- all parts
+
+module _ (nets : Hyper) (keys : List Key) (cuts : List ℕ) (are : AreCuts nets keys (length keys) cuts) where
+  all_before : (lists : List (List Net)) → length lists + 1 ≡ length cuts → ((j : ℕ) → j < length lists → get_or lists j [] ≡ part_of nets keys cuts j) →
+      (j : ℕ) → j ≤ length lists
+      → all_nets (take j lists) ≡ merged (map (net_of_key nets) (take (slice_index cuts j) keys))
+  all_before lists long each zero l = sym (ap (λ (n : ℕ). merged (map (net_of_key nets) (take n keys))) are.first)
+  all_before lists long each (suc j) l =
+      let next : suc j ≡ j + 1 = omega arith in
+      ap (λ (n : ℕ). all_nets (take n lists)) next
+      ∙ all_nets-take_more lists j (omega arith)
+      ∙ ap₂ (λ (xs ys : List Net). xs ++ ys) (all_before lists long each j (omega arith)) (each j (omega arith))
+      ∙ sym (merged_cut nets keys (slice_index cuts j) (slice_index cuts (j + 1)) (are.rising j (omega arith)) (are.within (j + 1) (omega arith))
+      (are.each j (omega arith)))
+      ∙ ap (λ (n : ℕ). merged (map (net_of_key nets) (take (slice_index cuts n) keys))) (sym next)
+
+  pub all_parts : (lists : List (List Net)) → length lists + 1 ≡ length cuts → ((j : ℕ) → j < length lists → get_or lists j [] ≡ part_of nets keys cuts j) →
+      all_nets lists ≡ merged (map (net_of_key nets) keys)
+  all_parts lists long each =
+      let at : length lists ≡ length cuts - 1 = omega arith in
+      ap all_nets (sym (take_all (length lists) lists (omega arith)))
+      ∙ all_before lists long each (length lists) (omega arith)
+      ∙ ap (λ (n : ℕ). merged (map (net_of_key nets) (take (slice_index cuts n) keys))) at
+      ∙ ap (λ (n : ℕ). merged (map (net_of_key nets) (take n keys))) are.last
+      ∙ ap (λ (ks : List Key). merged (map (net_of_key nets) ks)) (take_all (length keys) keys (omega arith))
+
+  -- where each result is the list of its part
+  pub all_there : {E : Type 0} (results : List (Result (List Net) E)) (lists : List (List Net)) → AreThere results lists → length results + 1 ≡ length cuts →
+      ((j : ℕ) (d : Result (List Net) E) → j < length results → IfOk (get_or results j d) (λ list. list ≡ part_of nets keys cuts j))
+      → all_nets lists ≡ merged (map (net_of_key nets) keys)
+  all_there results lists there long each =
+      let same = there.long in
+      all_parts lists (omega arith) (λ j l.
+      let low : j < length results = omega arith in
+      subst (λ r. IfOk r (λ list. list ≡ part_of nets keys cuts j)) (there.each j (Ok []) [] low) (each j (Ok []) low))
+
+  -- a part is within the limits
+  pub part_within : (j : ℕ) → j + 1 < length cuts → AreWithin (merged (map (net_of_key nets) keys)) → AreWithin (part_of nets keys cuts j)
+  part_within j l within =
+      let f = net_of_key nets in
+      let a = slice_index cuts j in
+      let b = slice_index cuts (j + 1) in
+      let inside = are.within (j + 1) l in
+      let low = merged (map f (take a keys)) in
+      let here = part_of nets keys cuts j in
+      let high = merged (map f (slice_range keys b (length keys))) in
+      let one = merged_cut nets keys a b (are.rising j l) inside (are.each j (omega arith)) in
+      let two = merged_cut nets keys b (length keys) inside (omega arith) (are.each (j + 1) l) in
+      let all : merged (map f keys) ≡ low ++ here ++ high =
+      ap (λ (ks : List Key). merged (map f ks)) (sym (take_all (length keys) keys (omega arith))) ∙ two ∙ ap (λ (xs : List Net). xs ++ high) one in
+      let n = ap length all in
+      let n2 = length-append (low ++ here) high in
+      let n3 = length-append low here in
+      let p = ap (total (λ (e : Net). length e.pins)) all in
+      let p2 = total-append (λ (e : Net). length e.pins) (low ++ here) high in
+      let p3 = total-append (λ (e : Net). length e.pins) low here in
+      let w = ap (total (λ (e : Net). e.weight)) all in
+      let w2 = total-append (λ (e : Net). e.weight) (low ++ here) high in
+      let w3 = total-append (λ (e : Net). e.weight) low here in
+      let c = within.count in
+      let d = within.pins in
+      let e = within.weight in
+      record { count = omega arith; pins = omega arith; weight = omega arith }

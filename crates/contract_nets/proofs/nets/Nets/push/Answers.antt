@@ -1,0 +1,47 @@
+-- One net more at the end of the arrays.
+use Rattle.std.proofs.Common.{◌≡◌, ◌+◌, ◌++◌, [], ◌∷◌, length, sym, ap, ◌∙◌, arith}
+use Rattle.std.proofs.lemmas.List.{length-append}
+use Rattle.hg_defs.specs.Hypergraph.{Net}
+use Rattle.hg_defs.specs.Sums.{total}
+use Rattle.hg_defs.proofs.SumLaws.{total_push}
+use Rattle.hg_base.specs.Flat.{nets_at}
+use Rattle.hg_base.proofs.PushLaws.{nets_at_push, IsLaidOut_push}
+use Rattle.contract_nets.proofs.nets.Nets.push.Goals as goal
+
+pub overflow_cast-len : goal.overflow_cast-len
+overflow_cast-len c =
+    let pins = c.in_ok-extend_from_slice.ensures.len in
+    let before = c.self.invariant.all_pins in
+    let bound = rw (← c.self.view_is) at c.requires in
+    omega arith
+
+pub invariant_of-self-2 : goal.invariant_of-self-2
+invariant_of-self-2 c =
+    let h = c.self.inside in
+    let more = c.args.pins.now in
+    let starts = c.in_ok-push.ensures.items ∙ ap (λ xs. xs ++ c.len.result ∷ []) c.in_ok-reserve-2.ensures.items in
+    let weights = c.in_ok-push-2.ensures.items ∙ ap (λ xs. xs ++ c.args.weight ∷ []) c.in_ok-reserve.ensures.items in
+    let pins = c.in_ok-extend_from_slice.ensures.items in
+    let sum = length-append h.pins.items more in
+    let end : c.len.result ≡ length h.pins.items + length more = (let l = c.in_ok-extend_from_slice.ensures.len in omega arith) in
+    let laid = c.self.invariant.laid_out in
+    let nets = nets_at_push h.starts.items h.weights.items h.pins.items more c.args.weight c.len.result laid end in
+    rw (starts, weights, pins) (record {
+      laid_out = IsLaidOut_push h.starts.items h.weights.items h.pins.items more c.args.weight c.len.result laid end;
+      all_pins =
+          ap (total (λ (e : Net). length e.pins)) nets
+          ∙ total_push (λ (e : Net). length e.pins) (nets_at h.starts.items h.weights.items h.pins.items) (record { weight = c.args.weight; pins = more })
+          ∙ ap (λ n. n + length more) c.self.invariant.all_pins
+          ∙ sym sum;
+    })
+
+pub returns-clause-ok : goal.returns-clause-ok
+returns-clause-ok c =
+    let h = c.self.inside in
+    let more = c.args.pins.now in
+    let starts = c.in_ok-push.ensures.items ∙ ap (λ xs. xs ++ c.len.result ∷ []) c.in_ok-reserve-2.ensures.items in
+    let weights = c.in_ok-push-2.ensures.items ∙ ap (λ xs. xs ++ c.args.weight ∷ []) c.in_ok-reserve.ensures.items in
+    let pins = c.in_ok-extend_from_slice.ensures.items in
+    let end : c.len.result ≡ length h.pins.items + length more = (let l = c.in_ok-extend_from_slice.ensures.len in omega arith) in
+    let nets = nets_at_push h.starts.items h.weights.items h.pins.items more c.args.weight c.len.result c.self.invariant.laid_out end in
+    rw (← c.self.view_is, starts, weights, pins, nets)

@@ -1,0 +1,84 @@
+//! Nets in flat arrays, without vertices.
+
+ghost use Rattle.std.specs.Prelude.{◌≡◌, ◌+◌, ◌<◌, ◌^◌, [], ◌∷◌, ◌++◌, length, slice_index_or, IfOk, OnOk, OnErr};
+ghost use Rattle.hg_defs.specs.Sums.{total};
+
+use hg_base::NoMemory;
+use std::alloc::Global;
+use std::marker::Model;
+
+/// Nets in flat arrays, without vertices.
+#[derive(Debug, Drop)]
+pub(crate) struct Nets {
+    weights: Vec<u64>,
+    starts: Vec<u32>,
+    pins: Vec<u32>,
+}
+
+impl Model for Nets {
+    ghost use Rattle.std.specs.Prelude.{List};
+    ghost use Rattle.hg_defs.specs.Hypergraph.{Net};
+    ghost use Rattle.hg_base.specs.Flat.{nets_at};
+    ghost use Rattle.contract_nets.specs.Nets.{AreFlat};
+
+    ghost Value = { List Net };
+
+    ghost view = { λ n. nets_at n.starts.items n.weights.items n.pins.items };
+
+    ghost invariant = { λ n. AreFlat n.starts.items n.weights.items n.pins.items };
+}
+
+impl Nets {
+    /// Makes an empty list with room for so many nets, and for so many pins of them all.
+    pub(crate) fn with_room(alloc: Global, nets: usize, pins: usize) -> Result<Self, NoMemory>
+        ensures { IfOk result (λ n. n ≡ []) }
+    {
+        let mut starts = Vec::with_capacity(alloc, nets.saturating_add(1))?;
+        starts.push(0u32)?;
+        Ok(Nets {
+            weights: Vec::with_capacity(alloc, nets)?,
+            starts,
+            pins: Vec::with_capacity(alloc, pins)?,
+        })
+    }
+
+    /// Adds a net with these pins behind the others. Where there is no memory, the list stays as it was.
+    /// The pins of all nets come to less than 2^32.
+    pub(crate) fn push(&mut self, weight: u64, pins: &[u32]) -> Result<(), NoMemory>
+        requires { total (λ e. length e.pins) self.old + length pins.now < 2 ^ 32 }
+        ensures ok { OnOk result (self.new ≡ self.old ++ record { weight = weight; pins = pins.now } ∷ []) }
+        ensures err { OnErr result (self.new ≡ self.old) }
+    {
+        self.weights.reserve(1)?;
+        self.starts.reserve(1)?;
+        self.pins.extend_from_slice(pins)?;
+        self.starts.push(self.pins.len() as u32)?;
+        self.weights.push(weight)?;
+        Ok(())
+    }
+
+    /// How many nets there are.
+    pub(crate) fn len(&self) -> usize
+        ensures { result ≡ length self.now }
+    {
+        self.weights.len()
+    }
+
+    /// The weight of a net.
+    pub(crate) fn weight(&self, e: u32) -> u64
+        requires { e < length self.now }
+        ensures { result ≡ (slice_index_or self.now e (record { weight = 0; pins = [] })).weight }
+    {
+        self.weights[e as usize]
+    }
+
+    /// The pins of a net.
+    pub(crate) fn pins(&self, e: u32) -> &[u32]
+        requires { e < length self.now }
+        ensures { result.now ≡ (slice_index_or self.now e (record { weight = 0; pins = [] })).pins }
+    {
+        let start = self.starts[e as usize] as usize;
+        let end = self.starts[e as usize + 1] as usize;
+        &self.pins[start..end]
+    }
+}
