@@ -1,9 +1,9 @@
 -- Laws of keys cut into parts: the parts, merged by themselves, are all that is merged.
-use Rattle.std.proofs.Common.{◌≡◌, ◌≢◌, ℕ, zero, suc, ◌+◌, ◌-◌, ◌<◌, ◌≤◌, ◌⊎◌, inl, inr, Bool, true, false, if◌then◌else◌, List, [], ◌∷◌, ◌++◌}
+use Rattle.std.proofs.Common.{◌≡◌, ℕ, zero, suc, ◌+◌, ◌-◌, ◌<◌, ◌≤◌, ◌⊎◌, inl, inr, Bool, true, false, List, [], ◌∷◌, ◌++◌}
 use Rattle.std.proofs.Common.{length, map, take, drop, get_or, slice_index, slice_range, Result, Ok, IfOk, nat_cmp, is_eq, refl, sym, ap, ap₂, ◌∙◌, subst, arith}
 use Rattle.std.proofs.lemmas.Bool.{cases_lt}
-use Rattle.std.proofs.lemmas.List.{append-nil, append_assoc, map-append, length-append, length_push, take_all, take_more, drop_more, drop-take, take-append-drop}
-use Rattle.std.proofs.lemmas.List.{take-take, get_or-take, length-take-le}
+use Rattle.std.proofs.lemmas.List.{append-nil, append_assoc, map-append, length-append, take_all, take_more, drop_more, drop-take, take-append-drop}
+use Rattle.std.proofs.lemmas.List.{take-take}
 use Rattle.std.specs.Cmp.Lexicographic.{slice_cmp}
 use Rattle.hg_defs.specs.Sums.{total}
 use Rattle.hg_defs.specs.Hypergraph.{Net, Hyper}
@@ -12,7 +12,7 @@ use Rattle.contract_nets.specs.Nets.{all_nets}
 use Rattle.contract_nets.proofs.ImageLaws.{AreThere}
 use Rattle.contract_nets.proofs.NetLaws.{all_nets-take_more}
 use Rattle.contract_nets.specs.Merging.{added, merged, AreWithin}
-use Rattle.contract_nets.specs.Keys.{Key, net_of_key, IsKey}
+use Rattle.contract_nets.specs.Keys.{Key, net_of_key}
 use Rattle.contract_nets.specs.Cuts.{IsCut, AreCuts, part_of}
 use Rattle.contract_nets.proofs.MergeLaws.{added_test, added_other, tied_from_different}
 

@@ -1,6 +1,6 @@
 -- Laws of merging equal neighbours.
 use Rattle.std.proofs.Common.{◌≡◌, ◌≢◌, ℕ, ◌+◌, ◌<◌, ◌≤◌, ◌^◌, ⊎_elim, Bool, true, false, if◌then◌else◌, List, [], ◌∷◌, ◌++◌, length, map, take, drop}
-use Rattle.std.proofs.Common.{Some, Option, length-append, get_or, slice_index, slice_set, All, nat_cmp, is_eq, refl, sym, ap, ap₂, ◌∙◌, subst, arith}
+use Rattle.std.proofs.Common.{Some, Option, length-append, get_or, slice_index, slice_set, All, nat_cmp, is_eq, refl, sym, ap, ◌∙◌, subst, arith}
 use Rattle.std.proofs.lemmas.Bool.{cases_eq}
 use Rattle.std.proofs.lemmas.Cmp.{tied_itself}
 use Rattle.std.proofs.lemmas.List.{append_assoc, length-map, map_push, length_push, get_or_push, get_or_append_left}

@@ -1,5 +1,5 @@
 -- Sorted keys cut into parts that can be merged by themselves.
-use Rattle.std.specs.Prelude.{◌≡◌, ◌≢◌, ℕ, ◌+◌, ◌-◌, ◌<◌, ◌≤◌, List, length, map, slice_index, slice_index_or, slice_range, Result, IfOk}
+use Rattle.std.specs.Prelude.{◌≡◌, ◌≢◌, ℕ, ◌+◌, ◌-◌, ◌<◌, ◌≤◌, List, length, map, slice_index, slice_index_or, slice_range}
 use Rattle.hg_defs.specs.Hypergraph.{Net, Hyper}
 use Rattle.contract_nets.specs.Merging.{merged}
 use Rattle.contract_nets.specs.Keys.{Key, net_of_key}

@@ -1,5 +1,5 @@
 -- The nets of the contraction, and where each net went.
-use Rattle.std.proofs.Common.{◌≡◌, List, length, map, All, sym, ap, ◌∙◌, subst, arith}
+use Rattle.std.proofs.Common.{List, map, All, sym, ap, ◌∙◌, subst}
 use Rattle.hg_defs.specs.Hypergraph.{Hyper}
 use Rattle.hg_defs.specs.Clustering.{cluster_count}
 use Rattle.contract_nets.specs.Merging.{merged, AreWithin}

@@ -1,12 +1,11 @@
 -- Each key, one after the other.
-use Rattle.std.proofs.Common.{Some, Option, Result, Ok, Err, ◌≡◌, ℕ, ◌+◌, true≢false, List, []}
-use Rattle.std.proofs.Common.{◌∷◌, ◌++◌, length, map, drop, get_or, All, refl, sym, ap, ◌∙◌, subst, arith}
+use Rattle.std.proofs.Common.{Result, Ok, Err, ◌≡◌, ℕ, ◌+◌, true≢false, List, []}
+use Rattle.std.proofs.Common.{◌∷◌, ◌++◌, drop, get_or, All, refl, sym, ap, ◌∙◌, subst, arith}
 use Rattle.std.proofs.lemmas.List.{drop_more}
 use Rattle.std.specs.Result.{OnOk}
 use Rattle.std.proofs.lemmas.List.Elements.{All-head}
 use Rattle.hg_defs.specs.Hypergraph.{Net}
-use Rattle.contract_nets.specs.Merging.{merged}
-use Rattle.contract_nets.specs.Keys.{Key, net_of_key, IsKey}
+use Rattle.contract_nets.specs.Keys.{Key, IsKey}
 use Rattle.contract_nets.proofs.MergeLaws.{pins, IsMerging, IsMerging-start, IsMerging-other, IsMerging-same, whole_at_end, first_is}
 use Rattle.contract_nets.proofs.MergeLaws.{few_at_end, few_at_other, weight_fits}
 use Rattle.contract_nets.proofs.merging.merge_keys.Goals as goal

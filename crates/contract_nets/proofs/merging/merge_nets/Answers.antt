@@ -1,11 +1,6 @@
 -- One list more, and all of them.
-use Rattle.std.proofs.Common.{◌≡◌, ℕ, ◌+◌, ◌<◌, ◌++◌, vec_len, [], ◌∷◌, Ok, List, Result, length, get_or, sym, subst, ap, ◌∙◌, arith}
-use Rattle.std.specs.Prelude.{IfOk}
-use Rattle.hg_defs.specs.Hypergraph.{Net, Hyper}
-use Rattle.contract_nets.specs.Merging.{merged}
-use Rattle.contract_nets.specs.Keys.{Key}
-use Rattle.contract_nets.specs.Cuts.{AreCuts, part_of}
-use Rattle.contract_nets.specs.Nets.{all_nets}
+use Rattle.std.proofs.Common.{◌≡◌, ◌++◌, vec_len, [], ◌∷◌, length, sym, subst, ◌∙◌, arith}
+use Rattle.contract_nets.specs.Cuts.{AreCuts}
 use Rattle.contract_nets.proofs.ImageLaws.{AreThere, AreThere-more, taken_all}
 use Rattle.contract_nets.proofs.CutLaws.{all_there}
 use Rattle.contract_nets.proofs.merging.merge_nets.Goals as goal

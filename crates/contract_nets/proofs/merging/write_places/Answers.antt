@@ -1,7 +1,7 @@
 -- Each key, one after the other.
-use Rattle.std.proofs.Common.{◌≡◌, ◌≢◌, ℕ, ◌+◌, true≢false, List, [], ◌∷◌, ◌++◌, length, map, drop, get_or, slice_index, slice_set}
+use Rattle.std.proofs.Common.{◌≡◌, ◌≢◌, ℕ, ◌+◌, true≢false, List, [], ◌∷◌, ◌++◌, length, map, drop, get_or, slice_index}
 use Rattle.std.proofs.Common.{All, refl, sym, ap, ◌∙◌, subst, arith}
-use Rattle.std.proofs.lemmas.List.{drop_more, length_push, length-replicate, get_or-replicate, map_push, take_all, length-append}
+use Rattle.std.proofs.lemmas.List.{drop_more, length_push, length-replicate, get_or-replicate, map_push, take_all}
 use Rattle.std.proofs.lemmas.List.Elements.{All-head}
 use Rattle.hg_defs.specs.Hypergraph.{Net, net_count, net_of}
 use Rattle.contract_nets.specs.declared.ledger.TheConstants.{DROPPED}
@@ -55,7 +55,7 @@ loop-key-preserved c =
     let joined = c.if-not-have_same_pins in
     let inv = c.loop-key.invariant in
     let both : (made : List Net) × (weight : ℕ) × IsMerging nets keys i made joined.last weight × IsPlacing nets keys i made joined.last places
-        × (joined.place ≡ length made) × (pins nets joined.last ≡ pins nets key) =
+    × (joined.place ≡ length made) × (pins nets joined.last ≡ pins nets key) =
     elim joined.branch [
       | then-not-have_same_pins w ↦
           let other : pins nets c.loop-key.last ≡ pins nets key → ⊥ = λ e. true≢false (sym (w.if-not-have_same_pins.ensures.1 (sym is.pins ∙ sym e ∙ inv.2.unfinished.pins))) in (
