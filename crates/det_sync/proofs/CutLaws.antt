@@ -5,18 +5,16 @@ use Rattle.std.proofs.Common.{is_some, true≢false, refl, sym, ap, subst, ◌�
 use Rattle.std.specs.List.{list_any, range_with_len}
 use Rattle.std.proofs.lemmas.Bool.{eqb-true, eqb-false, eq-eqb, ne_eqb, lt-ltb, le-ltb, cases_eq, cases_lt}
 use Rattle.std.proofs.lemmas.List.{get_or-set_same, get_or-set_other, append-nil, take_all, take-append-le}
-use Rattle.std.proofs.lemmas.List.Elements.{filter-append, All-head, All-tail}
-use Rattle.std.proofs.lemmas.List.Folds.{list_any_more}
+use Rattle.std.proofs.lemmas.List.Elements.{filter-append, All-nil, All-cons}
 use Rattle.rayon.proofs.ToStd.{nat_range-All}
 use Rattle.hg_defs.specs.Hypergraph.{Hyper, IsHypergraph, vertex_count, net_count, net_of}
 use Rattle.hg_defs.specs.Partition.{IsPartition, block_of}
 use Rattle.hg_defs.specs.Cost.{connectivity}
 use Rattle.hg_defs.specs.Pins.{pins_in}
-use Rattle.hg_defs.specs.Incidence.{is_on}
 use Rattle.hg_defs.proofs.DistinctLaws.{pins_in-le}
 use Rattle.pin_plain.proofs.GainLaws.{some_blocks}
 use Rattle.pin_plain.proofs.InnerLaws.{whole_by_count}
-use Rattle.det_sync.specs.CutNets.{is_cut, is_on_one}
+use Rattle.det_sync.specs.CutNets.{is_cut}
 
 -- ---- cut nets
 
@@ -61,50 +59,17 @@ cut_by_count h k p v e good whole vertex net pin =
                 by_cases (inl l) = l
                 by_cases (inr g) = absurd (r (omega arith))
 
--- ---- marks
+-- ---- the vertices that marked nets hold
 
-or_more : (a b c d : Bool) → a ≡ (b || c) → (a || d) ≡ (b || (c || d))
-or_more a true c d e = ap (λ x. x || d) e
-or_more a false c d e = ap (λ x. x || d) e
-
-or_true : (a b : Bool) → (a || (b || true)) ≡ true
-or_true true b = refl
-or_true false true = refl
-or_true false false = refl
-
--- one more pin is marked
-pub pin_marked : (old marks : List Bool) (pins : List ℕ) (i v : ℕ) → i < length pins → get_or pins i 0 < length marks
-    → get_or marks v false ≡ (get_or old v false || list_any (nat_eq v) (take i pins))
-    → get_or (set marks (get_or pins i 0) true) v false ≡ (get_or old v false || list_any (nat_eq v) (take (i + 1) pins))
-pin_marked old marks pins i v low inside known =
-    by (cases_eq v (get_or pins i 0)) ∙ ap (λ t. get_or old v false || t) (sym (list_any_more (nat_eq v) pins i 0 low))
+-- where none of the numbers passes a test, each fails it
+pub none_passes : (test : ℕ → Bool) (xs : List ℕ) → list_any test xs ≡ false → All (λ x. test x ≡ false) xs
+none_passes test [] off = All-nil (λ x. test x ≡ false)
+none_passes test (x ∷ xs) off = by (test x) refl off (none_passes test xs)
   where
-    by : (v ≡ get_or pins i 0) ⊎ (v ≢ get_or pins i 0) → get_or (set marks (get_or pins i 0) true) v false
-        ≡ (get_or old v false || (list_any (nat_eq v) (take i pins) || nat_eq v (get_or pins i 0)))
-    by (inl e) =
-        ap (λ x. get_or (set marks (get_or pins i 0) true) x false) e
-        ∙ get_or-set_same marks (get_or pins i 0) true false inside
-        ∙ sym (or_true (get_or old v false) (list_any (nat_eq v) (take i pins)))
-        ∙ ap (λ t. get_or old v false || (list_any (nat_eq v) (take i pins) || t)) (sym (eq-eqb v (get_or pins i 0) e))
-    by (inr r) =
-        get_or-set_other marks (get_or pins i 0) v true false r
-        ∙ known
-        ∙ ap (λ t. get_or old v false || t) (sym (or_false (list_any (nat_eq v) (take i pins))))
-        ∙ ap (λ t. get_or old v false || (list_any (nat_eq v) (take i pins) || t)) (sym (ne_eqb v (get_or pins i 0) r))
-      where
-        or_false : (t : Bool) → (t || false) ≡ t
-        or_false true = refl
-        or_false false = refl
-
--- the pins of one more net are marked
-pub net_marked : (h : Hyper) (old : Bool) (nets : List ℕ) (i v : ℕ) (before after : Bool) → i < length nets
-    → before ≡ (old || is_on_one h (take i nets) v) → after ≡ (before || is_on h v (get_or nets i 0)) → after ≡ (old || is_on_one h (take (i + 1) nets) v)
-net_marked h old nets i v before after low known is =
-    is
-    ∙ or_more before old (is_on_one h (take i nets) v) (is_on h v (get_or nets i 0)) known
-    ∙ ap (λ t. old || t) (sym (list_any_more (is_on h v) nets i 0 low))
-
--- ---- the marked vertices
+    by : (t : Bool) → test x ≡ t → (t || list_any test xs) ≡ false → (list_any test xs ≡ false → All (λ y. test y ≡ false) xs)
+        → All (λ y. test y ≡ false) (x ∷ xs)
+    by true e off rest = absurd (true≢false off)
+    by false e off rest = All-cons (λ y. test y ≡ false) x xs e (rest off)
 
 pub range_append : (a m n : ℕ) → range_with_len a (m + n) ≡ range_with_len a m ++ range_with_len (a + m) n
 range_append a zero n = let e : a + 0 ≡ a = omega arith in let f : zero + n ≡ n = omega arith in
@@ -115,32 +80,28 @@ range_append a (suc m) n =
     ap (range_with_len a) f
     ∙ ap (λ xs. a ∷ xs) (range_append (a + 1) m n ∙ ap (λ b. range_with_len (a + 1) m ++ range_with_len b n) e)
 
-module _ (test : ℕ → Bool) where
-  -- a place more is kept where it passes the test
-  filter_next : (n : ℕ) → filter test (range_with_len 0 (n + 1)) ≡ filter test (range_with_len 0 n) ++ cond (test n) (n ∷ []) []
-  filter_next n = ap (filter test) (range_append 0 n 1) ∙ filter-append test (range_with_len 0 n) (range_with_len (0 + n) 1)
-      ∙ ap (λ m. filter test (range_with_len 0 n) ++ filter test (m ∷ [])) (let e : 0 + n ≡ n = omega arith in e)
+module _ (test : ℕ → Bool) (first : ℕ) where
+  -- a number more is kept where it passes the test
+  filter_next : (n : ℕ) → filter test (range_with_len first (n + 1)) ≡ filter test (range_with_len first n) ++ cond (test (first + n)) ((first + n) ∷ []) []
+  filter_next n = ap (filter test) (range_append first n 1) ∙ filter-append test (range_with_len first n) (range_with_len (first + n) 1)
 
-  pub place_kept : (n : ℕ) (old new : List ℕ) → test n ≡ true → old ≡ filter test (range_with_len 0 n) → new ≡ old ++ n ∷ []
-      → new ≡ filter test (range_with_len 0 (n + 1))
-  place_kept n old new e known is =
-      is ∙ ap (λ xs. xs ++ n ∷ []) known ∙ ap (λ t. filter test (range_with_len 0 n) ++ cond t (n ∷ []) []) (sym e) ∙ sym (filter_next n)
+  pub place_kept : (v n : ℕ) (old new : List ℕ) → v ≡ first + n → test v ≡ true → old ≡ filter test (range_with_len first n) → new ≡ old ++ v ∷ []
+      → new ≡ filter test (range_with_len first (n + 1))
+  place_kept v n old new at e known is =
+      is ∙ ap (λ xs. xs ++ v ∷ []) known ∙ ap (λ u. filter test (range_with_len first n) ++ u ∷ []) at
+      ∙ ap (λ t. filter test (range_with_len first n) ++ cond t ((first + n) ∷ []) []) (sym (ap test (sym at) ∙ e)) ∙ sym (filter_next n)
 
-  pub place_left : (n : ℕ) (old : List ℕ) → test n ≡ false → old ≡ filter test (range_with_len 0 n) → old ≡ filter test (range_with_len 0 (n + 1))
-  place_left n old e known =
-      known ∙ sym (append-nil (filter test (range_with_len 0 n))) ∙ ap (λ t. filter test (range_with_len 0 n) ++ cond t (n ∷ []) []) (sym e)
-      ∙ sym (filter_next n)
+  pub place_left : (v n : ℕ) (old : List ℕ) → v ≡ first + n → test v ≡ false → old ≡ filter test (range_with_len first n)
+      → old ≡ filter test (range_with_len first (n + 1))
+  place_left v n old at e known =
+      known ∙ sym (append-nil (filter test (range_with_len first n)))
+      ∙ ap (λ t. filter test (range_with_len first n) ++ cond t ((first + n) ∷ []) []) (sym (ap test (sym at) ∙ e)) ∙ sym (filter_next n)
 
--- what holds of each number below n
-pub range_below : (P : ℕ → Type 0) (n : ℕ) → ((i : ℕ) → i < n → P i) → All P (range_with_len 0 n)
-range_below P n each =
-    subst (λ (m : ℕ). All P (range_with_len 0 m)) (let e : n - 0 ≡ n = omega arith in e) (nat_range-All P 0 n (λ i low high. each i high))
-
-pub filter_alike : (f g : ℕ → Bool) (xs : List ℕ) → All (λ x. f x ≡ g x) xs → filter f xs ≡ filter g xs
-filter_alike f g [] same = refl
-filter_alike f g (x ∷ xs) same =
-    ap (λ t. cond t (x ∷ filter f xs) (filter f xs)) (All-head (λ y. f y ≡ g y) x xs same)
-    ∙ ap (λ ys. cond (g x) (x ∷ ys) ys) (filter_alike f g xs (All-tail (λ y. f y ≡ g y) x xs same))
+-- what holds of each of n numbers from a first one on
+pub range_from : (P : ℕ → Type 0) (first n : ℕ) → ((i : ℕ) → i < first + n → P i) → All P (range_with_len first n)
+range_from P first n each =
+    subst (λ (m : ℕ). All P (range_with_len first m)) (let e : first + n - first ≡ n = omega arith in e)
+    (nat_range-All P first (first + n) (λ i low high. each i high))
 
 -- what was written back into a list as long
 pub written : {X : Type 0} → (n : ℕ) (new old : List X) → length new ≡ n → take n (new ++ drop (length new) old) ≡ new

@@ -14,16 +14,17 @@ use Rattle.std.proofs.lemmas.List.Sorted.{All-permutation, IsPermutation-map}
 use Rattle.hg_defs.specs.Sorting.{sorted}
 use Rattle.hg_defs.specs.Hypergraph.{Hyper, IsHypergraph, vertex_count, net_count, vertices}
 use Rattle.hg_defs.specs.Partition.{IsPartition}
-use Rattle.hg_defs.specs.Incidence.{is_on}
+use Rattle.hg_defs.specs.Incidence.{nets_of}
+use Rattle.incidence.proofs.IndexLaws.{nets_of-below}
 use Rattle.hg_defs.specs.LeastLoaded.{heavier_first}
 use Rattle.hg_defs.specs.Moves.{best_block}
 use Rattle.hg_defs.specs.Synchronous.{wish, saving}
 use Rattle.hg_defs.proofs.SortLaws.{sort_is, heavier_first_total, heavier_first_exact}
 use Rattle.pin_plain.specs.BestMoves.{ranked, best_moves}
 use Rattle.pin_plain.proofs.InnerLaws.{inner_stays}
-use Rattle.det_sync.specs.CutNets.{is_cut, cut_nets, is_on_one, held_by}
+use Rattle.det_sync.specs.CutNets.{is_cut, is_held, AreCutMarks}
 use Rattle.det_sync.specs.Wishes.{Wish, AreWishes, AreCuts, part_at}
-use Rattle.det_sync.proofs.CutLaws.{range_below}
+use Rattle.det_sync.proofs.CutLaws.{range_append, range_from, none_passes}
 
 -- ---- parts
 
@@ -35,21 +36,23 @@ module _ (h : Hyper) (k l : ℕ) (p : List ℕ) where
       ∙ sym (append_assoc (option_to_list (option_map (ranked h p u) (best_block h l p u k))) (best_moves h k l p us) (best_moves h k l p vs))
 
   -- the wishes of the parts so far, and those of one more
-  pub parts_more : (listed cuts : List ℕ) (n i : ℕ) (old part : List Wish) → AreCuts n cuts → i + 1 < length cuts
-      → old ≡ best_moves h k l p (take (get_or cuts i 0) listed) → part ≡ best_moves h k l p (part_at listed cuts i)
-      → old ++ part ≡ best_moves h k l p (take (get_or cuts (i + 1) 0) listed)
-  parts_more listed cuts n i old part are low is next =
+  pub parts_more : (cuts : List ℕ) (n i : ℕ) (old part : List Wish) → AreCuts n cuts → i + 1 < length cuts
+      → old ≡ best_moves h k l p (range_with_len 0 (get_or cuts i 0)) → part ≡ best_moves h k l p (part_at cuts i)
+      → old ++ part ≡ best_moves h k l p (range_with_len 0 (get_or cuts (i + 1) 0))
+  parts_more cuts n i old part are low is next =
       joined (get_or cuts i 0) (get_or cuts (i + 1) 0) (are.rising i low) is next
     where
-      joined : (a b : ℕ) → a ≤ b → old ≡ best_moves h k l p (take a listed) → part ≡ best_moves h k l p (take (b - a) (drop a listed))
-          → old ++ part ≡ best_moves h k l p (take b listed)
+      joined : (a b : ℕ) → a ≤ b → old ≡ best_moves h k l p (range_with_len 0 a) → part ≡ best_moves h k l p (range_with_len a (b - a))
+          → old ++ part ≡ best_moves h k l p (range_with_len 0 b)
       joined a b low is next =
           let all : a + (b - a) ≡ b = omega arith in
+          let from : 0 + a ≡ a = omega arith in
           ap (λ xs. xs ++ part) is
-          ∙ ap (λ xs. best_moves h k l p (take a listed) ++ xs) next
-          ∙ sym (best_moves-append (take a listed) (take (b - a) (drop a listed)))
-          ∙ ap (best_moves h k l p) (sym (take-add a (b - a) listed))
-          ∙ ap (λ m. best_moves h k l p (take m listed)) all
+          ∙ ap (λ xs. best_moves h k l p (range_with_len 0 a) ++ xs) next
+          ∙ sym (best_moves-append (range_with_len 0 a) (range_with_len a (b - a)))
+          ∙ ap (λ m. best_moves h k l p (range_with_len 0 a ++ range_with_len m (b - a))) (sym from)
+          ∙ ap (best_moves h k l p) (sym (range_append 0 a (b - a)))
+          ∙ ap (λ m. best_moves h k l p (range_with_len 0 m)) all
 
   -- ---- the vertices that are asked
 
@@ -69,26 +72,17 @@ module _ (h : Hyper) (k l : ℕ) (p : List ℕ) where
           ∙ ap (λ (o : Option ℕ). option_to_list (option_map (ranked h p v) o) ++ best_moves h k l p vs)
           (sym (All-head (λ u. test u ≡ false → best_block h l p u k ≡ None) v vs none e))
 
-  -- where none of the cut nets among these holds a vertex, none of those among them that hold it is cut
-  uncut : (v : ℕ) (es : List ℕ) → list_any (is_on h v) (filter (is_cut h p) es) ≡ false → All (λ e. is_cut h p e ≡ false) (filter (is_on h v) es)
-  uncut v [] off = All-nil (λ e. is_cut h p e ≡ false)
-  uncut v (e ∷ es) off = by (is_cut h p e) (is_on h v e) refl refl off (uncut v es)
+  -- only vertices that cut nets hold have wishes
+  pub asked_all : (marks : List Bool) (first n : ℕ) → IsHypergraph h → IsPartition h k p → AreCutMarks h p marks → first + n ≤ vertex_count h
+      → best_moves h k l p (filter (is_held h marks) (range_with_len first n)) ≡ best_moves h k l p (range_with_len first n)
+  asked_all marks first n good whole marked within =
+      best_moves-filter (is_held h marks) (range_with_len first n)
+      (range_from (λ v. is_held h marks v ≡ false → best_block h l p v k ≡ None) first n
+      (λ v low off. inner_stays h k l p v good whole (omega arith)
+      (uncut (nets_of h v) (nets_of-below h v) (none_passes (λ e. get_or marks e false) (nets_of h v) off))))
     where
-      by : (c t : Bool) → is_cut h p e ≡ c → is_on h v e ≡ t
-          → list_any (is_on h v) (cond c (e ∷ filter (is_cut h p) es) (filter (is_cut h p) es)) ≡ false
-          → (list_any (is_on h v) (filter (is_cut h p) es) ≡ false → All (λ x. is_cut h p x ≡ false) (filter (is_on h v) es))
-          → All (λ x. is_cut h p x ≡ false) (cond t (e ∷ filter (is_on h v) es) (filter (is_on h v) es))
-      by true true c t o rest = absurd (true≢false (ap (λ x. x || list_any (is_on h v) (filter (is_cut h p) es)) (sym t) ∙ o))
-      by true false c t o rest = rest (ap (λ x. x || list_any (is_on h v) (filter (is_cut h p) es)) (sym t) ∙ o)
-      by false true c t o rest = All-cons (λ x. is_cut h p x ≡ false) e (filter (is_on h v) es) c (rest o)
-      by false false c t o rest = rest o
-
-  -- only vertices on cut nets have wishes
-  pub asked_all : IsHypergraph h → IsPartition h k p → best_moves h k l p (held_by h (cut_nets h p)) ≡ best_moves h k l p (vertices h)
-  asked_all good whole =
-      best_moves-filter (is_on_one h (cut_nets h p)) (vertices h)
-      (range_below (λ v. is_on_one h (cut_nets h p) v ≡ false → best_block h l p v k ≡ None) (vertex_count h)
-      (λ v low off. inner_stays h k l p v good whole low (uncut v (range_with_len 0 (net_count h)) off)))
+      uncut : (es : List ℕ) → All (λ e. e < net_count h) es → All (λ e. get_or marks e false ≡ false) es → All (λ e. is_cut h p e ≡ false) es
+      uncut es low off i d inside = sym (marked.each (get_or es i d) (low i d inside)) ∙ off i d inside
 
 -- ---- cuts
 

@@ -1,22 +1,23 @@
--- Cut nets, and the vertices that they hold.
-use Rattle.std.specs.Prelude.{ℕ, List, filter, Bool, nat_lt}
-use Rattle.std.specs.List.{list_any, range_with_len}
-use Rattle.hg_defs.specs.Hypergraph.{Hyper, net_count, net_of, vertices}
+-- Cut nets, and the vertices that marked nets hold.
+use Rattle.std.specs.Prelude.{◌≡◌, ℕ, ◌+◌, ◌<◌, List, Bool, false, length, nat_lt, slice_index_or}
+use Rattle.std.specs.List.{list_any}
+use Rattle.hg_defs.specs.Hypergraph.{Hyper, net_count, net_of}
 use Rattle.hg_defs.specs.Cost.{connectivity}
-use Rattle.hg_defs.specs.Incidence.{is_on}
+use Rattle.hg_defs.specs.Incidence.{nets_of}
 
 -- whether the net touches two blocks or more
 abbrev pub is_cut : Hyper → List ℕ → ℕ → Bool
 is_cut h p e = nat_lt 1 (connectivity p (net_of h e).pins)
 
--- the cut nets, in rising number
-abbrev pub cut_nets : Hyper → List ℕ → List ℕ
-cut_nets h p = filter (is_cut h p) (range_with_len 0 (net_count h))
+-- a mark for each of n nets from a first one on, set where the net is cut
+abbrev pub AreCutFrom : Hyper → List ℕ → ℕ → ℕ → List Bool → Type 0
+AreCutFrom h p first n marks = (i : ℕ) → i < n → slice_index_or marks i false ≡ is_cut h p (first + i)
 
--- whether one of the nets holds the vertex
-abbrev pub is_on_one : Hyper → List ℕ → ℕ → Bool
-is_on_one h nets v = list_any (is_on h v) nets
+-- a mark for each net, set where the net is cut
+pub record AreCutMarks (h : Hyper) (p : List ℕ) (marks : List Bool) : Type 0 where
+  pub all : length marks ≡ net_count h
+  pub each : (e : ℕ) → e < net_count h → slice_index_or marks e false ≡ is_cut h p e
 
--- the vertices that one of the nets holds, in rising number
-abbrev pub held_by : Hyper → List ℕ → List ℕ
-held_by h nets = filter (is_on_one h nets) (vertices h)
+-- whether one of the marked nets holds the vertex
+abbrev pub is_held : Hyper → List Bool → ℕ → Bool
+is_held h marks v = list_any (λ e. slice_index_or marks e false) (nets_of h v)

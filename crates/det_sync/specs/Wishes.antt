@@ -1,5 +1,6 @@
 -- The wishes of all vertices in one partition, in the order in which they are granted.
-use Rattle.std.specs.Prelude.{◌≡◌, ℕ, ◌+◌, ◌-◌, ◌<◌, ◌≤◌, List, length, slice_index, slice_range, map, All, Some}
+use Rattle.std.specs.Prelude.{◌≡◌, ℕ, ◌+◌, ◌-◌, ◌<◌, ◌≤◌, List, length, slice_index, map, All, Some}
+use Rattle.std.specs.List.{range_with_len}
 use Rattle.std.specs.declared.cmp.Reverse.{Reverse}
 use Rattle.hg_defs.specs.Hypergraph.{Hyper}
 use Rattle.hg_defs.specs.Synchronous.{wish, wishing}
@@ -13,7 +14,7 @@ pub record AreWishes (h : Hyper) (k l : ℕ) (p : List ℕ) (wishes : List Wish)
   pub order : map (λ w. w.1) wishes ≡ wishing h k l p
   pub each : All (λ w. wish h k l p w.1 ≡ Some w.2) wishes
 
--- where a list of n vertices is cut into parts
+-- where n vertices are cut into parts
 pub record AreCuts (n : ℕ) (cuts : List ℕ) : Type 0 where
   pub some : 0 < length cuts
   pub first : slice_index cuts 0 ≡ 0
@@ -21,6 +22,6 @@ pub record AreCuts (n : ℕ) (cuts : List ℕ) : Type 0 where
   pub within : (j : ℕ) → j < length cuts → slice_index cuts j ≤ n
   pub last : slice_index cuts (length cuts - 1) ≡ n
 
--- the listed vertices of part j
-abbrev pub part_at : List ℕ → List ℕ → ℕ → List ℕ
-part_at listed cuts j = slice_range listed (slice_index cuts j) (slice_index cuts (j + 1))
+-- the vertices of part j
+abbrev pub part_at : List ℕ → ℕ → List ℕ
+part_at cuts j = range_with_len (slice_index cuts j) (slice_index cuts (j + 1) - slice_index cuts j)

@@ -13,7 +13,7 @@ ghost use Rattle.det_sync.specs.Wishes.{AreWishes};
 ghost use Rattle.pin_plain.specs.Parted.{IsLoaded};
 ghost use Rattle.det_sync.specs.Rounds.{LogsSync, LogsSynced, StaysCost, unbooked, AreBooked, IsMostSaved};
 
-use crate::wishes::wishes_of;
+use crate::wishes::{cuts_of, wishes_of};
 use hg_base::{Gains, Items, Move, NoMemory};
 use incidence::Hypergraph;
 use pin_plain::{BestMove, Partition};
@@ -228,7 +228,8 @@ pub fn sync_round<R: Threads + Sync>(
 {
     let _parted = p.blocks();
     let before = p.cost(h);
-    let wishes = wishes_of(rt, alloc, h, &p, workers)?;
+    let cuts = cuts_of(alloc, h, workers)?;
+    let wishes = wishes_of(rt, alloc, h, &p, cuts.as_slice(), workers)?;
     grant_best(
         rt,
         alloc,
@@ -266,9 +267,10 @@ pub(crate) fn sync_level<R: Threads + Sync>(
     ensures rounds { OnOk result (LogsSynced h.now p.old.k p.old.limit workers level p.old.blocks p.new.blocks log.old
         log.new) }
 {
+    let cuts = cuts_of(alloc, h, workers)?;
     let mut reached = before;
     'rounds: for _made in 0..MOST_ROUNDS {
-        let wishes = wishes_of(rt, alloc, h, p, workers)?;
+        let wishes = wishes_of(rt, alloc, h, p, cuts.as_slice(), workers)?;
         let listed = wishes.as_slice();
         if listed.is_empty() {
             return Ok(reached);

@@ -6,6 +6,7 @@ use Rattle.rayon.specs.Numbers.{nat_range}
 use Rattle.rayon.proofs.ToStd.{nat_range-All}
 use Rattle.pin_plain.specs.BestMoves.{best_moves}
 use Rattle.rollback_prefix.proofs.SavingLaws.{zip_at, zip_long}
+use Rattle.det_sync.specs.CutNets.{AreCutMarks}
 use Rattle.det_sync.specs.Wishes.{AreCuts, part_at}
 use Rattle.det_sync.proofs.wishes.wishes_by_part.Goals as goal
 
@@ -14,10 +15,10 @@ collect-requires-clause-ready g c κs within =
     let ends = c.into_par_iter.ensures in
     let some = c.requires.cuts.some in
     let inside = nat_range-All
-    (λ i. (i + 1 < length c.args.cuts.now) × AreCuts (length c.args.listed.now) c.args.cuts.now × All (λ v. v < vertex_count c.args.h.now) c.args.listed.now
+    (λ i. (i + 1 < length c.args.cuts.now) × AreCuts (vertex_count c.args.h.now) c.args.cuts.now × AreCutMarks c.args.h.now c.args.p.now.blocks c.args.marks.now
     × (c.args.p.now.hyper ≡ c.args.h.now))
     0 (length c.args.cuts.now - 1)
-    (λ i low high. (omega arith, c.requires.cuts, c.requires.vertices, c.requires.belongs)) in
+    (λ i low high. (omega arith, c.requires.cuts, c.requires.marks, c.requires.belongs)) in
     rw (c.with_min_len.ensures.base, c.map.ensures.base, c.map.ensures.f, ends.0, ends.1) (λ k d lt. (inside k d lt, λ y p. tt))
 
 pub returns-clause-whole : goal.returns-clause-whole
@@ -50,6 +51,6 @@ returns-clause-parts g c j d l =
     let at : get_or chain.0 j 0 ≡ 0 + j = ap (λ (xs : List ℕ). get_or xs j 0) places ∙ get_or-range_with_len 0 parts j 0 (omega arith) in
     let is : get_or chain.0 j 0 ≡ j = omega arith in
     let post = zip_at (λ (x : ℕ) r. IfOk r (λ v. v.items ≡ best_moves c.args.h.now c.args.p.now.k c.args.p.now.limit c.args.p.now.blocks
-    (part_at c.args.listed.now c.args.cuts.now x))) chain.0 h.0 j 0 d chain.2 low in
+    (part_at c.args.cuts.now x))) chain.0 h.0 j 0 d chain.2 low in
     rw h.2 (subst (λ x. IfOk (get_or h.0 j d) (λ v. v.items ≡ best_moves c.args.h.now c.args.p.now.k c.args.p.now.limit c.args.p.now.blocks
-    (part_at c.args.listed.now c.args.cuts.now x))) is post)
+    (part_at c.args.cuts.now x))) is post)
