@@ -6,7 +6,6 @@ use hg_base::{Blocks, FlatHyper, Objective};
 use incidence::Hypergraph;
 use round_log::{Kind, Moves, RoundList};
 use std::alloc::Global;
-use std::process::Abort;
 use std::test::Fail;
 
 /// Seven vertices of weight 1 and four nets of weights 2, 3, 8 and 7.
@@ -23,9 +22,7 @@ fn four_nets(alloc: Global) -> Result<FlatHyper, NoMemory>
 }
 
 /// Six vertices in a row, with a net of weight 1 between neighbours.
-fn path(alloc: Global) -> Result<Hypergraph, NoMemory>
-    ensures { IfOk result (λ h. vertex_count h ≡ 6) }
-{
+fn path(alloc: Global) -> Result<Hypergraph, NoMemory> {
     let mut flat = FlatHyper::start(alloc, 6)?;
     flat.push_net(1, &[0, 1])?;
     flat.push_net(1, &[1, 2])?;
@@ -61,205 +58,368 @@ fn one_net(alloc: Global, vertices: u32) -> Result<Hypergraph, NoMemory>
 
 /// The partition of these blocks.
 fn parted(
-    rt: &impl Abort,
     alloc: Global,
     h: &Hypergraph,
     k: u32,
     limit: u64,
     blocks: &[u32],
 ) -> Result<Partition, Fail>
-    requires some { 2 ≤ k }
-    requires few { k ≤ 256 }
     ensures hyper { IfOk result (λ p. p.hyper ≡ h.now) }
     ensures blocks { IfOk result (λ p. p.k ≡ k) }
 {
-    assert_eq!(rt; blocks.len(), h.vertices() as usize);
-    assert!(rt; blocks.iter().all(|b| *b < k));
-    assert!(rt; h.suits(k));
-    assert!(rt; h.fixed_within(k));
+    if k < 2 || k > 256 || !h.suits(k) || !h.fixed_within(k) {
+        return Err(Fail::new("other blocks are needed"));
+    }
+    if blocks.len() != h.vertices() as usize || !blocks.iter().all(|b| *b < k) {
+        return Err(Fail::new("no partition"));
+    }
     let blocks = Blocks::from_vec(blocks.to_vec(alloc)?);
     Ok(Partition::of(alloc, h, k, limit, blocks)?)
 }
 
-/// Shifts a vertex, and checks its gain against the costs.
-fn try_shift(
-    rt: &impl Abort,
-    h: &Hypergraph,
-    p: &mut Partition,
-    v: u32,
-    to: u32,
-) -> Result<(), Fail>
+/// Blocks of the path, and the cost that one sweep settles them at.
+#[derive(Clone, Copy)]
+struct Settling<'a> {
+    k: u32,
+    limit: u64,
+    blocks: &'a [u32],
+    cost: u64,
+}
+
+const SETTLINGS: &[Settling<'static>] = &[
+    Settling {
+        k: 2,
+        limit: 4,
+        blocks: &[0, 1, 0, 1, 0, 1],
+        cost: 1,
+    },
+    Settling {
+        k: 16,
+        limit: 6,
+        blocks: &[0, 1, 2, 3, 4, 5],
+        cost: 0,
+    },
+];
+
+/// Whether the log has one sweep alone, which lowers a cost of 5 to this one.
+fn is_one_sweep(log: &RoundList, cost: u64) -> bool {
+    match log.slice() {
+        [round] => round.kind == Kind::Sweep && round.before == 5 && round.after == cost,
+        _ => false,
+    }
+}
+
+/// Whether the partition has this cost, and is settled or not.
+fn stands_at(h: &Hypergraph, p: &Partition, cost: u64, is_settled: bool) -> bool
+    requires { p.now.hyper ≡ h.now }
+{
+    p.cost(h) == cost && p.settled(h) == is_settled
+}
+
+/// Whether the blocks cost 5, and one sweep settles them at the row's cost.
+fn is_settled(alloc: Global, h: &Hypergraph, row: &Settling<'_>) -> Result<bool, Fail> {
+    let mut p = parted(alloc, h, row.k, row.limit, row.blocks)?;
+    let begins = stands_at(h, &p, 5, false);
+    let mut log = RoundList::new(alloc);
+    let rounds = p.settle(alloc, h, &mut log)?;
+    Ok(
+        begins
+            && rounds == 1
+            && stands_at(h, &p, row.cost, true)
+            && p.fits()
+            && is_one_sweep(&log, row.cost),
+    )
+}
+
+#[test]
+fn settles_path(rt: HostRuntime) -> Result<(), Fail> {
+    let h = path(rt.alloc())?;
+    for row in SETTLINGS {
+        assert!(rt; is_settled(rt.alloc(), &h, row)?, "{} blocks", row.k);
+    }
+    Ok(())
+}
+
+/// The blocks that a sweep of the four nets begins with, and those that it leaves.
+const UNSWEPT: &[u32] = &[0, 1, 0, 1, 0, 1, 0];
+
+const SWEPT: &[u32] = &[1, 1, 0, 1, 0, 1, 0];
+
+/// Whether the log has the move of vertex 0 alone, which saves 2.
+fn is_one_move(log: &Moves) -> bool {
+    match log.slice() {
+        [step] => step.vertex == 0 && step.from == 0 && step.to == 1 && step.booked == 2,
+        _ => false,
+    }
+}
+
+/// Whether the partition is the one that the sweep leaves, with its loads and the counts of the second net.
+fn is_swept(h: &Hypergraph, p: &Partition) -> bool
+    requires belongs { p.now.hyper ≡ h.now }
+    requires nets { net_count h.now ≡ 4 }
+    requires blocks { p.now.k ≡ 2 }
+{
+    p.blocks() == SWEPT
+        && (p.cost(h) == 18 && p.limit() == 4)
+        && (p.weight(0) == 3 && p.weight(1) == 4)
+        && (p.count(1, 0) == 2 && p.count(1, 1) == 2)
+}
+
+/// Whether the first sweep moves one vertex, and the second one none.
+fn sweeps_once(alloc: Global, h: &Hypergraph) -> Result<bool, Fail>
+    requires { net_count h.now ≡ 4 }
+{
+    let mut p = parted(alloc, h, 2, 4, UNSWEPT)?;
+    let begins = p.cost(h) == 20;
+    let mut log = Moves::new(alloc);
+    let moved = p.sweep(alloc, h, &mut log)?;
+    let made = is_one_move(&log) && is_swept(h, &p) && p.k() == 2;
+    let moved_again = p.sweep(alloc, h, &mut log)?;
+    Ok(begins && moved && made && !moved_again && p.into_blocks().slice() == SWEPT)
+}
+
+#[test]
+fn one_sweep(rt: HostRuntime) -> Result<(), Fail> {
+    let h = Hypergraph::build(rt.alloc(), four_nets(rt.alloc())?)?;
+    assert!(rt; sweeps_once(rt.alloc(), &h)?);
+    Ok(())
+}
+
+/// An objective, and what three blocks of the four nets cost by it.
+#[derive(Clone, Copy)]
+struct Shifting {
+    objective: Objective,
+    cost: u64,
+}
+
+const SHIFTINGS: &[Shifting] = &[
+    Shifting {
+        objective: Objective::Connectivity,
+        cost: 38,
+    },
+    Shifting {
+        objective: Objective::CutNet,
+        cost: 20,
+    },
+    Shifting {
+        objective: Objective::ExternalDegree,
+        cost: 58,
+    },
+];
+
+/// Vertices, and the blocks that they are moved to.
+const SHIFTS: &[(u32, u32)] = &[(0, 1), (2, 1), (3, 1), (4, 0), (5, 1), (6, 2)];
+
+/// Moves a vertex, and says whether its gain was what the cost fell by.
+fn saves_its_gain(h: &Hypergraph, p: &mut Partition, v: u32, to: u32) -> bool
+    requires belongs { p.old.hyper ≡ h.now }
+    requires vertex { v < vertex_count h.now }
+    requires block { to < p.old.k }
+    ensures hyper { p.new.hyper ≡ h.now }
+{
+    let before = p.cost(h) as i64;
+    let gain = p.gain(h, v, to);
+    p.shift(h, v, to);
+    gain == before - p.cost(h) as i64
+}
+
+/// Whether each of the moves saves its gain.
+fn save_their_gains(h: &Hypergraph, p: &mut Partition) -> bool
+    requires { p.old.hyper ≡ h.now }
+{
+    for (v, to) in SHIFTS {
+        if *v >= h.vertices() || *to >= p.k() || !saves_its_gain(h, p, *v, *to) {
+            return false;
+        }
+    }
+    true
+}
+
+/// Whether the blocks cost what they should, and each of the moves saves its gain.
+fn is_shifted(alloc: Global, row: &Shifting) -> Result<bool, Fail> {
+    let mut flat = four_nets(alloc)?;
+    flat.set_objective(row.objective);
+    let h = Hypergraph::build(alloc, flat)?;
+    let mut p = parted(alloc, &h, 3, 3, &[0, 1, 2, 0, 1, 2, 0])?;
+    Ok(p.cost(&h) == row.cost && save_their_gains(&h, &mut p))
+}
+
+#[test]
+fn costs_and_gains(rt: HostRuntime) -> Result<(), Fail> {
+    for row in SHIFTINGS {
+        assert!(rt; is_shifted(rt.alloc(), row)?, "cost {}", row.cost);
+    }
+    Ok(())
+}
+
+/// The blocks that all seven vertices are fixed to.
+const FIXED: &[u32] = &[0, 0, 0, 1, 1, 1, 0];
+
+/// Fixes each vertex to its block.
+fn fix_all(flat: &mut FlatHyper) {
+    for v in 0..flat.vertices() {
+        if let Some(block) = FIXED.get(v as usize)
+            && *block < 2
+        {
+            flat.set_fix(v, *block);
+        }
+    }
+}
+
+/// Whether the fixed vertices are settled where they are.
+fn is_kept(alloc: Global) -> Result<bool, Fail> {
+    let mut flat = four_nets(alloc)?;
+    fix_all(&mut flat);
+    let h = Hypergraph::build(alloc, flat)?;
+    let mut p = parted(alloc, &h, 2, 4, FIXED)?;
+    let mut log = RoundList::new(alloc);
+    let rounds = p.settle(alloc, &h, &mut log)?;
+    Ok(rounds == 0 && p.cost(&h) == 10 && p.blocks() == FIXED)
+}
+
+#[test]
+fn fixed_vertices_stay(rt: HostRuntime) -> Result<(), Fail> {
+    assert!(rt; is_kept(rt.alloc())?);
+    Ok(())
+}
+
+/// Whether so many pins of the net are left in block 0, and so many are in another block.
+fn has_counts(p: &Partition, to: u32, left: u32, gone: u32) -> bool
+    requires net { 0 < net_count p.now.hyper }
+    requires block { to < p.now.k }
+{
+    p.count(0, 0) == left && p.count(0, to) == gone
+}
+
+/// Moves a vertex, and says whether its gain was this one.
+fn leaves(h: &Hypergraph, p: &mut Partition, v: u32, to: u32, gain: i64) -> bool
     requires belongs { p.old.hyper ≡ h.now }
     requires vertex { v < vertex_count h.now }
     requires block { to < p.old.k }
     ensures hyper { p.new.hyper ≡ h.now }
     ensures blocks { p.new.k ≡ p.old.k }
 {
-    let before = p.cost(h) as i64;
-    let gain = p.gain(h, v, to);
+    let found = p.gain(h, v, to);
     p.shift(h, v, to);
-    assert_eq!(rt; gain, before - p.cost(h) as i64, "vertex {v} to {to}");
-    Ok(())
+    found == gain
 }
 
-#[test]
-fn settles_path(rt: HostRuntime) -> Result<(), Fail> {
-    let h = path(rt.alloc())?;
-    for (k, limit, blocks, cost) in [
-        (2, 4, [0, 1, 0, 1, 0, 1], 1),
-        (16, 6, [0, 1, 2, 3, 4, 5], 0),
-    ] {
-        let mut p = parted(&rt, rt.alloc(), &h, k, limit, &blocks)?;
-        assert_eq!(rt; (p.cost(&h), p.settled(&h)), (5, false));
-        let mut log = RoundList::new(rt.alloc());
-        assert_eq!(rt; p.settle(rt.alloc(), &h, &mut log)?, 1);
-        assert_eq!(rt; (p.cost(&h), p.settled(&h), p.fits()), (cost, true, true));
-        assert_eq!(rt; log.len(), 1);
-        let round = &log.slice()[0];
-        assert_eq!(rt;
-            (round.kind, round.before, round.after),
-            (Kind::Sweep, 5, cost)
-        );
-    }
-    Ok(())
-}
-
-#[test]
-fn one_sweep(rt: HostRuntime) -> Result<(), Fail> {
-    let h = Hypergraph::build(rt.alloc(), four_nets(rt.alloc())?)?;
-    let mut p = parted(&rt, rt.alloc(), &h, 2, 4, &[0, 1, 0, 1, 0, 1, 0])?;
-    assert_eq!(rt; p.cost(&h), 20);
-    let mut log = Moves::new(rt.alloc());
-    assert!(rt; p.sweep(rt.alloc(), &h, &mut log)?);
-    assert_eq!(rt; log.len(), 1);
-    let step = log.slice()[0];
-    assert_eq!(rt;
-        (step.vertex, step.from, step.to, step.booked),
-        (0, 0, 1, 2)
-    );
-    assert_eq!(rt; p.blocks(), [1, 1, 0, 1, 0, 1, 0].as_slice());
-    assert_eq!(rt; (p.cost(&h), p.k(), p.limit()), (18, 2, 4));
-    assert_eq!(rt; (p.weight(0), p.weight(1)), (3, 4));
-    assert_eq!(rt; (p.count(1, 0), p.count(1, 1)), (2, 2));
-    assert!(rt; !p.sweep(rt.alloc(), &h, &mut log)?);
-    assert_eq!(rt; p.into_blocks().slice(), [1, 1, 0, 1, 0, 1, 0].as_slice());
-    Ok(())
-}
-
-#[test]
-fn costs_and_gains(rt: HostRuntime) -> Result<(), Fail> {
-    for (objective, cost) in [
-        (Objective::Connectivity, 38),
-        (Objective::CutNet, 20),
-        (Objective::ExternalDegree, 58),
-    ] {
-        let mut flat = four_nets(rt.alloc())?;
-        flat.set_objective(objective);
-        let h = Hypergraph::build(rt.alloc(), flat)?;
-        let mut p = parted(&rt, rt.alloc(), &h, 3, 3, &[0, 1, 2, 0, 1, 2, 0])?;
-        assert_eq!(rt; p.cost(&h), cost);
-        try_shift(&rt, &h, &mut p, 0, 1)?;
-        try_shift(&rt, &h, &mut p, 2, 1)?;
-        try_shift(&rt, &h, &mut p, 3, 1)?;
-        try_shift(&rt, &h, &mut p, 4, 0)?;
-        try_shift(&rt, &h, &mut p, 5, 1)?;
-        try_shift(&rt, &h, &mut p, 6, 2)?;
-    }
-    Ok(())
-}
-
-#[test]
-fn fixed_vertices_stay(rt: HostRuntime) -> Result<(), Fail> {
-    let mut flat = four_nets(rt.alloc())?;
-    let blocks = [0, 0, 0, 1, 1, 1, 0];
-    flat.set_fix(0, 0);
-    flat.set_fix(1, 0);
-    flat.set_fix(2, 0);
-    flat.set_fix(3, 1);
-    flat.set_fix(4, 1);
-    flat.set_fix(5, 1);
-    flat.set_fix(6, 0);
-    let h = Hypergraph::build(rt.alloc(), flat)?;
-    let mut p = parted(&rt, rt.alloc(), &h, 2, 4, &blocks)?;
-    let mut log = RoundList::new(rt.alloc());
-    assert_eq!(rt; p.settle(rt.alloc(), &h, &mut log)?, 0);
-    assert_eq!(rt; p.cost(&h), 10);
-    assert_eq!(rt; p.blocks(), blocks.as_slice());
-    Ok(())
-}
-
-/// A net of so many pins in one block, of which one and then another go to block `to`.
-fn leave_one_by_one(rt: &impl Abort, alloc: Global, pins: u32, to: u32) -> Result<(), Fail>
+/// Whether one and then another of so many pins in one net go to block `to`.
+fn leave_one_by_one(alloc: Global, pins: u32, to: u32) -> Result<bool, Fail>
     requires some { 2 ≤ pins }
     requires few { pins ≤ 2 ^ 22 }
     requires block { to < 5 }
 {
     let h = one_net(alloc, pins)?;
     let zeros = vec![in alloc; 0u32; pins as usize]?;
-    let mut p = parted(rt, alloc, &h, 5, u64::from(pins), zeros.as_slice())?;
-    assert_eq!(rt; (p.count(0, 0), p.count(0, to)), (pins, 0));
-    assert_eq!(rt; p.gain(&h, 0, to), -3);
-    p.shift(&h, 0, to);
-    assert_eq!(rt; (p.count(0, 0), p.count(0, to)), (pins - 1, 1));
-    assert_eq!(rt; p.gain(&h, 1, to), 0);
-    p.shift(&h, 1, to);
-    assert_eq!(rt; (p.count(0, 0), p.count(0, to)), (pins - 2, 2));
-    assert_eq!(rt; (p.cost(&h), p.weight(to)), (3, 2));
-    Ok(())
+    let mut p = parted(alloc, &h, 5, u64::from(pins), zeros.as_slice())?;
+    let begins = has_counts(&p, to, pins, 0);
+    let first = leaves(&h, &mut p, 0, to, -3) && has_counts(&p, to, pins - 1, 1);
+    let second = leaves(&h, &mut p, 1, to, 0) && has_counts(&p, to, pins - 2, 2);
+    Ok(begins && first && second && p.cost(&h) == 3 && p.weight(to) == 2)
 }
 
 #[test]
 fn counts_of_wide_nets(rt: HostRuntime) -> Result<(), Fail> {
     // The last width of 16 bits, and the first of 32, at the end of a word and at its beginning.
     for (pins, to) in [(65_535, 3), (65_536, 1), (65_536, 4)] {
-        leave_one_by_one(&rt, rt.alloc(), pins, to)?;
+        assert!(rt; leave_one_by_one(rt.alloc(), pins, to)?, "{pins} pins");
     }
     Ok(())
 }
 
-#[test]
-fn projection(rt: HostRuntime) -> Result<(), Fail> {
-    let fine = Hypergraph::build(rt.alloc(), four_nets(rt.alloc())?)?;
-    let mut flat = FlatHyper::start(rt.alloc(), 3)?;
+/// The seven vertices in three places, of weights 2, 2 and 3, with the nets that are left.
+fn three_places(alloc: Global) -> Result<Hypergraph, NoMemory>
+    ensures { IfOk result (λ h. vertex_count h ≡ 3) }
+{
+    let mut flat = FlatHyper::start(alloc, 3)?;
     flat.set_vertex_weight(0, 2);
     flat.set_vertex_weight(1, 2);
     flat.set_vertex_weight(2, 3);
     flat.push_net(7, &[0, 1])?;
     flat.push_net(3, &[0, 2])?;
     flat.push_net(8, &[1, 2])?;
-    let coarse = Hypergraph::build(rt.alloc(), flat)?;
-    let p = parted(&rt, rt.alloc(), &coarse, 2, 5, &[0, 1, 1])?;
-    assert_eq!(rt; p.cost(&coarse), 10);
-    assert!(rt; fine.suits(2));
-    assert!(rt; fine.fixed_within(2));
-    let q = p.project(rt.alloc(), &fine, &[0, 0, 1, 1, 2, 2, 2])?;
-    assert_eq!(rt; q.blocks(), [0, 0, 1, 1, 1, 1, 1].as_slice());
-    assert_eq!(rt; (q.cost(&fine), q.weight(0), q.weight(1)), (10, 2, 5));
+    Hypergraph::build(alloc, flat)
+}
+
+/// Whether the projected partition has the blocks of the places, their cost and their loads.
+fn is_projected(h: &Hypergraph, p: &Partition) -> bool
+    requires belongs { p.now.hyper ≡ h.now }
+    requires blocks { p.now.k ≡ 2 }
+{
+    p.blocks() == [0, 0, 1, 1, 1, 1, 1].as_slice()
+        && (p.cost(h) == 10 && p.weight(0) == 2 && p.weight(1) == 5)
+}
+
+/// Whether a partition of the places keeps its cost where it is projected.
+fn projects(alloc: Global, coarse: &Hypergraph, fine: &Hypergraph) -> Result<bool, Fail>
+    requires coarse { vertex_count coarse.now ≡ 3 }
+    requires fine { vertex_count fine.now ≡ 7 }
+{
+    if !fine.suits(2) || !fine.fixed_within(2) {
+        return Ok(false);
+    }
+    let p = parted(alloc, coarse, 2, 5, &[0, 1, 1])?;
+    let q = p.project(alloc, fine, &[0, 0, 1, 1, 2, 2, 2])?;
+    Ok(p.cost(coarse) == 10 && is_projected(fine, &q))
+}
+
+#[test]
+fn projection(rt: HostRuntime) -> Result<(), Fail> {
+    let fine = Hypergraph::build(rt.alloc(), four_nets(rt.alloc())?)?;
+    let coarse = three_places(rt.alloc())?;
+    assert!(rt; projects(rt.alloc(), &coarse, &fine)?);
     Ok(())
 }
 
-/// Checks the words with which a round in so many blocks begins.
-fn try_words(rt: &impl Abort, alloc: Global, k: u32) -> Result<(), Fail>
-    requires some { 2 ≤ k }
-    requires few { k ≤ 4 }
-{
-    let h = Hypergraph::build(alloc, four_nets(alloc)?)?;
-    let p = parted(rt, alloc, &h, k, 7, &[0, 0, 1, 1, 0, 0, 1])?;
-    let (ready, cost) = p.into_ready(&h);
-    assert_eq!(rt; (cost, ready.k(), ready.limit()), (18, k, 7));
-    assert_eq!(rt; ready.blocks(), [0, 0, 1, 1, 0, 0, 1].as_slice());
-    let mut words = Vec::from_slice(alloc, &[0, 0, 0, 0, 0, 0, 0, 0, 0])?;
-    words.extend_from_slice(&[0, 0, 1, 1, 0, 0, 1])?;
-    words.extend_from_slice(&[4, 3, 0, 0][..k as usize])?;
-    words.extend_from_slice(&[65, 2, 66, 65_539, 66, 65_538, 66, 131_073])?;
-    assert_eq!(rt; ready.words(), words.as_slice());
-    assert_eq!(rt; ready.into_partition().cost(&h), 18);
-    Ok(())
+/// The blocks that a round begins with.
+const OPENING: &[u32] = &[0, 0, 1, 1, 0, 0, 1];
+
+/// A number of blocks, and the words with which a round in them begins.
+#[derive(Clone, Copy)]
+struct Opening<'a> {
+    k: u32,
+    words: &'a [u64],
+}
+
+/// By the counts of two blocks, and by the pins where there are four.
+const OPENINGS: &[Opening<'static>] = &[
+    Opening {
+        k: 2,
+        words: &[
+            0, 0, 0, 0, 0, 0, 0, 0, 0, 0, 0, 1, 1, 0, 0, 1, 4, 3, 65, 2, 66, 65_539, 66, 65_538,
+            66, 131_073,
+        ],
+    },
+    Opening {
+        k: 4,
+        words: &[
+            0, 0, 0, 0, 0, 0, 0, 0, 0, 0, 0, 1, 1, 0, 0, 1, 4, 3, 0, 0, 65, 2, 66, 65_539, 66,
+            65_538, 66, 131_073,
+        ],
+    },
+];
+
+/// Whether the partition has the words of the opening.
+fn has_words(ready: &Ready, row: &Opening<'_>) -> bool {
+    ready.k() == row.k
+        && ready.limit() == 7
+        && ready.blocks() == OPENING
+        && ready.words() == row.words
+}
+
+/// Whether a round in so many blocks begins with these words, and the partition is given back.
+fn is_opened(alloc: Global, h: &Hypergraph, row: &Opening<'_>) -> Result<bool, Fail> {
+    let p = parted(alloc, h, row.k, 7, OPENING)?;
+    let (ready, cost) = p.into_ready(h);
+    Ok(cost == 18 && has_words(&ready, row) && ready.into_partition().cost(h) == 18)
 }
 
 #[test]
 fn words_of_a_round(rt: HostRuntime) -> Result<(), Fail> {
-    // By the counts of two blocks, and by the pins where there are four.
-    try_words(&rt, rt.alloc(), 2)?;
-    try_words(&rt, rt.alloc(), 4)
+    let h = Hypergraph::build(rt.alloc(), four_nets(rt.alloc())?)?;
+    for row in OPENINGS {
+        assert!(rt; is_opened(rt.alloc(), &h, row)?, "{} blocks", row.k);
+    }
+    Ok(())
 }
