@@ -36,7 +36,7 @@ unmoved : (p : List ℕ) (v b : ℕ) → block_of p v ≡ b → slice_set p v b 
 unmoved p v b e = ap (slice_set p v) (sym e) ∙ set-get_or p v 0
 
 -- a change and those after it
-abbrev put_change : Hyper → List ℕ → ℕ → ℕ → List Move → List Move
+abbrev pub put_change : Hyper → List ℕ → ℕ → ℕ → List Move → List Move
 put_change h p v b later =
     if nat_eq (block_of p v) b then later else (record { vertex = v; from = block_of p v; to = b; worker = 0; booked = gain h p v b } ∷ later)
 

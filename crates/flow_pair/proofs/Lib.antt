@@ -12,5 +12,6 @@ pub mod ReassignLaws
 pub mod EndLaws
 pub mod ApartLaws
 pub mod ChangeLaws
+pub mod BookLaws
 pub mod TurnLaws
 pub mod DistinctLaws

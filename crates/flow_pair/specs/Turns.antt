@@ -1,19 +1,37 @@
 -- What a flow pass makes at the turns of pairs of blocks.
-use Rattle.std.specs.Prelude.{◌≡◌, ℕ, false, List, [], ◌∷◌, ◌++◌, All, Bool, nat_eq, if◌then◌else◌}
+use Rattle.std.specs.Prelude.{◌≡◌, ℕ, false, List, [], ◌∷◌, ◌++◌, length, All, Bool, nat_eq, if◌then◌else◌, pos, ◌-ℤ◌}
 use Rattle.hg_defs.specs.declared.moves.Move.{Move}
 use Rattle.hg_defs.specs.Hypergraph.{Hyper}
 use Rattle.hg_defs.specs.Partition.{block_of, Fits}
 use Rattle.hg_defs.specs.Moves.{gain}
+use Rattle.hg_defs.specs.Sums.{total_z}
 use Rattle.pin_plain.specs.Parted.{Parted}
 use Rattle.round_log.specs.declared.record.Kind.TheVariants.{Flow}
 use Rattle.round_log.specs.declared.record.LoggedRound.{LoggedRound}
 use Rattle.round_log.specs.Rounds.{after_rounds, IsFlowRound}
 use Rattle.round_log.specs.Passes.{AreFlowRounds}
+use Rattle.flow_pair.specs.declared.solve.PairEnd.{PairEnd}
 
 -- the move of a vertex to a block, where that is another one
 abbrev pub change : Hyper → List ℕ → ℕ → ℕ → List Move
 change h p v b =
     if nat_eq (block_of p v) b then [] else (record { vertex = v; from = block_of p v; to = b; worker = 0; booked = gain h p v b } ∷ [])
+
+-- a flow round of these moves, whose cost after them is told by what they booked
+pub record IsRoundOf (level a b before : ℕ) (end : PairEnd) (moves : List Move) (r : LoggedRound) : Type 0 where
+  pub kind : r.kind ≡ Flow
+  pub level_is : r.level ≡ level
+  pub moves_are : r.moves ≡ moves
+  pub kept : r.kept ≡ length moves
+  pub gains : r.gains ≡ total_z (λ m. m.booked) moves ∷ []
+  pub before_is : r.before ≡ before
+  pub made : pos r.made ≡ pos before -ℤ total_z (λ m. m.booked) moves
+  pub after : r.after ≡ r.made
+  pub first : r.first ≡ a
+  pub second : r.second ≡ b
+  pub region : r.region ≡ end.region
+  pub value : r.value ≡ end.value
+  pub untabled : r.tabled ≡ false
 
 -- the record of a flow round of a pair, at a level
 pub record RecordsFlow (h : Hyper) (k l level : ℕ) (p : List ℕ) (a b : ℕ) (r : LoggedRound) : Type 0 where

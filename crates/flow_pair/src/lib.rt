@@ -20,7 +20,7 @@ pub use flow_net::NoMemory;
 pub use network::region_network;
 pub use pass::flow_pass;
 pub use refine::FlowPair;
-pub use round::{assign_region, record_round};
+pub use round::{assign_region, record_moves, record_round};
 pub use solve::{PairEnd, PairSolver, solve_pair};
 
 #[cfg(test)]

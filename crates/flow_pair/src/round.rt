@@ -9,7 +9,7 @@ ghost use Rattle.hg_defs.specs.Cost.{cost};
 ghost use Rattle.hg_defs.specs.Replay.{replay};
 ghost use Rattle.round_log.specs.Rounds.{changes, after_round};
 ghost use Rattle.flow_pair.specs.PairEnds.{reassigned, IsPairEnd};
-ghost use Rattle.flow_pair.specs.Turns.{change, RecordsFlow};
+ghost use Rattle.flow_pair.specs.Turns.{change, IsRoundOf, RecordsFlow};
 
 use crate::solve::PairEnd;
 use flow_net::NoMemory;
@@ -92,6 +92,44 @@ fn saved_by(moves: &[Move]) -> i128
     sum
 }
 
+/// The round of moves that assigned the region of a pair anew. The cost before it is known.
+fn round_of(
+    alloc: Global,
+    level: u32,
+    a: u32,
+    b: u32,
+    before: u64,
+    end: &PairEnd,
+    moves: Moves,
+) -> Result<LoggedRound, NoMemory>
+    requires small { before < 2 ^ 57 }
+    requires few { length moves < 2 ^ 32 }
+    requires saved { (after : ℕ) × (after ≤ before) × (total_z (λ m. m.booked) moves ≡ pos before -ℤ pos after) }
+    ensures { IfOk result (IsRoundOf level a b before end.now moves) }
+{
+    let region = end.region.copy()?;
+    let saved = saved_by(moves.slice());
+    let mut gains = Gains::new(alloc);
+    gains.push(saved as i64)?;
+    let after = (i128::from(before) - saved) as u64;
+    let kept = moves.len() as u32;
+    Ok(LoggedRound {
+        kind: Kind::Flow,
+        level,
+        moves,
+        kept,
+        gains,
+        before,
+        made: after,
+        after,
+        first: a,
+        second: b,
+        region,
+        value: end.value,
+        tabled: false,
+    })
+}
+
 /// Assigns the region of a pair anew as its end says, and records that as a round. The cost before it
 /// is known.
 pub fn record_round(
@@ -115,26 +153,48 @@ pub fn record_round(
     ensures assigned { OnOk result (p.new.blocks ≡ reassigned p.old.blocks end.now.region end.now.blocks) }
 {
     let _parted = p.blocks();
-    let region = end.region.copy()?;
     let moves = assign_region(alloc, h, p, end.region.slice(), end.blocks.slice())?;
-    let saved = saved_by(moves.slice());
-    let mut gains = Gains::new(alloc);
-    gains.push(saved as i64)?;
-    let after = (i128::from(before) - saved) as u64;
-    let kept = moves.len() as u32;
-    Ok(LoggedRound {
-        kind: Kind::Flow,
-        level,
-        moves,
-        kept,
-        gains,
-        before,
-        made: after,
-        after,
-        first: a,
-        second: b,
-        region,
-        value: end.value,
-        tabled: false,
-    })
+    round_of(alloc, level, a, b, before, end, moves)
+}
+
+/// Writes the blocks that moves lead to.
+fn make_moves(blocks: &mut [u32], moves: &[Move])
+    requires { All (λ m. m.vertex < length blocks.old) moves.now }
+    ensures { blocks.new ≡ replay blocks.old moves.now }
+{
+    for step in moves {
+        blocks[step.vertex as usize] = step.to;
+    }
+}
+
+/// Records the moves that assign the region of a pair anew, as its end says, as a round, and writes where they
+/// lead. The cost before it is known. The blocks are those of a partition of the same hypergraph into as many
+/// blocks, with the same limit, as the one that is lent.
+pub fn record_moves(
+    alloc: Global,
+    h: &Hypergraph,
+    level: u32,
+    p: &Partition,
+    blocks: &mut [u32],
+    a: u32,
+    b: u32,
+    before: u64,
+    end: &PairEnd,
+    moves: &Moves,
+) -> Result<LoggedRound, NoMemory>
+    requires belongs { p.now.hyper ≡ h.now }
+    requires vertices { length blocks.old ≡ vertex_count h.now }
+    requires before { before ≡ cost h.now blocks.old }
+    requires small { before < 2 ^ 57 }
+    requires end { IsPairEnd h.now p.now.k p.now.limit blocks.old a b end.now }
+    requires moves { moves.now ≡ changes h.now blocks.old (reassigned blocks.old end.now.region end.now.blocks)
+        end.now.region }
+    ensures round { IfOk result (RecordsFlow h.now p.now.k p.now.limit level blocks.old a b) }
+    ensures assigned { OnOk result (blocks.new ≡ reassigned blocks.old end.now.region end.now.blocks) }
+    ensures replayed { IfOk result (λ r. blocks.new ≡ after_round blocks.old r) }
+{
+    let _parted = p.blocks();
+    let made = moves.copy()?;
+    make_moves(blocks, made.slice());
+    round_of(alloc, level, a, b, before, end, made)
 }
