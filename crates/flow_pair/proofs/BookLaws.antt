@@ -136,9 +136,12 @@ module _ (h : Hyper) (p vs blocks : List ℕ) (count : length blocks ≡ length 
         let was = assigning n (omega arith) in
         let e : n + 1 ≡ suc n = omega arith in
         let q = slice_set was.0 (slice_index vs n) (slice_index blocks n) in
-        let moves = was.1 ++ change h was.0 (slice_index vs n) (slice_index blocks n) in
-        (q, moves, subst (λ m. IsAssigning h p vs blocks m q moves) e
-        (assigning_more h p vs blocks n was.0 was.1 moves (omega arith) count rising below refl was.2))
+        let moves = was.1 ++ change h was.0 (slice_index vs n) (slice_index blocks n) in (
+          q,
+          moves,
+          subst (λ m. IsAssigning h p vs blocks m q moves) e
+              (assigning_more h p vs blocks n was.0 was.1 moves (omega arith) count rising below refl was.2),
+        )
 
     whole : (q : List ℕ) × (moves : List Move) × IsAssigning h p vs blocks (length vs) q moves
     whole = assigning (length vs) (omega arith)

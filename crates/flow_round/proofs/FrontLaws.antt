@@ -3,7 +3,7 @@ use Rattle.std.proofs.Common.{◌≡◌, ◌≢◌, ℕ, zero, suc, ◌+◌, ◌
 use Rattle.std.proofs.Common.{Contains, Option, None, refl, sym, ap, subst, ◌∙◌, arith, if◌then◌else◌}
 use Rattle.std.specs.List.{range_with_len}
 use Rattle.std.proofs.lemmas.List.{append-nil, append_assoc}
-use Rattle.std.proofs.lemmas.List.Elements.{All-append, All-weaker, All-contains_itself}
+use Rattle.std.proofs.lemmas.List.Elements.{All-append, All-weaker, All-contains, All-contains_itself, Contains-append_left, Contains-append_right, Contains-push}
 use Rattle.hg_defs.specs.Hypergraph.{Hyper, IsHypergraph}
 use Rattle.hg_defs.specs.Partition.{IsPartition, Fits}
 use Rattle.hg_defs.proofs.DistinctLaws.{Contains-from_map}
@@ -11,13 +11,23 @@ use Rattle.hg_defs.proofs.NumberingLaws.{Contains-from_filter}
 use Rattle.pin_plain.specs.Parted.{Parted}
 use Rattle.flow_pair.specs.declared.solve.PairEnd.{PairEnd}
 use Rattle.flow_pair.proofs.MemberLaws.{Contains-from_range}
-use Rattle.flow_round.specs.PairTurns.{IsPairBelow, IsTurn, AreTurns, after_turn, after_turns, is_of_wave, wave}
-use Rattle.flow_round.specs.Waves.{end_at, GainsEnds}
+use Rattle.flow_round.specs.PairTurns.{IsPairBelow, IsBooked, IsTurn, AreBooked, AreTurns, after_turn, after_turns, is_of_wave, wave}
+use Rattle.flow_round.specs.Waves.{end_at, moves_at, GainsEnds}
 use Rattle.flow_round.specs.declared.front.Front.{Front}
 use Rattle.flow_round.specs.Fronts.{TakesPairs}
 use Rattle.flow_round.proofs.SwapLaws.{turn_kept}
-use Rattle.flow_round.proofs.TableLaws.{after_turns-append, after_turns-same, turns_append, turns_same}
+use Rattle.flow_round.proofs.TableLaws.{after_turns-append, after_turns-same, turns_append, turns_same, booked_append, booked_same}
 use Rattle.flow_round.proofs.WaveLaws.{IsOfWave, wave_is, wave_of, wave_disjoint, waves_from, waves_from-suc}
+
+-- ---- parts of a list without a pair
+
+first_ones : (x : ℕ × ℕ) (xs ys : List (ℕ × ℕ)) → All (λ y. y ≢ x) (xs ++ ys) → All (λ y. y ≢ x) xs
+first_ones x xs ys all = All-weaker (Contains xs) (λ y. y ≢ x)
+    (λ y c. All-contains (λ y. y ≢ x) (xs ++ ys) y all (Contains-append_left xs ys y c)) xs (All-contains_itself xs)
+
+last_ones : (x : ℕ × ℕ) (xs ys : List (ℕ × ℕ)) → All (λ y. y ≢ x) (xs ++ ys) → All (λ y. y ≢ x) ys
+last_ones x xs ys all = All-weaker (Contains ys) (λ y. y ≢ x)
+    (λ y c. All-contains (λ y. y ≢ x) (xs ++ ys) y all (Contains-append_right xs ys y c)) ys (All-contains_itself ys)
 
 -- ---- a wave up to a block
 
@@ -153,6 +163,8 @@ pub record TakesPair (h : Hyper) (now next : Front) (a b : ℕ) : Type 0 where
   pub turn : IsTurn h now.part.k now.part.limit now.part.blocks (a, b) (end_at now.part.k now.ends.items (a, b))
   pub part : next.part ≡ record now.part { blocks = after_turn now.part.blocks (end_at now.part.k now.ends.items (a, b)) }
   pub ends : next.ends.items ≡ now.ends.items
+  pub booked : IsBooked h now.part.blocks (end_at now.part.k now.ends.items (a, b)) (moves_at now.part.k next.made.items (a, b))
+  pub others : (x : ℕ × ℕ) → IsPairBelow now.part.k x → x ≢ (a, b) → moves_at now.part.k next.made.items x ≡ moves_at now.part.k now.made.items x
 
 -- those pairs of a wave that don't come before a have their ends
 abbrev pub HaveLaterEnds : Hyper → Parted → ℕ → ℕ → List (Option PairEnd) → Type 0
@@ -178,6 +190,24 @@ module _ (h : Hyper) (old now next : Front) (s a b : ℕ) (sound : IsHypergraph 
         ∙ ap (λ (x : Parted). record x { blocks = after_turn x.blocks (end_at x.k now.ends.items (a, b)) }) taken.same
         ∙ ap (λ c. record old.part { blocks = after_turn q (end_at old.part.k now.ends.items (a, c)) }) second
 
+    booked_there : IsBooked h q (end_at old.part.k now.ends.items (pair_in s a)) (moves_at old.part.k next.made.items (pair_in s a))
+    unfolding q
+    booked_there =
+        subst (λ c. IsBooked h q (end_at old.part.k now.ends.items (a, c)) (moves_at old.part.k next.made.items (a, c))) second
+        (subst (λ (x : Parted). IsBooked h x.blocks (end_at x.k now.ends.items (a, b)) (moves_at x.k next.made.items (a, b))) taken.same pair.booked)
+
+    others_there : (x : ℕ × ℕ) → IsPairBelow old.part.k x → x ≢ pair_in s a
+        → moves_at old.part.k next.made.items x ≡ moves_at old.part.k now.made.items x
+    others_there =
+        subst (λ c. (x : ℕ × ℕ) → IsPairBelow old.part.k x → x ≢ (a, c) → moves_at old.part.k next.made.items x ≡ moves_at old.part.k now.made.items x) second
+        (subst (λ (y : Parted). (x : ℕ × ℕ) → IsPairBelow y.k x → x ≢ (a, b) → moves_at y.k next.made.items x ≡ moves_at y.k now.made.items x) taken.same
+        pair.others)
+
+    still_booked : All (λ x. moves_at old.part.k next.made.items x ≡ moves_at old.part.k now.made.items x) (wave_below old.part.k s a)
+    still_booked = All-weaker (λ x. IsOfWave old.part.k s x × (x.0 < a)) (λ x. moves_at old.part.k next.made.items x ≡ moves_at old.part.k now.made.items x)
+        (λ x w. others_there x w.0.0 (λ e. let low = w.1 in let is = ap (λ (y : ℕ × ℕ). y.0) e in absurd (omega arith))) (wave_below old.part.k s a)
+        (below_of old.part.k s a)
+
     pub taken_more : TakesPairs h (wave_below old.part.k s (a + 1)) old next
     unfolding q
     taken_more = record {
@@ -191,6 +221,21 @@ module _ (h : Hyper) (old now next : Front) (s a b : ℕ) (sound : IsHypergraph 
       turns = subst (λ (es : List (Option PairEnd)). AreTurns h old.part.k old.part.limit (end_at old.part.k es) (wave_below old.part.k s (a + 1))
           old.part.blocks) (sym pair.ends)
           (more_turns h old.part.k old.part.limit sound old.part.blocks q now.ends.items s a t refl taken.turns turn_there);
+      booked = subst (λ (es : List (Option PairEnd)). AreBooked h (end_at old.part.k es) (moves_at old.part.k next.made.items)
+          (wave_below old.part.k s (a + 1)) old.part.blocks) (sym pair.ends)
+          (subst (λ xs. AreBooked h (end_at old.part.k now.ends.items) (moves_at old.part.k next.made.items) xs old.part.blocks)
+          (sym (wave_below-in old.part.k s a t))
+          (booked_append h (end_at old.part.k now.ends.items) (moves_at old.part.k next.made.items) (wave_below old.part.k s a) (pair_in s a ∷ [])
+          old.part.blocks
+          (booked_same h (end_at old.part.k now.ends.items) (end_at old.part.k now.ends.items) (moves_at old.part.k now.made.items)
+          (moves_at old.part.k next.made.items) (wave_below old.part.k s a) old.part.blocks (λ i d m. refl) still_booked taken.booked)
+          (booked_there, tt)));
+      others = λ x below n.
+          let all = subst (All (λ y. y ≢ x)) (wave_below-in old.part.k s a t) n in
+          others_there x below
+          (λ e. All-contains (λ y. y ≢ x) (wave_below old.part.k s a ++ pair_in s a ∷ []) (pair_in s a) all
+          (Contains-push (wave_below old.part.k s a) (pair_in s a)) (sym e))
+          ∙ taken.others x below (first_ones x (wave_below old.part.k s a) (pair_in s a ∷ []) all);
     }
 
     pub rest_more : IsPartition h now.part.k now.part.blocks → Fits h now.part.k now.part.limit now.part.blocks
@@ -232,6 +277,45 @@ module _ (h : Hyper) (old now next : Front) (mid : List (Option PairEnd)) (s : �
         subst (λ n. AreTurns h old.part.k old.part.limit (end_at old.part.k next.ends.items) (wave old.part.k n) here) (sym one)
         (subst (λ (p : Parted). AreTurns h p.k p.limit (end_at p.k next.ends.items) (wave p.k s) p.blocks) taken.same pairs.turns)
 
+    others_next : (x : ℕ × ℕ) → IsPairBelow old.part.k x → All (λ y. y ≢ x) (wave old.part.k (1 + (s - 1)))
+        → moves_at old.part.k next.made.items x ≡ moves_at old.part.k now.made.items x
+    others_next =
+        subst (λ n. (x : ℕ × ℕ) → IsPairBelow old.part.k x → All (λ y. y ≢ x) (wave old.part.k n)
+        → moves_at old.part.k next.made.items x ≡ moves_at old.part.k now.made.items x) (sym one)
+        (subst (λ (p : Parted). (x : ℕ × ℕ) → IsPairBelow p.k x → All (λ y. y ≢ x) (wave p.k s)
+        → moves_at p.k next.made.items x ≡ moves_at p.k now.made.items x) taken.same pairs.others)
+
+    next_booked : AreBooked h (end_at old.part.k next.ends.items) (moves_at old.part.k next.made.items) (wave old.part.k (1 + (s - 1))) here
+    unfolding here
+    next_booked =
+        subst (λ n. AreBooked h (end_at old.part.k next.ends.items) (moves_at old.part.k next.made.items) (wave old.part.k n) here) (sym one)
+        (subst (λ (p : Parted). AreBooked h (end_at p.k next.ends.items) (moves_at p.k next.made.items) (wave p.k s) p.blocks) taken.same pairs.booked)
+
+    moves_there : All (λ x. moves_at old.part.k next.made.items x ≡ moves_at old.part.k now.made.items x) (waves_from old.part.k 1 (s - 1))
+    moves_there = All-weaker (λ x. IsPairBelow old.part.k x × (x.0 + x.1 < 1 + (s - 1)))
+        (λ x. moves_at old.part.k next.made.items x ≡ moves_at old.part.k now.made.items x)
+        (λ x w. others_next x w.0 (All-weaker (IsOfWave old.part.k (1 + (s - 1))) (λ y. y ≢ x)
+        (λ y v e. let low = w.1 in let sum = v.1 in let is = ap (λ (z : ℕ × ℕ). z.0 + z.1) e in absurd (omega arith)) (wave old.part.k (1 + (s - 1)))
+        (wave_of old.part.k (1 + (s - 1))))) (waves_from old.part.k 1 (s - 1)) (waves_low old.part.k 1 (s - 1))
+
+    ends_there : All (λ x. end_at old.part.k next.ends.items x ≡ end_at old.part.k now.ends.items x) (waves_from old.part.k 1 (s - 1))
+    ends_there = All-weaker (λ x. IsPairBelow old.part.k x × (x.0 + x.1 < 1 + (s - 1)))
+        (λ x. end_at old.part.k next.ends.items x ≡ end_at old.part.k now.ends.items x)
+        (λ x w. kept_there x w.0 (λ e. let low = w.1 in absurd (omega arith))) (waves_from old.part.k 1 (s - 1)) (waves_low old.part.k 1 (s - 1))
+
+    all_booked : AreBooked h (end_at old.part.k next.ends.items) (moves_at old.part.k next.made.items) (waves_from old.part.k 1 (s - 1 + 1)) old.part.blocks
+    unfolding here
+    all_booked =
+        subst (λ xs. AreBooked h (end_at old.part.k next.ends.items) (moves_at old.part.k next.made.items) xs old.part.blocks)
+        (sym (waves_more old.part.k 1 (s - 1)))
+        (booked_append h (end_at old.part.k next.ends.items) (moves_at old.part.k next.made.items) (waves_from old.part.k 1 (s - 1))
+        (wave old.part.k (1 + (s - 1))) old.part.blocks
+        (booked_same h (end_at old.part.k now.ends.items) (end_at old.part.k next.ends.items) (moves_at old.part.k now.made.items)
+        (moves_at old.part.k next.made.items) (waves_from old.part.k 1 (s - 1)) old.part.blocks ends_there moves_there taken.booked)
+        (subst (AreBooked h (end_at old.part.k next.ends.items) (moves_at old.part.k next.made.items) (wave old.part.k (1 + (s - 1))))
+        (sym (after_turns-same (end_at old.part.k now.ends.items) (end_at old.part.k next.ends.items) (waves_from old.part.k 1 (s - 1)) old.part.blocks
+        ends_there)) next_booked))
+
     pub waves_taken : TakesPairs h (waves_from old.part.k 1 (s + 1 - 1)) old next
     unfolding here
     waves_taken =
@@ -249,6 +333,14 @@ module _ (h : Hyper) (old now next : Front) (mid : List (Option PairEnd)) (s : �
               subst (λ m. AreTurns h old.part.k old.part.limit (end_at old.part.k next.ends.items) (waves_from old.part.k 1 m) old.part.blocks) n
               (wave_turns h old.part.k old.part.limit old.part.blocks here rest now.ends.items next.ends.items (s - 1) refl taken.turns kept_there next_turns
               refl);
+          booked =
+              subst (λ m. AreBooked h (end_at old.part.k next.ends.items) (moves_at old.part.k next.made.items) (waves_from old.part.k 1 m) old.part.blocks) n
+              all_booked;
+          others = λ x below differ.
+              let all = subst (λ m. All (λ y. y ≢ x) (waves_from old.part.k 1 m)) (sym n) differ in
+              let parts = subst (All (λ y. y ≢ x)) (waves_more old.part.k 1 (s - 1)) all in
+              others_next x below (last_ones x (waves_from old.part.k 1 (s - 1)) (wave old.part.k (1 + (s - 1))) parts)
+              ∙ taken.others x below (first_ones x (waves_from old.part.k 1 (s - 1)) (wave old.part.k (1 + (s - 1))) parts);
         }
 
     pub none_later : ((x : ℕ × ℕ) → IsPairBelow now.part.k x → s ≤ x.0 + x.1 → end_at now.part.k now.ends.items x ≡ None)

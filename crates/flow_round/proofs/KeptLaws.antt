@@ -10,12 +10,13 @@ use Rattle.hg_defs.specs.Hypergraph.{Hyper, IsHypergraph}
 use Rattle.hg_defs.specs.Partition.{IsPartition, Fits, block_of}
 use Rattle.hg_defs.specs.Cost.{cost}
 use Rattle.hg_defs.specs.Sorting.{set_of}
-use Rattle.round_log.specs.Rounds.{touching, region, IsAssignment}
+use Rattle.round_log.specs.Rounds.{changes, touching, region, IsAssignment}
 use Rattle.round_log.proofs.AssignmentLaws.{assignment-fits, assignment-partition}
 use Rattle.flow_pair.specs.declared.solve.PairEnd.{PairEnd}
 use Rattle.flow_pair.specs.PairEnds.{reassigned, IsPairEnd}
 use Rattle.flow_pair.specs.PairNetwork.{AreOfPair}
 use Rattle.flow_pair.proofs.ApartLaws.{pairs_keep_apart, pairs_save_apart, pair_cost-same}
+use Rattle.flow_pair.proofs.BookLaws.{changes_apart}
 use Rattle.flow_pair.proofs.EndLaws.{end_rises, end_vertices, end_pair}
 use Rattle.flow_pair.proofs.PairLaws.{rearranged, among}
 use Rattle.flow_pair.proofs.ReassignLaws.{length-reassigned, reassigned-other, reassigned-at}
@@ -125,6 +126,11 @@ module _ (h : Hyper) (k l : ℕ) (p : List ℕ) (a b c d : ℕ) (vs q : List ℕ
               (All-contains (λ u. block_of (reassigned q end.region end.blocks) u ≡ block_of (reassigned p end.region end.blocks) u) end.region v same i)
           by (inr n) = ap (λ z. nat_eq z x) (reassigned-other q end.region end.blocks v n) ∙ (rearranged p q vs a b inside s).others v x xa xb
               ∙ sym (ap (λ z. nat_eq z x) (reassigned-other p end.region end.blocks v n))
+
+      -- the moves that assign its region anew are those of before
+      pub moves_kept : changes h q (reassigned q end.region end.blocks) end.region ≡ changes h p (reassigned p end.region end.blocks) end.region
+      moves_kept = changes_apart h k a b c d sound fa fb fc fd ca cb da db cd end.region p q vs (reassigned p end.region end.blocks)
+          (reassigned q end.region end.blocks) parted inside s (low p parted) pair' e.assigned.inside same
 
       pub end_kept : IsPairEnd h k l q c d end
       end_kept = record {

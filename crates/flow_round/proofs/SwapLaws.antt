@@ -2,15 +2,16 @@
 use Rattle.std.proofs.Common.{◌≡◌, ◌≢◌, ◌⊎◌, inl, inr, ℕ, List, [], ◌∷◌, All, Option, Some, None, refl, sym, ap, ◌∙◌, arith}
 use Rattle.std.proofs.Common.{slice_set}
 use Rattle.std.proofs.lemmas.List.Elements.{All-head, All-tail, All-weaker}
+use Rattle.hg_defs.specs.declared.moves.Move.{Move}
 use Rattle.hg_defs.specs.Hypergraph.{Hyper, IsHypergraph}
 use Rattle.hg_defs.specs.Partition.{IsPartition, Fits, block_of}
-use Rattle.round_log.specs.Rounds.{touching, IsAssignment}
+use Rattle.round_log.specs.Rounds.{changes, touching, IsAssignment}
 use Rattle.flow_pair.specs.declared.solve.PairEnd.{PairEnd}
 use Rattle.flow_pair.specs.PairEnds.{reassigned, IsPairEnd}
 use Rattle.flow_pair.proofs.EndLaws.{end_pair}
 use Rattle.flow_pair.proofs.ReassignLaws.{reassigned-first}
-use Rattle.flow_round.specs.PairTurns.{IsTurn, IsPairBelow, after_turn, AreDisjoint}
-use Rattle.flow_round.proofs.KeptLaws.{end_partition, touching_kept, end_kept}
+use Rattle.flow_round.specs.PairTurns.{IsBooked, IsTurn, IsPairBelow, after_turn, AreDisjoint}
+use Rattle.flow_round.proofs.KeptLaws.{end_partition, touching_kept, moves_kept, end_kept}
 
 -- ---- assignments of different vertices commute
 
@@ -96,6 +97,30 @@ module _ (h : Hyper) (k l : ℕ) (sound : IsHypergraph h) where
           (let a = wy.order in let b = wy.below in omega arith) wy.below (λ e. dis.first_first (sym e)) (λ e. dis.second_first (sym e))
           (λ e. dis.first_second (sym e)) (λ e. dis.second_second (sym e)) (λ e. absurd (let a = wy.order in omega arith))
           s.1.assigned.inside back other t.1
+
+  -- its moves are the same before and afterwards
+  moves_apart : (p : List ℕ) (x y : ℕ × ℕ) (end other : PairEnd) → IsPairBelow k x → IsPairBelow k y → AreDisjoint x y → IsPartition h k p
+      → IsTurn h k l p x (Some end) → IsTurn h k l p y (Some other)
+      → changes h (reassigned p end.region end.blocks) (reassigned (reassigned p end.region end.blocks) other.region other.blocks) other.region
+      ≡ changes h p (reassigned p other.region other.blocks) other.region
+  moves_apart p x y end other wx wy dis parted s t =
+      moves_kept h k l p x.0 x.1 y.0 y.1 end.region (reassigned p end.region end.blocks) sound parted
+      (turn_partition p x (Some end) wx parted s) s.1.fits (let a = wx.order in let b = wx.below in omega arith) wx.below
+      (let a = wy.order in let b = wy.below in omega arith) wy.below (λ e. dis.first_first (sym e)) (λ e. dis.second_first (sym e))
+      (λ e. dis.first_second (sym e)) (λ e. dis.second_second (sym e)) (λ e. absurd (let a = wy.order in omega arith))
+      (end_pair h k l p x.0 x.1 end s.1) s.1.assigned other t.1
+
+  pub booked_kept : (p : List ℕ) (x y : ℕ × ℕ) (ex ey : Option PairEnd) (moves : List Move) → IsPairBelow k x → IsPairBelow k y → AreDisjoint x y
+      → IsPartition h k p → IsTurn h k l p x ex → IsTurn h k l p y ey → IsBooked h p ey moves → IsBooked h (after_turn p ex) ey moves
+  booked_kept p x y None ey moves wx wy dis parted s t m = m
+  booked_kept p x y (Some end) None moves wx wy dis parted s t m = tt
+  booked_kept p x y (Some end) (Some other) moves wx wy dis parted s t m = m ∙ sym (moves_apart p x y end other wx wy dis parted s t)
+
+  pub booked_before : (p : List ℕ) (x y : ℕ × ℕ) (ex ey : Option PairEnd) (moves : List Move) → IsPairBelow k x → IsPairBelow k y → AreDisjoint x y
+      → IsPartition h k p → IsTurn h k l p x ex → IsTurn h k l p y ey → IsBooked h (after_turn p ex) ey moves → IsBooked h p ey moves
+  booked_before p x y None ey moves wx wy dis parted s t m = m
+  booked_before p x y (Some end) None moves wx wy dis parted s t m = tt
+  booked_before p x y (Some end) (Some other) moves wx wy dis parted s t m = m ∙ moves_apart p x y end other wx wy dis parted s t
 
   -- both orders lead to the same partition
   pub turns_commute : (p : List ℕ) (x y : ℕ × ℕ) (ex ey : Option PairEnd) → AreDisjoint x y → IsTurn h k l p x ex → IsTurn h k l p y ey

@@ -3,11 +3,12 @@ use Rattle.std.proofs.Common.{◌≡◌, ◌≢◌, ◌⊎◌, inl, inr, ℕ, �
 use Rattle.std.proofs.Common.{refl, sym, ap, ap₂, subst, ◌∙◌, arith, slice_set, get_or-set_same, get_or-set_other}
 use Rattle.std.proofs.lemmas.Bool.{cases_eq, cases_lt}
 use Rattle.std.proofs.lemmas.List.Elements.{All-head, All-tail}
+use Rattle.hg_defs.specs.declared.moves.Move.{Move}
 use Rattle.hg_defs.specs.Hypergraph.{Hyper}
 use Rattle.flow_pair.specs.declared.solve.PairEnd.{PairEnd}
-use Rattle.flow_round.specs.PairTurns.{IsPairBelow, IsTurn, AreTurns, after_turn, after_turns}
+use Rattle.flow_round.specs.PairTurns.{IsPairBelow, IsBooked, IsTurn, AreBooked, AreTurns, after_turn, after_turns}
 use Rattle.flow_round.specs.declared.worker.Found.{Found}
-use Rattle.flow_round.specs.Waves.{HasEnd, end_at}
+use Rattle.flow_round.specs.Waves.{HasEnd, end_at, moves_at}
 
 -- ---- places
 
@@ -64,6 +65,17 @@ pub end_at-other : (k : ℕ) (ends : List (Option PairEnd)) (a b : ℕ) (end : O
 end_at-other k ends a b end x l m n =
     get_or-set_other ends (a * k + b) (x.0 * k + x.1) end None (places_apart k x (a, b) m l n)
 
+-- ---- the moves of one pair more
+
+pub moves_at-here : (k : ℕ) (made : List (List Move)) (a b : ℕ) (moves : List Move) → length made ≡ k * k → a < k → b < k
+    → moves_at k (slice_set made (a * k + b) moves) (a, b) ≡ moves
+moves_at-here k made a b moves long l m = get_or-set_same made (a * k + b) moves [] (let p = place_below k a b l m in omega (arith, p, long))
+
+pub moves_at-other : (k : ℕ) (made : List (List Move)) (a b : ℕ) (moves : List Move) (x : ℕ × ℕ) → b < k → x.1 < k → x ≢ (a, b)
+    → moves_at k (slice_set made (a * k + b) moves) x ≡ moves_at k made x
+moves_at-other k made a b moves x l m n =
+    get_or-set_other made (a * k + b) (x.0 * k + x.1) moves [] (places_apart k x (a, b) m l n)
+
 -- ---- turns
 
 pub after_turns-append : (ends : ℕ × ℕ → Option PairEnd) (xs ys : List (ℕ × ℕ)) (p : List ℕ)
@@ -92,6 +104,24 @@ module _ (h : Hyper) (k l : ℕ) where
         subst (IsTurn h k l p x) (sym here) t.0,
         subst (λ e. AreTurns h k l others xs (after_turn p e)) (sym here)
             (turns_same ends others xs (after_turn p (ends x)) (All-tail (λ y. others y ≡ ends y) x xs same) t.1),
+      )
+
+module _ (h : Hyper) where
+  pub booked_append : (ends : ℕ × ℕ → Option PairEnd) (made : ℕ × ℕ → List Move) (xs ys : List (ℕ × ℕ)) (p : List ℕ) → AreBooked h ends made xs p
+      → AreBooked h ends made ys (after_turns ends xs p) → AreBooked h ends made (xs ++ ys) p
+  booked_append ends made [] ys p s t = t
+  booked_append ends made (x ∷ xs) ys p s t = (s.0, booked_append ends made xs ys (after_turn p (ends x)) s.1 t)
+
+  pub booked_same : (ends others : ℕ × ℕ → Option PairEnd) (made more : ℕ × ℕ → List Move) (xs : List (ℕ × ℕ)) (p : List ℕ)
+      → All (λ x. others x ≡ ends x) xs → All (λ x. more x ≡ made x) xs → AreBooked h ends made xs p → AreBooked h others more xs p
+  booked_same ends others made more [] p same kept t = tt
+  booked_same ends others made more (x ∷ xs) p same kept t =
+      let here = All-head (λ y. others y ≡ ends y) x xs same in
+      let moves = All-head (λ y. more y ≡ made y) x xs kept in (
+        subst (λ e. IsBooked h p e (more x)) (sym here) (subst (IsBooked h p (ends x)) (sym moves) t.0),
+        subst (λ e. AreBooked h others more xs (after_turn p e)) (sym here)
+            (booked_same ends others made more xs (after_turn p (ends x)) (All-tail (λ y. others y ≡ ends y) x xs same)
+            (All-tail (λ y. more y ≡ made y) x xs kept) t.1),
       )
 
 -- ---- an end that was found is written

@@ -1,7 +1,7 @@
 -- The waves have just the pairs of blocks, and two pairs that share a block stand in them in the order of a pass.
 use Rattle.std.proofs.Common.{◌≡◌, ◌≢◌, ◌⊎◌, inl, inr, ℕ, zero, suc, ◌+◌, ◌-◌, ◌*◌, ◌<◌, ◌≤◌, true}
 use Rattle.std.proofs.Common.{◌&&◌, nat_lt, List, [], ◌∷◌, ◌++◌, map, filter}
-use Rattle.std.proofs.Common.{All, AllPairs, Contains, refl, sym, ap, subst, ◌∙◌, arith, get_or}
+use Rattle.std.proofs.Common.{All, AllPairs, Contains, Option, refl, sym, ap, subst, ◌∙◌, arith, get_or}
 use Rattle.std.specs.declared.cmp.Ordering.TheVariants.{Less, Equal}
 use Rattle.std.specs.Cmp.{nat_cmp_is}
 use Rattle.std.specs.List.{range_with_len, flat_map, AllByRecursion}
@@ -11,6 +11,9 @@ use Rattle.std.proofs.lemmas.Bool.{and_parts, ltb-true, lt-ltb, cases_eq, cases_
 use Rattle.std.proofs.lemmas.List.{get_or_default}
 use Rattle.std.proofs.lemmas.List.Concat.{flat_map-cons}
 use Rattle.std.proofs.lemmas.List.Elements.{All-nil, All-head, All-tail, All-append, All-map, All-weaker, All-contains, All-contains_itself}
+use Rattle.hg_defs.specs.declared.moves.Move.{Move}
+use Rattle.hg_defs.specs.Hypergraph.{Hyper, IsHypergraph}
+use Rattle.hg_defs.specs.Partition.{IsPartition, Fits}
 use Rattle.hg_defs.specs.Sorting.{lower_first, set_of}
 use Rattle.hg_defs.proofs.DistinctLaws.{Contains-map, Contains-from_map}
 use Rattle.hg_defs.proofs.NumberingLaws.{Contains-from_filter, Contains_range}
@@ -18,12 +21,13 @@ use Rattle.hg_defs.proofs.PlacementLaws.{Contains_filter}
 use Rattle.hg_defs.proofs.SortLaws.{lower_first_total, lower_first_exact, set_is}
 use Rattle.round_log.specs.Passes.{block_pairs}
 use Rattle.round_log.proofs.PairLaws.{pairs_are_of_blocks, pairs_rise}
+use Rattle.flow_pair.specs.declared.solve.PairEnd.{PairEnd}
 use Rattle.flow_pair.proofs.MemberLaws.{Contains-flat_map}
 use Rattle.flow_pair.proofs.NetLaws.{kept_rises}
 use Rattle.flow_pair.proofs.RegionLaws.{rising-tail, rising-first}
-use Rattle.flow_round.specs.PairTurns.{AreDisjoint, IsPairBelow, AreTurns, after_turns, is_of_wave, wave, waves}
+use Rattle.flow_round.specs.PairTurns.{AreBooked, AreDisjoint, IsPairBelow, AreTurns, after_turns, is_of_wave, wave, waves}
 use Rattle.flow_round.specs.Laws.{WavesAreAPass}
-use Rattle.flow_round.proofs.OrderLaws.{MayPass, MayBeSorted, set_turns}
+use Rattle.flow_round.proofs.OrderLaws.{MayPass, MayBeSorted, set_turns, set_booked}
 
 -- ---- the order of pairs
 
@@ -209,3 +213,10 @@ waves_pass_order h k l ends p sound parted fits t =
       subst (λ xs. AreTurns h k l ends xs p) same set.0,
       subst (λ xs. after_turns ends xs p ≡ after_turns ends (waves k) p) same set.1,
     )
+
+-- the moves of the waves are those of the pass
+pub waves_booked : (h : Hyper) (k l : ℕ) (ends : ℕ × ℕ → Option PairEnd) (made : ℕ × ℕ → List Move) (p : List ℕ) → IsHypergraph h → IsPartition h k p
+    → Fits h k l p → AreTurns h k l ends (waves k) p → AreBooked h ends made (waves k) p → AreBooked h ends made (block_pairs k) p
+waves_booked h k l ends made p sound parted fits t m =
+    subst (λ xs. AreBooked h ends made xs p) (sym (waves_are_pairs k))
+    (set_booked h k l sound ends made (waves k) p parted fits (waves_below k) (waves_may k) t m)

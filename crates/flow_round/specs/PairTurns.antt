@@ -1,8 +1,9 @@
 -- The turns of pairs of blocks whose ends were found: in the order of a pass, or in waves.
 use Rattle.std.specs.Prelude.{◌≡◌, ◌≢◌, ℕ, ◌-◌, ◌*◌, ◌<◌, List, [], ◌∷◌, map, filter, Bool, ◌&&◌, nat_lt, Option, Some, None}
 use Rattle.std.specs.List.{range_with_len, flat_map}
+use Rattle.hg_defs.specs.declared.moves.Move.{Move}
 use Rattle.hg_defs.specs.Hypergraph.{Hyper}
-use Rattle.round_log.specs.Rounds.{touching}
+use Rattle.round_log.specs.Rounds.{changes, touching}
 use Rattle.flow_pair.specs.declared.solve.PairEnd.{PairEnd}
 use Rattle.flow_pair.specs.PairEnds.{reassigned, IsPairEnd}
 
@@ -24,6 +25,16 @@ after_turns ends (pair ∷ pairs) p = after_turns ends pairs (after_turn p (ends
 abbrev pub AreTurns : Hyper → ℕ → ℕ → (ℕ × ℕ → Option PairEnd) → List (ℕ × ℕ) → List ℕ → Type 0
 AreTurns h k l ends [] p = Unit {0}
 AreTurns h k l ends (pair ∷ pairs) p = IsTurn h k l p pair (ends pair) × AreTurns h k l ends pairs (after_turn p (ends pair))
+
+-- the moves of a turn: those that assign the region of its end anew
+abbrev pub IsBooked : Hyper → List ℕ → Option PairEnd → List Move → Type 0
+IsBooked h p None moves = Unit {0}
+IsBooked h p (Some end) moves = moves ≡ changes h p (reassigned p end.region end.blocks) end.region
+
+-- each pair of a list has its moves at its turn
+abbrev pub AreBooked : Hyper → (ℕ × ℕ → Option PairEnd) → (ℕ × ℕ → List Move) → List (ℕ × ℕ) → List ℕ → Type 0
+AreBooked h ends made [] p = Unit {0}
+AreBooked h ends made (pair ∷ pairs) p = IsBooked h p (ends pair) (made pair) × AreBooked h ends made pairs (after_turn p (ends pair))
 
 -- two blocks below k, the lower one first
 pub record IsPairBelow (k : ℕ) (x : ℕ × ℕ) : Type 0 where

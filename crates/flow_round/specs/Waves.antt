@@ -1,5 +1,6 @@
 -- What stands while pairs are solved in waves.
 use Rattle.std.specs.Prelude.{◌≡◌, ◌≢◌, ◌⊎◌, ℕ, ◌+◌, ◌-◌, ◌<◌, ◌*◌, List, [], All, Contains, true, slice_index_or, Option, None}
+use Rattle.hg_defs.specs.declared.moves.Move.{Move}
 use Rattle.hg_defs.specs.Hypergraph.{Hyper}
 use Rattle.round_log.specs.Rounds.{touching}
 use Rattle.pin_plain.specs.Parted.{Parted}
@@ -11,6 +12,10 @@ use Rattle.flow_round.specs.PairTurns.{IsPairBelow, IsTurn, is_of_wave}
 -- the end of a pair in a table of k times k places
 abbrev pub end_at : ℕ → List (Option PairEnd) → ℕ × ℕ → Option PairEnd
 end_at k ends x = slice_index_or ends (x.0 * k + x.1) None
+
+-- the moves of a pair in such a table
+abbrev pub moves_at : ℕ → List (List Move) → ℕ × ℕ → List Move
+moves_at k made x = slice_index_or made (x.0 * k + x.1) []
 
 -- the first blocks of pairs of a wave, among them those below n whose pair is touched by a net
 pub record AreTouched (h : Hyper) (p : Parted) (s n : ℕ) (firsts : List ℕ) : Type 0 where

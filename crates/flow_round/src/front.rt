@@ -1,17 +1,18 @@
 //! A partition while its pairs of blocks are solved in waves.
 
-ghost use Rattle.std.specs.Prelude.{◌≡◌, ℕ, ◌<◌, OnOk, length, None};
-ghost use Rattle.flow_round.specs.PairTurns.{IsPairBelow, IsTurn, after_turn, wave as wave_pairs, waves};
+ghost use Rattle.std.specs.Prelude.{◌≡◌, ◌≢◌, ℕ, ◌<◌, OnOk, length, None};
+ghost use Rattle.flow_round.specs.PairTurns.{IsBooked, IsPairBelow, IsTurn, after_turn, wave as wave_pairs, waves};
 ghost use Rattle.flow_round.specs.Fronts.{IsFront, TakesPairs};
-ghost use Rattle.flow_round.specs.Waves.{AreWorkers, HaveEnds, end_at};
+ghost use Rattle.flow_round.specs.Waves.{AreWorkers, HaveEnds, end_at, moves_at};
 
-use crate::table::{end_of, place_of};
+use crate::table::{end_of, place_of, put_moves};
 use crate::touched::partner_of;
 use crate::worker::{Worker, solve_wave};
 use crew::Gate;
 use flow_pair::{CutNets, NoMemory, PairEnd, assign_region};
 use incidence::Hypergraph;
 use pin_plain::Partition;
+use round_log::Moves;
 use std::alloc::Global;
 use std::thread::Threads;
 
@@ -22,10 +23,12 @@ pub(crate) struct Front {
     pub(crate) cut: CutNets,
     /// The end of each pair, at the first block times the number of blocks plus the second one.
     pub(crate) ends: Vec<Option<PairEnd>>,
+    /// At the same places the moves that assigned their regions.
+    pub(crate) made: Vec<Moves>,
 }
 
 impl Front {
-    /// Assigns the region of a pair as its end says.
+    /// Assigns the region of a pair as its end says, and keeps the moves.
     fn apply(&mut self, alloc: Global, h: &Hypergraph, a: u32, b: u32) -> Result<(), NoMemory>
         requires front { IsFront h.now self.old }
         requires below { IsPairBelow self.old.part.k (a, b) }
@@ -37,6 +40,10 @@ impl Front {
               (end_at self.old.part.k self.old.ends.items (a, b));
         }) }
         ensures ends { OnOk result (self.new.ends.items ≡ self.old.ends.items) }
+        ensures booked { OnOk result (IsBooked h.now self.old.part.blocks
+            (end_at self.old.part.k self.old.ends.items (a, b)) (moves_at self.old.part.k self.new.made.items (a, b))) }
+        ensures others { OnOk result ((x : ℕ × ℕ) → IsPairBelow self.old.part.k x → x ≢ (a, b) → moves_at
+            self.old.part.k self.new.made.items x ≡ moves_at self.old.part.k self.old.made.items x) }
     {
         let _blocks = self.part.blocks();
         let place = place_of(self.part.k(), a, b);
@@ -51,6 +58,7 @@ impl Front {
             end.blocks.slice(),
         )?;
         self.cut.add_nets_of(alloc, h, moves.slice(), a, b)?;
+        put_moves(&mut self.made, place, moves);
         Ok(())
     }
 

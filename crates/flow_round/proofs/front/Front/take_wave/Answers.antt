@@ -43,6 +43,8 @@ loop-a-preserved c = elim c.match-partner_of.branch [
             (c.loop-a.invariant.rest (a, c.args.wave - a) below of_wave.1 (omega arith));
         part = e.part;
         ends = e.ends;
+        booked = e.booked;
+        others = e.others;
       } in
       let is = sym w.self-is in
       record {

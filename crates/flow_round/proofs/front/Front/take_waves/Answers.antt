@@ -24,6 +24,8 @@ loop-wave-preserved g c =
     let pairs : TakesPairs h (wave now.part.k s) now next = record {
       same = c.in_ok-take_wave.ensures.turns.same;
       turns = c.in_ok-take_wave.ensures.turns.turns;
+      booked = c.in_ok-take_wave.ensures.turns.booked;
+      others = c.in_ok-take_wave.ensures.turns.others;
     } in
     record {
       front = c.in_ok-take_wave.ensures.front;
