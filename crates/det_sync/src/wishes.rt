@@ -33,11 +33,7 @@ fn pin_count(h: &Hypergraph) -> usize {
 
 /// Where the vertices are cut into parts, from 0 to their number: into one part for each worker, whose
 /// vertices are on about as many nets as those of another one.
-pub(crate) fn cuts_of(
-    alloc: Global,
-    h: &Hypergraph,
-    workers: u32,
-) -> Result<Vec<u32>, AllocError>
+pub(crate) fn cuts_of(alloc: Global, h: &Hypergraph, workers: u32) -> Result<Vec<u32>, AllocError>
     requires some { 1 ≤ workers }
     ensures { IfOk result (λ cuts. AreCuts (vertex_count h.now) cuts.items) }
 {
