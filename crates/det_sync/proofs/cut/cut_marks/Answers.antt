@@ -1,4 +1,4 @@
-use Rattle.std.proofs.Common.{◌∙◌, false, length, ap, sym, subst, arith}
+use Rattle.std.proofs.Common.{◌∙◌, false, ap, sym, subst, arith}
 use Rattle.det_sync.specs.CutNets.{is_cut, AreCutMarks}
 use Rattle.det_sync.proofs.CutLaws.{written}
 use Rattle.det_sync.proofs.cut.cut_marks.Goals as goal

@@ -1,4 +1,4 @@
-use Rattle.std.proofs.Common.{◌≡◌, ◌<◌, ◌-◌, ◌∙◌, List, Ok, IfOk, vec_len, length, get_or, sym, ap, subst, arith}
+use Rattle.std.proofs.Common.{◌≡◌, ◌<◌, ◌-◌, ◌∙◌, Ok, IfOk, vec_len, length, get_or, sym, ap, subst, arith}
 use Rattle.std.specs.List.{range_with_len}
 use Rattle.pin_plain.specs.BestMoves.{best_moves}
 use Rattle.det_sync.specs.Wishes.{part_at}

@@ -1,4 +1,4 @@
-use Rattle.std.proofs.Common.{List, ℕ, All, ◌+◌, ◌-◌, ◌<◌, ◌∙◌, sym, ap, subst, arith}
+use Rattle.std.proofs.Common.{All, ◌-◌, ◌<◌, ◌∙◌, sym, ap, subst, arith}
 use Rattle.std.specs.List.{range_with_len}
 use Rattle.std.proofs.lemmas.List.Elements.{All-filter}
 use Rattle.rayon.proofs.ListFacts.{IfOk-then}

@@ -1,5 +1,4 @@
 use Rattle.std.proofs.Common.{List, IsPermutation, sym, ◌∙◌, subst}
-use Rattle.hg_defs.specs.Hypergraph.{vertices}
 use Rattle.det_sync.specs.CutNets.{AreCutMarks}
 use Rattle.det_sync.specs.Wishes.{Wish, AreWishes}
 use Rattle.det_sync.proofs.CutLaws.{written}
