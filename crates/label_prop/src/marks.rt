@@ -75,13 +75,7 @@ fn stirs(objective: Objective, old: u64, new: u64, size: usize) -> bool {
 /// Marks the vertices that may gain more since a vertex went from a block to another, by the counts of its nets as
 /// they are peeked now. The pins of large nets are left as they are, and the one pin of a net is the vertex itself.
 #[tactic(auto, using(crate::proofs::IdleLaws::peeked))]
-pub(crate) fn mark_stirred(
-    shared: &Shared<'_>,
-    pass: &mut Pass,
-    v: u32,
-    from: u32,
-    to: u32,
-)
+pub(crate) fn mark_stirred(shared: &Shared<'_>, pass: &mut Pass, v: u32, from: u32, to: u32)
     requires vertex { v < vertex_count shared.now.h.now }
     requires from { from < shared.now.k }
     requires to { to < shared.now.k }
