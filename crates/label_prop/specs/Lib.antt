@@ -1,2 +1,3 @@
 pub mod Workers
 pub mod LabelRounds
+pub mod Runs

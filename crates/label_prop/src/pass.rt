@@ -58,7 +58,7 @@ pub fn label_pass<H: Threads + Sync, G: Gate>(
     let marks = all_marked(alloc, h)?;
     let mut part = p;
     'turns: for _ in 0..MOST_LOWERING {
-        let settled = is_settled(alloc, h, &part, marks.as_slice())?;
+        let settled = is_settled(rt, alloc, h, &part, task.workers, marks.as_slice())?;
         if settled {
             return Ok(part);
         }

@@ -16,6 +16,7 @@ use Rattle.incidence.proofs.IndexLaws.{nets_of-below}
 use Rattle.pin_plain.specs.Savings.{net_saved, net_lost}
 use Rattle.pin_plain.specs.Parted.{IsTold, IsLoaded}
 use Rattle.pin_plain.specs.Scores.{IsTarget, IsTop}
+use Rattle.pin_plain.specs.Settling.{IsSettledWithin}
 use Rattle.pin_plain.proofs.GainLaws.{gain_counted}
 use Rattle.pin_plain.proofs.ScoreLaws.{saved_none, saved_bound}
 use Rattle.pin_plain.proofs.TallyLaws.{none_past}
@@ -112,19 +113,27 @@ module _ (h : Hyper) (k l : ℕ) (p starts words loads sums : List ℕ) (v loss 
 
 -- ---- settled
 
-pub settled_from : (h : Hyper) (k l : ℕ) (p : List ℕ) → ((v : ℕ) → v < vertex_count h → best_block h l p v k ≡ None) → IsSettled h k l p
-settled_from h k l p none v b a = none_gains (cost h p) (cost h (moved p v b)) (no_best_block h k l p v b (none v a.vertex) a)
+-- no vertex from one up to below another has a best block, so none of their moves helps
+pub settled_between : (h : Hyper) (k l : ℕ) (p : List ℕ) (first end : ℕ) → ((v : ℕ) → first ≤ v → v < end → best_block h l p v k ≡ None) →
+    IsSettledWithin h k l p first end
+settled_between h k l p first end none v b low high a =
+    none_gains (cost h p) (cost h (moved p v b)) (no_best_block h k l p v b (none v low high) a)
   where
     none_gains : (x y : ℕ) → (pos x -ℤ pos y) ≤ℤ pos 0 → x ≤ y
     none_gains x y g = omega (arith, ints)
 
-pub unsettled_from : (h : Hyper) (k l : ℕ) (p : List ℕ) (v b : ℕ) → v < vertex_count h → best_block h l p v k ≡ Some b → IsSettled h k l p → ⊥
-unsettled_from h k l p v b vertex e settled =
+-- a best block is one that helps
+best_helps : (h : Hyper) (k l : ℕ) (p : List ℕ) (v b : ℕ) → v < vertex_count h → best_block h l p v k ≡ Some b →
+    (IsAllowed h k l p v b → cost h p ≤ cost h (moved p v b)) → ⊥
+best_helps h k l p v b vertex e stays =
     let best = best_block_is h k l p v b vertex e in
-    some_gains (cost h p) (cost h (moved p v b)) best.gains (settled v b best.allowed)
+    some_gains (cost h p) (cost h (moved p v b)) best.gains (stays best.allowed)
   where
     some_gains : (x y : ℕ) → pos 0 <ℤ (pos x -ℤ pos y) → x ≤ y → ⊥
     some_gains x y g l = absurd (omega (arith, ints))
+
+pub unsettled_from : (h : Hyper) (k l : ℕ) (p : List ℕ) (v b : ℕ) → v < vertex_count h → best_block h l p v k ≡ Some b → IsSettled h k l p → ⊥
+unsettled_from h k l p v b vertex e settled = best_helps h k l p v b vertex e (settled v b)
 
 -- ---- the block with its gain
 
@@ -179,7 +188,7 @@ lent_best h lent k k' l l' p p' v b g found eh ek el ep is best =
     (ap (option_map (λ (m : ℕ × ℕ). m.0)) (sym is) ∙ best ∙ ap (λ (x : Hyper). best_block x l' p' v k') eh ∙ ap (λ (n : ℕ). best_block h n p' v k') el
     ∙ ap (λ (q : List ℕ). best_block h l q v k') ep ∙ ap (best_block h l p v) ek)
 
-pub unsettled_some : (h : Hyper) (k l : ℕ) (p : List ℕ) (v : ℕ) → v < vertex_count h → (r : Option (ℕ × ℕ)) → is_some r ≡ true →
-    option_map (λ (m : ℕ × ℕ). m.0) r ≡ best_block h l p v k → IsSettled h k l p → ⊥
-unsettled_some h k l p v vertex None some e settled = absurd (true≢false (sym some))
-unsettled_some h k l p v vertex (Some m) some e settled = unsettled_from h k l p v m.0 vertex (sym e) settled
+pub unsettled_some : (h : Hyper) (k l : ℕ) (p : List ℕ) (first end v : ℕ) → v < vertex_count h → first ≤ v → v < end → (r : Option (ℕ × ℕ)) →
+    is_some r ≡ true → option_map (λ (m : ℕ × ℕ). m.0) r ≡ best_block h l p v k → IsSettledWithin h k l p first end → ⊥
+unsettled_some h k l p first end v vertex low high None some e settled = absurd (true≢false (sym some))
+unsettled_some h k l p first end v vertex low high (Some m) some e settled = best_helps h k l p v m.0 vertex (sym e) (λ a. settled v m.0 low high a)

@@ -1,8 +1,8 @@
 -- Quiet vertices: they have no best block, and stay quiet where a move stirs none of their nets.
-use Rattle.std.proofs.Common.{◌≡◌, ◌≢◌, ◌⊎◌, inl, inr, ℕ, ◌+◌, ◌*◌, ◌<◌, ◌≤◌, Option, Some, None, List, length, All, Contains, get_or, set, slice_set}
-use Rattle.std.proofs.Common.{Bool, true, false, ◌||◌, ◌&&◌, not, if◌then◌else◌, nat_eq, nat_lt, take, ◌++◌, ◌∷◌, [], true≢false}
-use Rattle.std.proofs.Common.{drop, replicate, ℤ, pos, ◌-ℤ◌, ◌<ℤ◌, refl, sym, ap, subst, ◌∙◌, arith}
-use Rattle.std.proofs.lemmas.Bool.{eqb-true, eqb-false, ltb-true, cases_lt, cases_eq}
+use Rattle.std.proofs.Common.{◌≡◌, ◌≢◌, ◌⊎◌, inl, inr, ℕ, ◌+◌, ◌*◌, ◌<◌, ◌≤◌, Option, Some, None, List, length, All, Contains, get_or, set}
+use Rattle.std.proofs.Common.{Bool, true, false, take, ◌++◌, ◌∷◌, [], true≢false}
+use Rattle.std.proofs.Common.{drop, replicate, pos, ◌-ℤ◌, ◌<ℤ◌, refl, sym, ap, subst, ◌∙◌, arith}
+use Rattle.std.proofs.lemmas.Bool.{cases_eq}
 use Rattle.std.proofs.lemmas.Bool.Decides.{Decides-eqb, nat_tests}
 use Rattle.std.proofs.lemmas.Int.{ints}
 use Rattle.std.proofs.lemmas.List.{get_or-set_other, get_or-set_same, length-set, take_more, get_or-replicate, length-replicate, take_at}
@@ -17,10 +17,9 @@ use Rattle.hg_defs.specs.Partition.{IsPartition, block_of}
 use Rattle.hg_defs.specs.Cost.{cost}
 use Rattle.hg_defs.specs.Pins.{pins_in, present}
 use Rattle.hg_defs.specs.Incidence.{is_on, nets_of}
-use Rattle.hg_defs.specs.Moves.{moved, gain, best_block}
+use Rattle.hg_defs.specs.Moves.{moved, best_block}
 use Rattle.hg_defs.proofs.SumLaws.{total-le}
-use Rattle.hg_defs.proofs.DistinctLaws.{pins_in-set_old, pins_in-set_new, pins_in-set_other, pins_in-set_apart, blocks_of_pins, pins_in-times, times_of-positive}
-use Rattle.hg_defs.proofs.DistinctLaws.{Contains-map}
+use Rattle.hg_defs.proofs.DistinctLaws.{pins_in-set_old, pins_in-set_new, pins_in-set_other, pins_in-set_apart, blocks_of_pins}
 use Rattle.hg_defs.proofs.MoveLaws.{best_block_is}
 use Rattle.hg_defs.proofs.NumberingLaws.{Contains_range}
 use Rattle.hg_defs.proofs.PlacementLaws.{Contains_filter}

@@ -1,12 +1,18 @@
 -- What a partition that is swept until it is settled logs.
-use Rattle.std.specs.Prelude.{◌≡◌, ◌⊎◌, ℕ, false, List, [], ◌∷◌, ◌++◌, length}
+use Rattle.std.specs.Prelude.{◌≡◌, ◌⊎◌, ℕ, ◌<◌, ◌≤◌, false, List, [], ◌∷◌, ◌++◌, length}
 use Rattle.hg_defs.specs.Hypergraph.{Hyper}
-use Rattle.hg_defs.specs.Moves.{sweep}
+use Rattle.hg_defs.specs.Cost.{cost}
+use Rattle.hg_defs.specs.Moves.{IsAllowed, moved, sweep}
 use Rattle.hg_defs.specs.Replay.{replay}
 use Rattle.round_log.specs.declared.record.Kind.TheVariants.{Sweep}
 use Rattle.round_log.specs.declared.record.LoggedRound.{LoggedRound}
 use Rattle.round_log.specs.Rounds.{after_round, IsSwept}
 use Rattle.round_log.specs.Trace.{AreSweeps}
+
+-- no single allowed move of a vertex from `first` up to below `end` makes the partition cheaper
+abbrev pub IsSettledWithin : Hyper → ℕ → ℕ → List ℕ → ℕ → ℕ → Type 0
+IsSettledWithin h k l p first end =
+    (v b : ℕ) → first ≤ v → v < end → IsAllowed h k l p v b → cost h p ≤ cost h (moved p v b)
 
 -- sweeps of the hypergraph that lead from p to q; the partition may be swept further
 abbrev pub FollowSweeps : Hyper → ℕ → ℕ → List ℕ → List LoggedRound → List ℕ → Type 0

@@ -10,7 +10,7 @@ ghost use Rattle.hg_defs.specs.Moves as sweeps;
 ghost use Rattle.hg_defs.specs.Moves.{IsSettled, best_block, gain, move_of};
 ghost use Rattle.pin_plain.specs.Quiet.{AreQuiet};
 ghost use Rattle.pin_plain.specs.Scores.{IsClear};
-ghost use Rattle.pin_plain.specs.Settling.{Settles, BreaksOff};
+ghost use Rattle.pin_plain.specs.Settling.{IsSettledWithin, Settles, BreaksOff};
 
 use crate::partition::Partition;
 use crate::quiet::wake;
@@ -40,18 +40,27 @@ impl Partition {
         scores.seek(&self.lend(h), v).best
     }
 
-    /// Whether no single allowed move makes the partition cheaper.
-    pub fn settled(&self, h: &Hypergraph) -> bool
+    /// Whether no single allowed move of a vertex from `first` up to below `end` makes the partition cheaper.
+    pub fn settled_within(&self, h: &Hypergraph, first: u32, end: u32) -> bool
         requires belongs { self.now.hyper ≡ h.now }
-        ensures { IsTrue result ↔ IsSettled h.now self.now.k self.now.limit self.now.blocks }
+        requires within { end ≤ vertex_count h.now }
+        ensures { IsTrue result ↔ IsSettledWithin h.now self.now.k self.now.limit self.now.blocks first end }
     {
         let mut scores = Scores::new();
-        for v in 0..h.vertices() {
+        for v in first..end {
             if self.best_move(h, v, &mut scores).is_some() {
                 return false;
             }
         }
         true
+    }
+
+    /// Whether no single allowed move makes the partition cheaper.
+    pub fn settled(&self, h: &Hypergraph) -> bool
+        requires belongs { self.now.hyper ≡ h.now }
+        ensures { IsTrue result ↔ IsSettled h.now self.now.k self.now.limit self.now.blocks }
+    {
+        self.settled_within(h, 0, h.vertices())
     }
 
     /// Moves a vertex to its best block, where there is one, and answers the move. A marked vertex isn't

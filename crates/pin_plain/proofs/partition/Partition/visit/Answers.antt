@@ -1,6 +1,6 @@
-use Rattle.std.proofs.Common.{◌≡◌, ◌∙◌, ◌<◌, List, Some, ℕ, option_map, sym, ap, arith}
+use Rattle.std.proofs.Common.{◌∙◌, List, ℕ, option_map, sym, ap, arith}
 use Rattle.hg_defs.specs.Partition.{block_of}
-use Rattle.hg_defs.specs.Moves.{best_block, move_of}
+use Rattle.hg_defs.specs.Moves.{move_of}
 use Rattle.pin_plain.proofs.BestLaws.{best_below, best_other, lent_best}
 use Rattle.pin_plain.proofs.QuietLaws.{quiet_stays}
 use Rattle.pin_plain.proofs.partition.Partition.visit.Goals as goal
