@@ -132,7 +132,7 @@ pub(crate) fn race<H: Threads + Sync, G: Gate>(
     ensures desks { All (λ d. d ≡ size_for h.now p.k) desks.new.items }
 {
     let (k, limit) = (p.k(), p.limit());
-    let seeds = cut_vertices(alloc, h, &p)?;
+    let seeds = cut_vertices(rt, alloc, h, &p, task.workers)?;
     let first = first_place(seeds.len(), task.seed, task.level);
     let Ok((round, passes)) = Round::open(alloc, h, p, task.workers) else {
         return Err(NoMemory);
