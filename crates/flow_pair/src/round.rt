@@ -169,7 +169,7 @@ fn make_moves(blocks: &mut [u32], moves: &[Move])
 
 /// Records the moves that assign the region of a pair anew, as its end says, as a round, and writes where they
 /// lead. The cost before it is known. The blocks are those of a partition of the same hypergraph into as many
-/// blocks, with the same limit, as the one that is lent.
+/// blocks, with the same limit, as the one that is lent. Where there is no memory, they may have been written.
 pub fn record_moves(
     alloc: Global,
     h: &Hypergraph,
