@@ -74,7 +74,7 @@ pub(crate) fn run_determined<H: Threads + Sync>(
     let (stack, stop) = det_levels(rt, alloc, h, job.k)?;
     let (last, mut trace) = synchronize(rt, alloc, &stack, stop, job, limit)?;
     let h = stack.base();
-    let best = settle_best(alloc, &h, last, placed, &mut trace)?;
+    let best = settle_best(rt, alloc, &h, last, placed, job.workers, &mut trace)?;
     Ok(Reached {
         h,
         best,

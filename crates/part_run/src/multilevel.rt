@@ -98,7 +98,7 @@ fn run_descent<H: Threads + Sync>(
         refiners,
     )?;
     let h = stack.base();
-    let best = settle_best(alloc, &h, last, placed, &mut trace)?;
+    let best = settle_best(rt, alloc, &h, last, placed, job.workers, &mut trace)?;
     Ok((h, best, trace))
 }
 

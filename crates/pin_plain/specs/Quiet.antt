@@ -15,6 +15,11 @@ pub record AreQuiet (h : Hyper) (k : ℕ) (p : List ℕ) (marks : List Bool) : T
   pub all : length marks ≡ vertex_count h
   pub each : (v : ℕ) → v < vertex_count h → slice_index_or marks v false ≡ true → IsQuiet h k p v
 
+-- a mark for each of n vertices from a first one on, and those that are marked are quiet
+pub record AreQuietFrom (h : Hyper) (k : ℕ) (p : List ℕ) (first n : ℕ) (marks : List Bool) : Type 0 where
+  pub all : length marks ≡ n
+  pub each : (i : ℕ) → i < n → slice_index_or marks i false ≡ true → IsQuiet h k p (first + i)
+
 -- whether other pins of a net may gain more once one went from a block with `old` of its pins to one with `new` of them
 abbrev pub stirs : ℕ → ℕ → ℕ → Bool
 stirs old new size = nat_eq new 0 || (nat_eq old 2 || nat_eq (new + 2) size)

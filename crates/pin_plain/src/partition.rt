@@ -11,6 +11,7 @@ ghost use Rattle.hg_defs.specs.Contraction.{after};
 ghost use Rattle.pin_plain.specs.Parted.{IsParted, IsLoaded, loads_after, KeepsCost};
 
 mod best;
+mod marking;
 mod ready;
 mod sweep;
 

@@ -7,6 +7,7 @@ use incidence::Hypergraph;
 use round_log::{Kind, Moves, RoundList};
 use std::alloc::Global;
 use std::test::Fail;
+use std::thread::Threads;
 
 /// Seven vertices of weight 1 and four nets of weights 2, 3, 8 and 7.
 fn four_nets(alloc: Global) -> Result<FlatHyper, NoMemory>
@@ -136,6 +137,57 @@ fn settles_path(rt: HostRuntime) -> Result<(), Fail> {
     let h = path(rt.alloc())?;
     for row in SETTLINGS {
         assert!(rt; is_settled(rt.alloc(), &h, row)?, "{} blocks", row.k);
+    }
+    Ok(())
+}
+
+/// Whether the log has one sweep alone, which moves this vertex alone, to block 0, and saves 3.
+fn moves_alone(log: &RoundList, v: u32) -> bool {
+    let [round] = log.slice() else {
+        return false;
+    };
+    match round.moves.slice() {
+        [step] => step.vertex == v && step.to == 0 && step.booked == 3,
+        _ => false,
+    }
+}
+
+/// Whether so many workers let a vertex, alone in block 1, join all others of its net, as one alone does.
+fn joins<R: Threads + Sync>(
+    rt: &R,
+    alloc: Global,
+    vertices: u32,
+    v: u32,
+    workers: u32,
+) -> Result<bool, Fail>
+    requires few { vertices ≤ 2 ^ 22 }
+    requires vertex { v < vertices }
+    requires workers { (1 ≤ workers) × (workers ≤ 64) }
+{
+    let h = one_net(alloc, vertices)?;
+    let mut blocks = vec![in alloc; 0u32; vertices as usize]?;
+    blocks[v as usize] = 1;
+    let mut p = parted(alloc, &h, 2, u64::from(vertices), blocks.as_slice())?;
+    let mut q = parted(alloc, &h, 2, u64::from(vertices), blocks.as_slice())?;
+    let (mut log, mut other) = (RoundList::new(alloc), RoundList::new(alloc));
+    let rounds = p.settle_with(rt, alloc, &h, workers, &mut log)?;
+    let as_many = q.settle(alloc, &h, &mut other)?;
+    Ok(
+        (rounds == 1 && as_many == 1)
+            && (moves_alone(&log, v) && moves_alone(&other, v))
+            && stands_at(&h, &p, 0, true)
+            && p.blocks() == q.blocks(),
+    )
+}
+
+#[test]
+fn settles_in_threads(rt: HostRuntime) -> Result<(), Fail> {
+    // One thread alone, two with as many vertices, and three of which the last has fewer.
+    for (workers, v) in [(1, 0), (2, 9_999), (3, 4_095)] {
+        assert!(rt;
+            joins(&rt, rt.alloc(), 10_000, v, workers)?,
+            "{workers} workers"
+        );
     }
     Ok(())
 }

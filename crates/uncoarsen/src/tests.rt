@@ -15,6 +15,7 @@ use std::sync::Arc;
 use std::sync::atomic::AtomicU64;
 use std::sync::atomic::Ordering::SeqCst;
 use std::test::Fail;
+use std::thread::Threads;
 
 /// Four vertices of these weights and one net that holds the first two.
 fn weighted(
@@ -77,8 +78,8 @@ fn four(alloc: Global, across: bool) -> Result<Hypergraph, NoMemory>
 }
 
 /// Ends a descent to these blocks, and looks at the end.
-fn ends(
-    rt: &impl Abort,
+fn ends<R: Abort + Threads + Sync>(
+    rt: &R,
     alloc: Global,
     h: &Hypergraph,
     limit: u64,
@@ -103,7 +104,7 @@ fn ends(
     let placed = greedy(alloc, h.flat(), 2, limit).expect(rt, "it fits");
     let part = Partition::of(alloc, h, 2, limit, Blocks::from_vec(blocks.to_vec(alloc)?))?;
     assert!(rt; part.fits());
-    let settled = settle_best(alloc, h, part, placed, &mut trace)?;
+    let settled = settle_best(rt, alloc, h, part, placed, 2, &mut trace)?;
     assert_eq!(rt; settled.blocks(), end);
     assert_eq!(rt; (trace.chosen, trace.rounds.len()), (chosen, rounds));
     Ok(())

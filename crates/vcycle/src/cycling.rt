@@ -83,7 +83,7 @@ pub fn cycle<R: Threads + Sync, G: Gate>(
         alloc, &stack, stop, start, k, limit, workers, seed, refiners,
     )?;
     let h = stack.base();
-    last.settle(alloc, &h, &mut trace.rounds)?;
+    last.settle_with(rt, alloc, &h, workers, &mut trace.rounds)?;
     Ok((h, last, trace))
 }
 

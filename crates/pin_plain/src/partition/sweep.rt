@@ -13,6 +13,7 @@ ghost use Rattle.pin_plain.specs.Scores.{IsClear};
 ghost use Rattle.pin_plain.specs.Settling.{IsSettledWithin, Settles, BreaksOff};
 
 use crate::partition::Partition;
+use crate::partition::marking::{quiet_marks, unmarked};
 use crate::quiet::wake;
 use crate::scores::Scores;
 use hg_base::{Gains, Move, NoMemory, Verts};
@@ -20,6 +21,7 @@ use incidence::Hypergraph;
 use round_log::{Kind, LoggedRound, Moves, RoundList};
 use std::alloc::Global;
 use std::mem;
+use std::thread::Threads;
 
 impl Partition {
     /// The best block of a vertex, and the gain there, where there is one.
@@ -184,7 +186,49 @@ impl Partition {
         ensures err { OnErr result (BreaksOff h.now self.old.k self.old.limit self.old.blocks self.new.blocks log.old
             log.new) }
     {
-        let mut marks = unmarked(alloc, h)?;
+        let marks = unmarked(alloc, h)?;
+        self.settle_from(alloc, h, marks, log)
+    }
+
+    /// Settles the partition as [`Self::settle`] does, by the same moves. Threads look for the vertices that
+    /// gain nothing first, and the first sweep looks at the others alone.
+    pub fn settle_with<R: Threads + Sync>(
+        &mut self,
+        rt: &R,
+        alloc: Global,
+        h: &Hypergraph,
+        workers: u32,
+        log: &mut RoundList,
+    ) -> Result<u64, NoMemory>
+        requires belongs { self.old.hyper ≡ h.now }
+        requires workers { (1 ≤ workers) × (workers ≤ 64) }
+        ensures kept { self.new ≡ record self.old { blocks = self.new.blocks } }
+        ensures ok { IfOk result (Settles h.now self.old.k self.old.limit self.old.blocks self.new.blocks log.old
+            log.new) }
+        ensures err { OnErr result (BreaksOff h.now self.old.k self.old.limit self.old.blocks self.new.blocks log.old
+            log.new) }
+    {
+        let marks = quiet_marks(rt, alloc, h, self, workers)?;
+        self.settle_from(alloc, h, marks, log)
+    }
+
+    /// Settles the partition, where the marked vertices are quiet.
+    fn settle_from(
+        &mut self,
+        alloc: Global,
+        h: &Hypergraph,
+        mut marks: Vec<bool>,
+        log: &mut RoundList,
+    ) -> Result<u64, NoMemory>
+        requires belongs { self.old.hyper ≡ h.now }
+        requires quiet { AreQuiet h.now self.old.k self.old.blocks marks.items }
+        requires bounds { IsWithinLimits h.now }
+        ensures kept { self.new ≡ record self.old { blocks = self.new.blocks } }
+        ensures ok { IfOk result (Settles h.now self.old.k self.old.limit self.old.blocks self.new.blocks log.old
+            log.new) }
+        ensures err { OnErr result (BreaksOff h.now self.old.k self.old.limit self.old.blocks self.new.blocks log.old
+            log.new) }
+    {
         let mut before = self.cost(h);
         let mut rounds = 0;
         loop {
@@ -200,14 +244,6 @@ impl Partition {
             before = after;
         }
     }
-}
-
-/// A mark for each vertex, and none is marked.
-fn unmarked(alloc: Global, h: &Hypergraph) -> Result<Vec<bool>, NoMemory>
-    ensures quiet { IfOk result (λ marks. (k : ℕ) (p : List ℕ) → AreQuiet h.now k p marks.items) }
-    ensures bounds { IsWithinLimits h.now }
-{
-    Ok(vec![in alloc; false; h.vertices() as usize]?)
 }
 
 /// What moves save together, none of which is booked with a loss.

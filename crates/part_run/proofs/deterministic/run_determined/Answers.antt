@@ -38,7 +38,7 @@ synchronize-requires-clause-placed g c κs within =
     (subst (λ (x : ℕ). overfills c.args.h j.k x ≡ None) (sym c.requires.limit) c.requires.ready.placed)
 
 pub settle_best-requires-clause-fits : goal.settle_best-requires-clause-fits
-settle_best-requires-clause-fits g c =
+settle_best-requires-clause-fits g c κs within =
     let s = c.in_ok-stack.stack in
     let j = c.args.job.now in
     let last = c.in_ok-last.last in
@@ -48,7 +48,7 @@ settle_best-requires-clause-fits g c =
     (subst (λ (bs : List ℕ). Fits s.base j.k c.args.limit bs) (sym (ap (λ (x : Parted). x.blocks) c.in_ok-last.ensures.partition)) sound.fits)
 
 pub settle_best-requires-clause-greedy_fits : goal.settle_best-requires-clause-greedy_fits
-settle_best-requires-clause-greedy_fits g c =
+settle_best-requires-clause-greedy_fits g c κs within =
     let h = c.args.h in
     let j = c.args.job.now in
     let last = c.in_ok-last.last in

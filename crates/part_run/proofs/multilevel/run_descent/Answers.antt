@@ -23,7 +23,7 @@ uncoarsen-requires-clause-levels g c =
     c.requires.ready.fixed
 
 pub settle_best-requires-clause-greedy_fits : goal.settle_best-requires-clause-greedy_fits
-settle_best-requires-clause-greedy_fits g c =
+settle_best-requires-clause-greedy_fits g c κs within =
     let h = c.args.h in
     let j = c.args.job.now in
     let last = c.in_ok-last.last in

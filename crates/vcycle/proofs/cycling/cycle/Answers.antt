@@ -19,26 +19,26 @@ returns-clause-cycle g c =
     let s = c.in_ok-stack.stack in
     let start = c.in_ok-stack.start in
     let trace = c.in_ok-last.trace in
-    let q = c.settle.new.self.blocks in
+    let q = c.settle_with.new.self.blocks in
     let up = subst (λ (x : List ℕ). ClimbsInside c.args.h c.args.k x s c.in_ok-stack.stop start.level start.blocks) c.into_blocks.ensures
     c.in_ok-stack.ensures in
     cycle_made _ c.args.h c.args.k c.args.limit c.args.workers c.args.p.blocks s c.in_ok-stack.stop start.level start.blocks trace up
-    c.in_ok-last.ensures.trace q c.settle.new.log c.in_ok-settle.field-0
-    (settles_told c.args.h c.base-h.result s.base c.args.k c.args.limit trace.last c.in_ok-last.last q trace.rounds c.settle.new.log
-    c.in_ok-settle.field-0 up.base c.base-h.ensures c.in_ok-last.ensures.partition c.in_ok-settle.ensures.ok)
+    c.in_ok-last.ensures.trace q c.settle_with.new.log c.in_ok-settle_with.field-0
+    (settles_told c.args.h c.base-h.result s.base c.args.k c.args.limit trace.last c.in_ok-last.last q trace.rounds c.settle_with.new.log
+    c.in_ok-settle_with.field-0 up.base c.base-h.ensures c.in_ok-last.ensures.partition c.in_ok-settle_with.ensures.ok)
 
 pub returns-clause-settled : goal.returns-clause-settled
 returns-clause-settled g c =
     let s = c.in_ok-stack.stack in
     let start = c.in_ok-stack.start in
     let trace = c.in_ok-last.trace in
-    let q = c.settle.new.self.blocks in
+    let q = c.settle_with.new.self.blocks in
     let up = subst (λ (x : List ℕ). ClimbsInside c.args.h c.args.k x s c.in_ok-stack.stop start.level start.blocks) c.into_blocks.ensures
     c.in_ok-stack.ensures in
     cycle_ends _ c.args.h c.args.k c.args.limit c.args.workers c.args.p.blocks s c.in_ok-stack.stop start.level start.blocks trace up
-    c.in_ok-last.ensures.trace q c.settle.new.log c.in_ok-settle.field-0
-    (settles_told c.args.h c.base-h.result s.base c.args.k c.args.limit trace.last c.in_ok-last.last q trace.rounds c.settle.new.log
-    c.in_ok-settle.field-0 up.base c.base-h.ensures c.in_ok-last.ensures.partition c.in_ok-settle.ensures.ok)
+    c.in_ok-last.ensures.trace q c.settle_with.new.log c.in_ok-settle_with.field-0
+    (settles_told c.args.h c.base-h.result s.base c.args.k c.args.limit trace.last c.in_ok-last.last q trace.rounds c.settle_with.new.log
+    c.in_ok-settle_with.field-0 up.base c.base-h.ensures c.in_ok-last.ensures.partition c.in_ok-settle_with.ensures.ok)
     c.in_ok-last.ensures.sound
 
 pub returns-clause-tallies : goal.returns-clause-tallies
@@ -46,11 +46,11 @@ returns-clause-tallies g c =
     let s = c.in_ok-stack.stack in
     let start = c.in_ok-stack.start in
     let trace = c.in_ok-last.trace in
-    let q = c.settle.new.self.blocks in
+    let q = c.settle_with.new.self.blocks in
     let up = subst (λ (x : List ℕ). ClimbsInside c.args.h c.args.k x s c.in_ok-stack.stop start.level start.blocks) c.into_blocks.ensures
     c.in_ok-stack.ensures in
     c.in_ok-last.ensures.tallies
     ∙ cycle_tallied _ c.args.h c.args.k c.args.limit c.args.workers c.args.p.blocks s c.in_ok-stack.stop start.level start.blocks trace up
-    c.in_ok-last.ensures.trace q c.settle.new.log c.in_ok-settle.field-0
-    (settles_told c.args.h c.base-h.result s.base c.args.k c.args.limit trace.last c.in_ok-last.last q trace.rounds c.settle.new.log
-    c.in_ok-settle.field-0 up.base c.base-h.ensures c.in_ok-last.ensures.partition c.in_ok-settle.ensures.ok) _
+    c.in_ok-last.ensures.trace q c.settle_with.new.log c.in_ok-settle_with.field-0
+    (settles_told c.args.h c.base-h.result s.base c.args.k c.args.limit trace.last c.in_ok-last.last q trace.rounds c.settle_with.new.log
+    c.in_ok-settle_with.field-0 up.base c.base-h.ensures c.in_ok-last.ensures.partition c.in_ok-settle_with.ensures.ok) _

@@ -2,7 +2,7 @@ use Rattle.std.proofs.Common.{◌≡◌, ◌+◌, ◌<◌, ◌≤◌, ◌^◌}
 use Rattle.hg_defs.specs.Cost.{cost}
 use Rattle.pin_plain.specs.Quiet.{AreQuiet}
 use Rattle.pin_plain.specs.Settling.{AddsSweeps}
-use Rattle.pin_plain.proofs.partition.Partition.settle.Given as goal
+use Rattle.pin_plain.proofs.partition.Partition.settle_from.Given as goal
 
 abbrev pub invariant-loop-moves : goal.invariant-loop-moves
 invariant-loop-moves l = record {
