@@ -1,12 +1,13 @@
 -- Laws of the counts of all nets: where they stand, and what a change of one net's words leaves.
 use Rattle.std.proofs.Common.{◌≡◌, ◌≢◌, ◌⊎◌, inl, inr, ℕ, ◌+◌, ◌*◌, ◌/◌, ◌%◌, ◌^◌, ◌<◌, ◌≤◌, Bool, true, false, ◌||◌, cond}
 use Rattle.std.proofs.Common.{if◌then◌else◌, nat_eq, nat_lt, nat_le, List, [], ◌∷◌, length, filter, take, All, Contains}
-use Rattle.std.proofs.Common.{slice_index, get_or, slice_set, refl, sym, ap, ◌∙◌, subst, arith, true≢false}
+use Rattle.std.proofs.Common.{slice_index, get_or, slice_set, get_or-set_same, get_or-set_other, refl, sym, ap, ap₂, ◌∙◌, subst, arith, true≢false}
 use Rattle.std.proofs.lemmas.Bool.{eqb-true, eqb-false, ne_eqb, eq-eqb, ltb-true, ltb-false, lt-ltb, leb-true, cases_eq, cases_lt}
 use Rattle.hg_base.specs.Packed.{count_at, IsWidth, fields_of, bits_of, words_of, field}
 use Rattle.hg_defs.specs.Hypergraph.{Hyper, IsHypergraph, IsWithinLimits, vertex_count, net_count, net_of, Suits}
 use Rattle.hg_defs.specs.Partition.{IsPartition, block_of}
 use Rattle.hg_defs.specs.Pins.{pins_in}
+use Rattle.hg_defs.specs.Cost.{connectivity}
 use Rattle.hg_defs.specs.Moves.{moved}
 use Rattle.std.specs.Set.{is_member}
 use Rattle.std.specs.List.{range_with_len}
@@ -14,6 +15,7 @@ use Rattle.std.specs.List.Sorted.{IsStrictlyIncreasing}
 use Rattle.hg_defs.specs.Incidence.{is_on, nets_of}
 use Rattle.hg_defs.proofs.SumLaws.{sum_below_more, sum_below-le, sum_below-constant, sum_below-add, weight_if}
 use Rattle.hg_defs.proofs.DistinctLaws.{times_of-once, pins_in-set, pins_in-set_old, pins_in-set_apart, pins_in-sum, blocks_of_pins}
+use Rattle.hg_defs.proofs.DistinctLaws.{connectivity-set, connectivity-set_apart}
 use Rattle.std.proofs.Math.Bool.{or-false, or-true}
 use Rattle.std.proofs.lemmas.Bool.Decides.{Decides-eqb}
 use Rattle.std.proofs.lemmas.Map.Made.{is_member-Decides}
@@ -22,6 +24,7 @@ use Rattle.std.proofs.lemmas.List.FromFn.{length-range_with_len, get_or-range_wi
 use Rattle.incidence.proofs.IndexLaws.{sum_below_upto-le, nets_of-below, nets_of-rising, is_pin_new, is_pin_more}
 use Rattle.pin_plain.proofs.GainLaws.{nets_of-hold, two_within}
 use Rattle.pin_plain.specs.Counts.{net_bits, net_words, words_at_net, net_place, net_start, all_words, HasLayout, HoldsCounts, counts_of, counts_before, counts_between}
+use Rattle.pin_plain.specs.Counts.{HaveSpreads, HaveSpreadsBetween}
 
 -- ---- the width of a net's counts
 
@@ -189,6 +192,26 @@ module _ (h : Hyper) (k : ℕ) (p words new : List ℕ) (e start bits : ℕ) (pi
       (q ∙ ap (λ s. s + get_or p j d / fields_of bits) es ∙ ap (λ w. net_start h k e + get_or p j d / fields_of w) eb)))
       (λ i b other. before_other h p e i b other)
 
+-- ---- the numbers of blocks that the nets touch
+
+module _ (h : Hyper) (k : ℕ) where
+  spread_apart : (e i y : ℕ) → y < net_words h k i → net_start h k i + y ≢ net_place h k e
+  spread_apart e i y l = by (cases_lt i e)
+    where
+      by : (i < e) ⊎ (e ≤ i) → net_start h k i + y ≢ net_place h k e
+      by (inl q) = let next = net_place_next h k i in let upto = net_place-le h k (i + 1) e (omega arith) in omega arith
+      by (inr q) = let upto = net_place-le h k e i q in omega arith
+
+  -- the word before the counts of a net is none of them
+  pub counts_beside : (words : List ℕ) (counts : ℕ → ℕ → ℕ) (e x : ℕ) → HoldsCounts h k words counts →
+      HoldsCounts h k (slice_set words (net_place h k e) x) counts
+  counts_beside words counts e x held i b l low =
+      let inside = word_below (net_bits h i) (net_words h k i) b (bits_width (length (net_of h i).pins)) low in
+      ap (λ w. field w (net_bits h i) (b % fields_of (net_bits h i)))
+      (get_or-set_other words (net_place h k e) (net_start h k i + b / fields_of (net_bits h i)) x 0
+      (spread_apart e i (b / fields_of (net_bits h i)) inside))
+      ∙ held i b l low
+
 -- ---- one pin moved
 
 -- two blocks have no more pins than there are
@@ -261,6 +284,55 @@ module _ (h : Hyper) (k : ℕ) (p : List ℕ) (v to e idx : ℕ) (nets : List �
     pub pin_held : 0 < count_at words start bits (block_of p v)
     pin_held = let n = now_at (block_of p v) (within (block_of p v) old_block) in let z = old_held in omega arith
 
+    -- the number of blocks that the net touches after the move
+    pub spread_after : (joined left : ℕ) → joined ≡ weight_if (count_at words start bits to) 0 1 → left ≡ weight_if (count_at words start bits
+        (block_of p v)) 1 1 → connectivity (moved p v to) (net_of h e).pins + left ≡ connectivity p (net_of h e).pins + joined
+    spread_after joined left js ls =
+        let law = connectivity-set p (net_of h e).pins v to inside rising at_pin other in
+        let j = js ∙ ap (λ n. weight_if n 0 1) (now_at to (within to block)) in
+        let l = ls ∙ ap (λ n. weight_if n 1 1) (now_at (block_of p v) (within (block_of p v) old_block)) in
+        omega arith
+
+    -- a word that no count of the net stands in
+    count_apart : (b i : ℕ) → b < k → net_place h k i ≢ start + b / fields_of bits
+    count_apart b i low q =
+        spread_apart h k i e (b / fields_of (net_bits h e)) (word_below (net_bits h e) (net_words h k e) b (bits_width (length (net_of h e).pins))
+        (within b low))
+        (sym (q ∙ ap (λ s. s + b / fields_of bits) es ∙ ap (λ w. net_start h k e + b / fields_of w) eb))
+
+    -- what the net's word says before the move
+    pub spread_before : HaveSpreadsBetween h k p (moved p v to) (take idx nets) words → slice_index words (net_place h k e) ≡ 64 + connectivity p
+        (net_of h e).pins
+    spread_before have = have e at_net ∙ ap (λ t. 64 + (if t then connectivity (moved p v to) (net_of h e).pins else connectivity p (net_of h e).pins))
+        not_yet
+
+    pub spreads_kept : (mid new : List ℕ) → ((i : ℕ) → i ≢ start + block_of p v / fields_of bits → slice_index mid i ≡ slice_index words i)
+        → ((i : ℕ) → i ≢ start + to / fields_of bits → slice_index new i ≡ slice_index mid i)
+        → (i : ℕ) → slice_index new (net_place h k i) ≡ slice_index words (net_place h k i)
+    spreads_kept mid new mid_others new_others i =
+        new_others (net_place h k i) (count_apart to i block) ∙ mid_others (net_place h k i) (count_apart (block_of p v) i old_block)
+
+    pub spreads_moved : (new : List ℕ) (x : ℕ) → ((i : ℕ) → slice_index new (net_place h k i) ≡ slice_index words (net_place h k i))
+        → HaveSpreadsBetween h k p (moved p v to) (take idx nets) words → x ≡ 64 + connectivity (moved p v to) (net_of h e).pins
+        → net_place h k e < length new → HaveSpreadsBetween h k p (moved p v to) (take (idx + 1) nets) (slice_set new (net_place h k e) x)
+    spreads_moved new x kept have is wide i l = by (cases_eq i e)
+      where
+        told : ℕ → Bool → ℕ
+        told j t = 64 + (if t then connectivity (moved p v to) (net_of h j).pins else connectivity p (net_of h j).pins)
+
+        places : i ≢ e → net_place h k i ≢ net_place h k e
+        places q = from (cases_lt i e)
+          where
+            from : (i < e) ⊎ (e ≤ i) → net_place h k i ≢ net_place h k e
+            from (inl s) = let next = net_place_next h k i in let upto = net_place-le h k (i + 1) e (omega arith) in omega arith
+            from (inr s) = let next = net_place_next h k e in let n : i ≢ e = q in let upto = net_place-le h k (e + 1) i (omega arith) in omega arith
+
+        by : (i ≡ e) ⊎ (i ≢ e) → slice_index (slice_set new (net_place h k e) x) (net_place h k i) ≡ told i (is_member nat_eq (take (idx + 1) nets) i)
+        by (inl q) = subst (λ j. slice_index (slice_set new (net_place h k e) x) (net_place h k j) ≡ told j (is_member nat_eq (take (idx + 1) nets) j)) (sym q)
+            (get_or-set_same new (net_place h k e) x 0 wide ∙ is ∙ sym (ap (told e) now))
+        by (inr q) =
+            get_or-set_other new (net_place h k e) (net_place h k i) x 0 (places q) ∙ kept i ∙ have i l ∙ sym (ap (told i) (still i q))
+
     module _ (mid : List ℕ) (lowered : (c : ℕ) → count_at mid start bits c + (if nat_eq c (block_of p v) then 1 else 0) ≡ count_at words start bits c) where
       pub pin_room : length (net_of h e).pins ≤ 2 ^ 25 → count_at mid start bits to + 1 < 2 ^ bits
       pin_room few =
@@ -315,6 +387,14 @@ member_filter test (x ∷ xs) e t m = by (nat_eq e x) (test x) refl refl m (memb
     by false true q r m f = ap (λ b. nat_eq e x || b) (f m) ∙ or-true (nat_eq e x)
     by false false q r m f = f m
 
+-- a net that has a vertex is in its list
+member_of : (h : Hyper) (v e : ℕ) → e < net_count h → Contains (net_of h e).pins v → is_member nat_eq (nets_of h v) e ≡ true
+member_of h v e l c =
+    let on = (is_member-Decides Decides-eqb (net_of h e).pins v).1 c in
+    let listed = list_any_at (nat_eq e) (range_with_len 0 (net_count h)) e 0 (let n = length-range_with_len 0 (net_count h) in omega arith)
+    (eq-eqb e (get_or (range_with_len 0 (net_count h)) e 0) (let g = get_or-range_with_len 0 (net_count h) e 0 l in omega arith)) in
+    member_filter (is_on h v) (range_with_len 0 (net_count h)) e on listed
+
 between_all : (h : Hyper) (p : List ℕ) (v to e b : ℕ) → v < length p → e < net_count h → counts_between h p (moved p v to) (nets_of h v) e b ≡ counts_of h
     (moved p v to) e b
 between_all h p v to e b inside l = by (is_member nat_eq (nets_of h v) e) refl
@@ -323,15 +403,26 @@ between_all h p v to e b inside l = by (is_member nat_eq (nets_of h v) e) refl
         e b
     by true q = refl
     by false q =
-        sym
-        (pins_in-set_apart p (net_of h e).pins v to inside
-        (λ c.
-        let on = (is_member-Decides Decides-eqb (net_of h e).pins v).1 c in
-        let listed = list_any_at (nat_eq e) (range_with_len 0 (net_count h)) e 0 (let n = length-range_with_len 0 (net_count h) in omega arith)
-        (eq-eqb e (get_or (range_with_len 0 (net_count h)) e 0) (let g = get_or-range_with_len 0 (net_count h) e 0 l in omega arith)) in
-        absurd (true≢false (sym (member_filter (is_on h v) (range_with_len 0 (net_count h)) e on listed) ∙ q)))
-        b)
+        sym (pins_in-set_apart p (net_of h e).pins v to inside (λ c. absurd (true≢false (sym (member_of h v e l c) ∙ q))) b)
 
 pub all_moved : (h : Hyper) (k : ℕ) (p words : List ℕ) (v to : ℕ) → v < length p → HoldsCounts h k words (counts_between h p (moved p v to) (nets_of h v)) →
     HoldsCounts h k words (counts_of h (moved p v to))
 all_moved h k p words v to inside held e b l low = held e b l low ∙ between_all h p v to e b inside l
+
+spread_between_all : (h : Hyper) (p : List ℕ) (v to e : ℕ) → v < length p → e < net_count h →
+    (if is_member nat_eq (nets_of h v) e then connectivity (moved p v to) (net_of h e).pins else connectivity p (net_of h e).pins) ≡ connectivity
+    (moved p v to) (net_of h e).pins
+spread_between_all h p v to e inside l = by (is_member nat_eq (nets_of h v) e) refl
+  where
+    by : (t : Bool) → is_member nat_eq (nets_of h v) e ≡ t → (if t then connectivity (moved p v to) (net_of h e).pins else connectivity p
+        (net_of h e).pins) ≡ connectivity (moved p v to) (net_of h e).pins
+    by true q = refl
+    by false q = sym (connectivity-set_apart p (net_of h e).pins v to inside (λ c. absurd (true≢false (sym (member_of h v e l c) ∙ q))))
+
+pub all_respread : (h : Hyper) (k : ℕ) (p words : List ℕ) (v to : ℕ) → v < length p → HaveSpreadsBetween h k p (moved p v to) (nets_of h v) words →
+    HaveSpreads h k (moved p v to) (net_count h) words
+all_respread h k p words v to inside have e l = have e l ∙ ap (λ n. 64 + n) (spread_between_all h p v to e inside l)
+
+-- no net has been respread yet
+pub none_respread : (h : Hyper) (k : ℕ) (p after words : List ℕ) → HaveSpreads h k p (net_count h) words → HaveSpreadsBetween h k p after [] words
+none_respread h k p after words have e l = have e l

@@ -6,7 +6,7 @@ use Rattle.std.proofs.lemmas.Bool.{cases_eq}
 use Rattle.std.proofs.lemmas.Int.{ints}
 use mir.Val.{of_z, to_z}
 use mir.Syntax.{w64}
-use Rattle.hg_defs.specs.Hypergraph.{Hyper, vertex_count, weight_of}
+use Rattle.hg_defs.specs.Hypergraph.{Hyper, vertex_count, net_count, weight_of}
 use Rattle.hg_defs.specs.Partition.{IsPartition, weight_in, load, block_of}
 use Rattle.hg_defs.specs.Cost.{cost}
 use Rattle.hg_defs.specs.Contraction.{contract, after}
@@ -16,7 +16,7 @@ use Rattle.hg_defs.specs.Moves.{moved}
 use Rattle.hg_defs.proofs.SumLaws.{weight_in-take_more, weight_if-same, weight_if-other}
 use Rattle.hg_defs.proofs.MoveLaws.{load-moved_new, load-moved_old, load-moved_other}
 use Rattle.pin_plain.specs.Parted.{IsLoaded, IsTallied, KeepsCost, loads_after}
-use Rattle.pin_plain.specs.Counts.{HoldsCounts, counts_of}
+use Rattle.pin_plain.specs.Counts.{HoldsCounts, HaveSpreads, counts_of}
 use Rattle.incidence.proofs.IndexLaws.{written_back}
 use Rattle.std.proofs.lemmas.List.Elements.{All-set, All-map}
 
@@ -117,11 +117,12 @@ weight_within h k p loads v to loaded long vertex from other =
 pub kept_shifted :
     (h : Hyper) (k : ℕ) (p q loads starts widths words : List ℕ) (v to n m : ℕ) (new_loads old_loads new_words old_words : List ℕ)
     → IsTallied h k p loads starts widths words → to < k → q ≡ moved p v to
-    → IsLoaded h k (moved p v to) new_loads → HoldsCounts h k new_words (counts_of h (moved p v to)) → length new_words ≡ length words →
+    → IsLoaded h k (moved p v to) new_loads → HoldsCounts h k new_words (counts_of h (moved p v to)) →
+    HaveSpreads h k (moved p v to) (net_count h) new_words → length new_words ≡ length words →
     length new_loads ≡ n →
     length new_words ≡ m
     → IsTallied h k q (take n (new_loads ++ drop (length new_loads) old_loads)) starts widths (take m (new_words ++ drop (length new_words) old_words))
-kept_shifted h k p q loads starts widths words v to n m new_loads old_loads new_words old_words kept low same loaded counted long ln lm =
+kept_shifted h k p q loads starts widths words v to n m new_loads old_loads new_words old_words kept low same loaded counted spreads long ln lm =
     subst (λ ls. IsTallied h k q ls starts widths (take m (new_words ++ drop (length new_words) old_words))) (sym (written_back n new_loads old_loads ln))
     (subst (λ ws. IsTallied h k q new_loads starts widths ws) (sym (written_back m new_words old_words lm))
     (subst (λ r. IsTallied h k r new_loads starts widths new_words) (sym same)
@@ -142,6 +143,7 @@ kept_shifted h k p q loads starts widths words v to n m new_loads old_loads new_
       laid = record { nets = kept.laid.nets; starts_at = kept.laid.starts_at; all = long ∙ kept.laid.all };
       wide = kept.wide;
       counted = counted;
+      spreads = spreads;
     })))
 
 -- a difference of small numbers, as a signed word

@@ -10,10 +10,9 @@ use Rattle.hg_defs.specs.Pins.{present, pins_in}
 use Rattle.hg_defs.specs.Sums.{sum_below}
 use Rattle.hg_defs.proofs.SumLaws.{sum_below-same, total_at-le}
 use Rattle.hg_defs.proofs.DistinctLaws.{connectivity-sum, connectivity-le, blocks_of_pins}
-use Rattle.pin_plain.specs.Counts.{net_bits, net_words, net_place, net_start, HoldsCounts}
+use Rattle.pin_plain.specs.Counts.{net_bits, net_place, net_start, HoldsCounts, HaveSpreads}
 use Rattle.pin_plain.specs.Parted.{IsParted, IsTold}
-use Rattle.pin_plain.specs.Opened.{HaveSpreads}
-use Rattle.pin_plain.proofs.CountLaws.{net_place_next, net_place-le, word_below, bits_width}
+use Rattle.pin_plain.proofs.CountLaws.{net_place_next, net_place-le}
 use Rattle.pin_plain.proofs.ScoreLaws.{told_count}
 
 module _ (h : Hyper) (k : ℕ) where
@@ -23,23 +22,6 @@ module _ (h : Hyper) (k : ℕ) where
   counts_kept old new counts held same e b l low =
       let from = net_place-le h k 0 e (omega arith) in
       ap (λ w. field w (net_bits h e) (b % fields_of (net_bits h e))) (same (net_start h k e + b / fields_of (net_bits h e)) (omega arith)) ∙ held e b l low
-
-  spread_apart : (e i y : ℕ) → y < net_words h k i → net_start h k i + y ≢ net_place h k e
-  spread_apart e i y l = by (cases_lt i e)
-    where
-      by : (i < e) ⊎ (e ≤ i) → net_start h k i + y ≢ net_place h k e
-      by (inl q) = let next = net_place_next h k i in let upto = net_place-le h k (i + 1) e (omega arith) in omega arith
-      by (inr q) = let upto = net_place-le h k e i q in omega arith
-
-  -- the word before the counts of a net is none of them
-  pub counts_beside : (words : List ℕ) (counts : ℕ → ℕ → ℕ) (e x : ℕ) → HoldsCounts h k words counts →
-      HoldsCounts h k (slice_set words (net_place h k e) x) counts
-  counts_beside words counts e x held i b l low =
-      let inside = word_below (net_bits h i) (net_words h k i) b (bits_width (length (net_of h i).pins)) low in
-      ap (λ w. field w (net_bits h i) (b % fields_of (net_bits h i)))
-      (get_or-set_other words (net_place h k e) (net_start h k i + b / fields_of (net_bits h i)) x 0
-      (spread_apart e i (b / fields_of (net_bits h i)) inside))
-      ∙ held i b l low
 
   -- one net more
   pub spreads_more : (p words : List ℕ) (e t : ℕ) → HaveSpreads h k p e words → t ≡ connectivity p (net_of h e).pins →

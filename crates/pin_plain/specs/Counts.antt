@@ -5,6 +5,7 @@ use Rattle.std.specs.Set.{is_member}
 use Rattle.hg_defs.specs.Sums.{sum_below}
 use Rattle.hg_defs.specs.Hypergraph.{Hyper, vertex_count, net_count, net_of}
 use Rattle.hg_defs.specs.Pins.{pins_in}
+use Rattle.hg_defs.specs.Cost.{connectivity}
 use Rattle.hg_base.specs.Packed.{bits_of, fields_of, words_of, count_at}
 
 -- the bits and words of a net's counts
@@ -61,3 +62,13 @@ counts_before h p e i b = if nat_lt i e then counts_of h p i b else 0
 -- the nets among these hold the counts after a move, and the others those before it
 abbrev pub counts_between : Hyper → List ℕ → List ℕ → List ℕ → ℕ → ℕ → ℕ
 counts_between h before after nets e b = if is_member nat_eq nets e then counts_of h after e b else counts_of h before e b
+
+-- the word before its counts has 64 and the number of blocks that a net touches, for the nets below a bound
+abbrev pub HaveSpreads : Hyper → ℕ → List ℕ → ℕ → List ℕ → Type 0
+HaveSpreads h k p nets words = (e : ℕ) → e < nets → slice_index words (net_place h k e) ≡ 64 + connectivity p (net_of h e).pins
+
+-- the nets among these have the number of blocks after a move, and the others that before it
+abbrev pub HaveSpreadsBetween : Hyper → ℕ → List ℕ → List ℕ → List ℕ → List ℕ → Type 0
+HaveSpreadsBetween h k before after nets words =
+    (e : ℕ) → e < net_count h → slice_index words (net_place h k e) ≡ 64 + (if is_member nat_eq nets e then connectivity after (net_of h e).pins else
+    connectivity before (net_of h e).pins)

@@ -1,18 +1,13 @@
 -- The words of a partition as a round begins with them: nothing is claimed, no number and no seed is drawn, and the names, the
 -- loads, the number of blocks of each net and its counts are those of the partition.
 use Rattle.std.specs.Prelude.{◌≡◌, ◌⊎◌, ℕ, ◌+◌, ◌*◌, ◌<◌, ◌≤◌, List, length, slice_index}
-use Rattle.hg_defs.specs.Hypergraph.{Hyper, vertex_count, net_count, net_of}
+use Rattle.hg_defs.specs.Hypergraph.{Hyper, vertex_count, net_count}
 use Rattle.hg_defs.specs.Partition.{block_of, load}
-use Rattle.hg_defs.specs.Cost.{connectivity}
-use Rattle.pin_plain.specs.Counts.{net_place, all_words, HoldsCounts, counts_of}
+use Rattle.pin_plain.specs.Counts.{all_words, HoldsCounts, counts_of, HaveSpreads}
 
 -- the words before a place, and from another one on, are as they were
 abbrev pub SameOutside : ℕ → ℕ → List ℕ → List ℕ → Type 0
 SameOutside from to old new = (i : ℕ) → (i < from) ⊎ (to ≤ i) → slice_index new i ≡ slice_index old i
-
--- the nets below a bound have 64 and the number of blocks that they touch
-abbrev pub HaveSpreads : Hyper → ℕ → List ℕ → ℕ → List ℕ → Type 0
-HaveSpreads h k p nets words = (e : ℕ) → e < nets → slice_index words (net_place h k e) ≡ 64 + connectivity p (net_of h e).pins
 
 pub record IsOpened (h : Hyper) (k : ℕ) (p words : List ℕ) : Type 0 where
   pub wide : length words ≡ all_words h k

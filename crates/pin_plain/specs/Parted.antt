@@ -1,11 +1,11 @@
 -- A hypergraph that is parted into blocks, and what a partition keeps beside the blocks.
 use Rattle.std.specs.Prelude.{◌≡◌, ℕ, ◌+◌, ◌-◌, ◌<◌, ◌≤◌, List, length, slice_index, slice_set}
-use Rattle.hg_defs.specs.Hypergraph.{Hyper, IsHypergraph, IsWithinLimits, IsFixedWithin, Suits}
+use Rattle.hg_defs.specs.Hypergraph.{Hyper, IsHypergraph, IsWithinLimits, IsFixedWithin, Suits, net_count}
 use Rattle.hg_defs.specs.Partition.{IsPartition, load}
 use Rattle.hg_defs.specs.Cost.{cost}
 use Rattle.hg_defs.specs.Contraction.{contract}
 use Rattle.hg_defs.specs.ContractionLaws.{IsContractible}
-use Rattle.pin_plain.specs.Counts.{HasLayout, HasWidths, HoldsCounts, counts_of}
+use Rattle.pin_plain.specs.Counts.{HasLayout, HasWidths, HoldsCounts, counts_of, HaveSpreads}
 
 -- the hypergraph, the number of blocks, the limit on a load, and the block of each vertex
 pub record Parted : Type 0 where
@@ -41,13 +41,14 @@ pub record IsTold (h : Hyper) (k : ℕ) (p starts words : List ℕ) : Type 0 whe
   pub laid : HasLayout h k starts words
   pub counted : HoldsCounts h k words (counts_of h p)
 
--- the loads and the pin counts are those of the hypergraph and the blocks
+-- the loads, the pin counts and the numbers of blocks that nets touch are those of the hypergraph and the blocks
 pub record IsTallied (h : Hyper) (k : ℕ) (p loads starts widths words : List ℕ) : Type 0 where
   pub parted : IsParted h k p
   pub loaded : IsLoaded h k p loads
   pub laid : HasLayout h k starts words
   pub wide : HasWidths h widths
   pub counted : HoldsCounts h k words (counts_of h p)
+  pub spreads : HaveSpreads h k p (net_count h) words
 
 -- where the coarse hypergraph is the contraction of the fine one by the map, the two partitions have the same cost and loads
 abbrev pub KeepsCost : Hyper → List ℕ → Hyper → List ℕ → List ℕ → Type 0

@@ -3,11 +3,11 @@
 ghost use Rattle.std.specs.Prelude.{◌≡◌, ◌≢◌, ℕ, ◌+◌, ◌*◌, ◌/◌, ◌%◌, ◌^◌, ◌<◌, ◌≤◌, All, length};
 ghost use Rattle.std.specs.Prelude.{slice_index, replicate, IfOk, if◌then◌else◌, nat_eq};
 ghost use Rattle.hg_base.specs.Packed.{count_at, IsWidth, fields_of};
-ghost use Rattle.hg_defs.specs.Hypergraph.{vertex_count, Suits};
+ghost use Rattle.hg_defs.specs.Hypergraph.{vertex_count, net_count, Suits};
 ghost use Rattle.hg_defs.specs.Partition.{block_of};
 ghost use Rattle.hg_defs.specs.Moves.{moved};
 ghost use Rattle.hg_defs.specs.Pins.{pins_in};
-ghost use Rattle.pin_plain.specs.Counts.{all_words, counts_of, HasLayout, HasStarts, HasWidths, HoldsCounts};
+ghost use Rattle.pin_plain.specs.Counts.{all_words, counts_of, HasLayout, HasStarts, HasWidths, HoldsCounts, HaveSpreads};
 ghost use Rattle.pin_plain.specs.Parted.{IsParted};
 
 use hg_base::{NoMemory, bits_of, field, lower_field, place_of, raise_field, words_of};
@@ -92,7 +92,8 @@ pub fn count_nets(h: &Hypergraph, k: u32, blocks: &[u32], starts: &[u32], words:
     }
 }
 
-/// Moves the pin of a vertex to another block in the counts of each of its nets.
+/// Moves the pin of a vertex to another block in the counts of each of its nets, and in the number of blocks that
+/// the net touches.
 pub fn move_pin(
     h: &Hypergraph,
     k: u32,
@@ -105,18 +106,24 @@ pub fn move_pin(
     requires parted { IsParted h.now k blocks.now }
     requires laid { HasLayout h.now k starts.now words.old }
     requires counted { HoldsCounts h.now k words.old (counts_of h.now blocks.now) }
+    requires spreads { HaveSpreads h.now k blocks.now (net_count h.now) words.old }
     requires vertex { v < vertex_count h.now }
     requires block { to < k }
     requires other { to ≢ block_of blocks.now v }
-    ensures { HoldsCounts h.now k words.new (counts_of h.now (moved blocks.now v to)) }
+    ensures counted { HoldsCounts h.now k words.new (counts_of h.now (moved blocks.now v to)) }
+    ensures spreads { HaveSpreads h.now k (moved blocks.now v to) (net_count h.now) words.new }
 {
     prove!(to < k);
     let from = blocks[v as usize];
     for e in h.nets_of(v) {
         let start = starts[*e as usize];
         let bits = bits_of(h.pins(*e).len() as u32);
+        let left = u64::from(count(words, start, bits, from) == 1);
+        let joined = u64::from(count(words, start, bits, to) == 0);
         lower(words, start, bits, from);
         raise(words, start, bits, to);
+        let spread = start as usize - 1;
+        words[spread] = words[spread] + joined - left;
     }
 }
 

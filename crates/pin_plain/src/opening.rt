@@ -1,17 +1,17 @@
 //! What a round begins with, written into the words of a partition, which have the counts already.
 
-ghost use Rattle.std.specs.Prelude.{◌≡◌, ℕ, ◌+◌, ◌*◌, ◌/◌, ◌<◌, ◌≤◌, ◌^◌, All, length, slice_index};
+ghost use Rattle.std.specs.Prelude.{◌≡◌, ℕ, ◌+◌, ◌*◌, ◌/◌, ◌<◌, ◌≤◌, ◌^◌, All, length, slice_index, replicate};
 ghost use Rattle.hg_defs.specs.Sums.{sum_below};
 ghost use Rattle.hg_defs.specs.Hypergraph.{vertex_count, net_count, net_of};
 ghost use Rattle.hg_defs.specs.Cost.{connectivity, cost};
 ghost use Rattle.hg_defs.specs.Cost as costs;
 ghost use Rattle.hg_defs.specs.Pins.{present};
 ghost use Rattle.hg_base.specs.Packed.{IsWidth, fields_of, count_at};
-ghost use Rattle.pin_plain.specs.Counts.{net_place, counts_of, HasLayout, HoldsCounts};
+ghost use Rattle.pin_plain.specs.Counts.{counts_of, HasLayout, HoldsCounts, HaveSpreads};
 ghost use Rattle.pin_plain.specs.Parted.{IsParted, IsLoaded};
-ghost use Rattle.pin_plain.specs.Opened.{IsOpened, HaveSpreads, SameOutside};
+ghost use Rattle.pin_plain.specs.Opened.{IsOpened, SameOutside};
 
-use crate::counts::count;
+use crate::counts::{count, count_nets};
 use hg_base::{BlockSet, Objective, bits_of, price};
 use incidence::Hypergraph;
 
@@ -104,27 +104,50 @@ fn cost_at(h: &Hypergraph, e: u32, objective: Objective, touched: u64) -> u64
     h.net_weight(e) * price(objective, touched)
 }
 
-/// Writes for each net 64 and the number of blocks that it touches, and tells the cost.
-fn write_spreads(words: &mut [u64], h: &Hypergraph, k: u32, blocks: &[u32], starts: &[u32]) -> u64
+/// Writes for each net 64 and the number of blocks that it touches.
+fn write_spreads(words: &mut [u64], h: &Hypergraph, k: u32, blocks: &[u32], starts: &[u32])
     requires parted { IsParted h.now k blocks.now }
     requires laid { HasLayout h.now k starts.now words.old }
     requires counted { HoldsCounts h.now k words.old (counts_of h.now blocks.now) }
     ensures counted { HoldsCounts h.now k words.new (counts_of h.now blocks.now) }
     ensures spreads { HaveSpreads h.now k blocks.now (net_count h.now) words.new }
-    ensures before { (i : ℕ) → i < net_place h.now k 0 → slice_index words.new i ≡ slice_index words.old i }
-    ensures cost { result ≡ cost h.now blocks.now }
+{
+    for e in 0..h.nets() {
+        let touched = touched(words, h, k, blocks, starts, e);
+        words[starts[e as usize] as usize - 1] = 64 + touched;
+    }
+}
+
+/// Counts the pins of all nets in `k` blocks, and the blocks that each net touches, from words of 0.
+pub fn tally(h: &Hypergraph, k: u32, blocks: &[u32], starts: &[u32], words: &mut [u64])
+    requires parted { IsParted h.now k blocks.now }
+    requires laid { HasLayout h.now k starts.now words.old }
+    requires zeros { words.old ≡ replicate (length words.old) 0 }
+    ensures counted { HoldsCounts h.now k words.new (counts_of h.now blocks.now) }
+    ensures spreads { HaveSpreads h.now k blocks.now (net_count h.now) words.new }
+{
+    count_nets(h, k, blocks, starts, words);
+    write_spreads(words, h, k, blocks, starts);
+}
+
+/// The cost, by the numbers of blocks that the nets touch.
+pub fn cost_by_spreads(words: &[u64], h: &Hypergraph, k: u32, blocks: &[u32], starts: &[u32]) -> u64
+    requires parted { IsParted h.now k blocks.now }
+    requires laid { HasLayout h.now k starts.now words.now }
+    requires spreads { HaveSpreads h.now k blocks.now (net_count h.now) words.now }
+    ensures value { result ≡ cost h.now blocks.now }
+    ensures bound { result < 2 ^ 57 }
 {
     let objective = h.objective();
     let mut sum = 0;
     for e in 0..h.nets() {
-        let touched = touched(words, h, k, blocks, starts, e);
-        words[starts[e as usize] as usize - 1] = 64 + touched;
+        let touched = words[starts[e as usize] as usize - 1] - 64;
         sum += cost_at(h, e, objective, touched);
     }
     sum
 }
 
-/// Writes all but the counts, and tells the cost.
+/// Writes what a round has beside the counts and spreads.
 pub fn open_words(
     words: &mut [u64],
     h: &Hypergraph,
@@ -132,17 +155,16 @@ pub fn open_words(
     blocks: &[u32],
     loads: &[u64],
     starts: &[u32],
-) -> u64
+)
     requires parted { IsParted h.now k blocks.now }
     requires loaded { IsLoaded h.now k blocks.now loads.now }
     requires laid { HasLayout h.now k starts.now words.old }
     requires counted { HoldsCounts h.now k words.old (counts_of h.now blocks.now) }
-    ensures opened { IsOpened h.now k blocks.now words.new }
-    ensures cost { result ≡ cost h.now blocks.now }
+    requires spreads { HaveSpreads h.now k blocks.now (net_count h.now) words.old }
+    ensures { IsOpened h.now k blocks.now words.new }
 {
     let n = h.vertices() as usize;
     write_zeros(words, n + 2);
     write_names(words, n + 2, blocks);
     write_loads(words, 2 * n + 2, loads);
-    write_spreads(words, h, k, blocks, starts)
 }

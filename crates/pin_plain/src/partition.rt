@@ -15,11 +15,12 @@ mod marking;
 mod ready;
 mod sweep;
 
-use crate::counts::{count, count_nets, lay_out, move_pin};
+use crate::counts::{count, lay_out, move_pin};
 use crate::gains::saved_and_lost;
 use crate::lent::Lent;
+use crate::opening::{cost_by_spreads, tally};
 pub use best::BestMove;
-use hg_base::{Blocks, Items, NoMemory, bits_of, cost_of};
+use hg_base::{Blocks, Items, NoMemory, bits_of};
 use incidence::Hypergraph;
 pub use ready::Ready;
 use std::alloc::Global;
@@ -106,7 +107,7 @@ impl Partition {
         let layout = lay_out(alloc, h, k)?;
         let mut words = vec![in alloc; 0u64; layout.words as usize]?;
         add_weights(h, blocks.slice(), loads.as_mut_slice());
-        count_nets(
+        tally(
             h,
             k,
             blocks.slice(),
@@ -175,7 +176,13 @@ impl Partition {
         ensures value { result ≡ cost h.now self.now.blocks }
         ensures bound { result < 2 ^ 57 }
     {
-        cost_of(h.flat(), self.blocks.slice(), self.k)
+        cost_by_spreads(
+            self.words.as_slice(),
+            h,
+            self.k,
+            self.blocks.slice(),
+            self.starts.as_slice(),
+        )
     }
 
     /// How many pins of a net are in a block.

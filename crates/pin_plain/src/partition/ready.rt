@@ -102,6 +102,7 @@ impl Partition {
         ensures same { result.0 ≡ self }
         ensures cost { result.1 ≡ cost h.now self.blocks }
     {
+        let cost = self.cost(h);
         let Partition {
             hyper,
             k,
@@ -112,7 +113,7 @@ impl Partition {
             widths,
             mut words,
         } = self;
-        let cost = open_words(
+        open_words(
             words.as_mut_slice(),
             h,
             k,

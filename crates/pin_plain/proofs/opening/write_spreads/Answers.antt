@@ -1,10 +1,8 @@
 use Rattle.std.proofs.Common.{rules, ◌≡◌, ℕ, ◌+◌, ◌-◌, ◌<◌, List, slice_index, slice_set, get_or-set_other, sym, ap, ap₂, subst, ◌∙◌, arith}
 use Rattle.hg_defs.specs.Hypergraph.{net_count}
-use Rattle.hg_base.proofs.CountLaws.{cost_so_far-lt, cost_more}
-use Rattle.pin_plain.specs.Counts.{net_place, HoldsCounts, counts_of}
-use Rattle.pin_plain.specs.Opened.{HaveSpreads}
-use Rattle.pin_plain.proofs.CountLaws.{net_part, net_place-le}
-use Rattle.pin_plain.proofs.OpeningLaws.{counts_beside, spreads_more, few_blocks, net_pays}
+use Rattle.pin_plain.specs.Counts.{net_place, HoldsCounts, HaveSpreads, counts_of}
+use Rattle.pin_plain.proofs.CountLaws.{net_part, counts_beside}
+use Rattle.pin_plain.proofs.OpeningLaws.{spreads_more, few_blocks}
 use Rattle.pin_plain.proofs.opening.write_spreads.Goals as goal
 
 pub overflow_add-words : goal.overflow_add-words
@@ -21,24 +19,6 @@ bounds-words-starts c =
     let all = c.requires.laid.all in
     omega arith
 
-pub cost_at-sum-requires-clause-fits : goal.cost_at-sum-requires-clause-fits
-cost_at-sum-requires-clause-fits c =
-    let h = c.args.h.now in
-    let p = c.args.blocks.now in
-    let pays = net_pays h p c.objective-objective.result c.loop-e.e c.touched-touched.result c.objective-objective.ensures c.touched-touched.ensures in
-    let most = cost_so_far-lt h p c.loop-e.e c.requires.parted.bounds (search rules) in
-    omega arith
-
-pub overflow_add-sum : goal.overflow_add-sum
-overflow_add-sum c =
-    let h = c.args.h.now in
-    let p = c.args.blocks.now in
-    let pays = c.cost_at-sum.ensures ∙ net_pays h p c.objective-objective.result c.loop-e.e c.touched-touched.result c.objective-objective.ensures
-    c.touched-touched.ensures in
-    let most = cost_so_far-lt h p c.loop-e.e c.requires.parted.bounds (search rules) in
-    let sum = c.loop-e.invariant.sum in
-    omega arith
-
 pub loop-e-preserved : goal.loop-e-preserved
 loop-e-preserved c =
     let h = c.args.h.now in
@@ -53,11 +33,7 @@ loop-e-preserved c =
     let at : slice_index c.args.starts.now e - 1 ≡ net_place h k e = (let s = c.requires.laid.starts_at e l in omega arith) in
     let new : List ℕ = slice_set words (net_place h k e) (64 + t) in
     let same : slice_set words (slice_index c.args.starts.now e - 1) (64 + t) ≡ new = ap (λ i. slice_set words i (64 + t)) at in
-    let first = net_place-le h k 0 e (omega arith) in
-    let pays = c.cost_at-sum.ensures ∙ net_pays h p c.objective-objective.result e t c.objective-objective.ensures c.touched-touched.ensures in
     record {
-      sum = ap₂ (λ (m n : ℕ). m + n) c.loop-e.invariant.sum pays ∙ sym (cost_more h p e l);
       counted = subst (λ ws. HoldsCounts h k ws (counts_of h p)) (sym same) (counts_beside h k words (counts_of h p) e (64 + t) c.loop-e.invariant.counted);
       spreads = subst (HaveSpreads h k p (e + 1)) (sym same) (spreads_more h k p words e t c.loop-e.invariant.spreads c.touched-touched.ensures (omega arith));
-      before = λ i q. ap (λ ws. slice_index ws i) same ∙ get_or-set_other words (net_place h k e) i (64 + t) 0 (omega arith) ∙ c.loop-e.invariant.before i q;
     }

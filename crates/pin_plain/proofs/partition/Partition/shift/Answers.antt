@@ -1,10 +1,10 @@
 use Rattle.std.proofs.Common.{◌≡◌, ◌≢◌, ◌<◌, ◌∙◌, ℕ, List, slice_index, sym, ap, subst, arith}
-use Rattle.hg_defs.specs.Hypergraph.{Hyper, vertex_count, weight_of}
+use Rattle.hg_defs.specs.Hypergraph.{Hyper, vertex_count, net_count, weight_of}
 use Rattle.hg_defs.specs.Partition.{block_of}
 use Rattle.hg_defs.specs.Moves.{moved}
 use Rattle.hg_defs.proofs.SumLaws.{weight_in-le}
 use Rattle.pin_plain.specs.Parted.{Parted, IsLoaded, loads_after}
-use Rattle.pin_plain.specs.Counts.{HoldsCounts, counts_of}
+use Rattle.pin_plain.specs.Counts.{HoldsCounts, HaveSpreads, counts_of}
 use Rattle.pin_plain.proofs.LoadLaws.{weight_moved, weight_within, kept_shifted}
 use Rattle.pin_plain.proofs.partition.Partition.shift.Goals as goal
 
@@ -63,7 +63,11 @@ invariant_of-self c =
     let counted =
     subst (λ (x : Hyper). HoldsCounts x k c.move_pin.new.words (counts_of x (moved p v to))) (sym hyper)
     (subst (λ (xs : List ℕ). HoldsCounts c.args.h.now k c.move_pin.new.words (counts_of c.args.h.now (moved xs v to))) c.slice-2.ensures
-    c.move_pin.ensures) in
+    c.move_pin.ensures.counted) in
+    let spreads =
+    subst (λ (x : Hyper). HaveSpreads x k (moved p v to) (net_count x) c.move_pin.new.words) (sym hyper)
+    (subst (λ (xs : List ℕ). HaveSpreads c.args.h.now k (moved xs v to) (net_count c.args.h.now) c.move_pin.new.words) c.slice-2.ensures
+    c.move_pin.ensures.spreads) in
     kept_shifted h k p c.set.new.self c.self.inside.loads.items c.self.inside.starts.items c.self.inside.widths.items c.self.inside.words.items v to
     c.self.inside.loads.len c.self.inside.words.len
-    c.move_weight.new.loads _ c.move_pin.new.words _ c.self.invariant low c.set.ensures loaded counted (omega arith) (omega arith) (omega arith)
+    c.move_weight.new.loads _ c.move_pin.new.words _ c.self.invariant low c.set.ensures loaded counted spreads (omega arith) (omega arith) (omega arith)
