@@ -3,10 +3,8 @@ use denote.Param.Send.{IsSync, sendable, shr_sync, view_sync, struct_sync, recor
 use Rattle.std.proofs.Crossing.{crosses}
 use Rattle.pin_plain.specs.contracts.partition.ready.Ready as ready
 use Rattle.move_table.specs.contracts.view.Terms as terms
-use Rattle.move_table.specs.contracts.place.NetPlace as place
 use Rattle.move_table.specs.contracts.round.Round as round
 use Rattle.incidence.proofs.hypergraph.Hypergraph.TheSendSync as hyper
-use Rattle.std.specs.contracts.vec.Vec as vec
 use Rattle.std.specs.contracts.alloc.Global as global
 use Rattle.std.specs.contracts.impls.GlobalAllocator.TheImpl as impls
 use Rattle.incidence.specs.contracts.hypergraph.Hypergraph as graph
@@ -22,12 +20,6 @@ use Rattle.atomic_table.specs.contracts.owned.Table as tables
 ready_sync : IsSync ready.the_row
 ready_sync = search (sendable, crosses) depth 20
 
-place_sync : IsSync place.the_row
-place_sync = search (sendable, crosses) depth 20
-
-vec_sync : IsSync (vec.the_row place.the_row global.the_row impls.ghosts)
-vec_sync = search (sendable, crosses, place_sync) depth 20
-
 hyper_sync : (ℓ : _) (κ : _) → IsSync (ShrRef ℓ κ graph.the_row)
 hyper_sync ℓ κ = shr_sync ℓ κ graph.the_row (hyper.the_sync)
 
@@ -40,7 +32,7 @@ table_field_sync V K P g = search (sendable, crosses, shared.the_sync, lease.the
 
 inside_sync : (κ : _) → IsSync (round.TheInside.the_row κ)
 inside_sync κ = recorded_sync _ _ _ ((round.TheInside.the_type κ).to_one) (struct_sync (declared.shape (round.TheInside.the_type κ))
-    (hyper_sync _ _, (terms_field_sync, (vec_sync, (search table_field_sync, (search (sendable, crosses), tt))))))
+    (hyper_sync _ _, (terms_field_sync, (search table_field_sync, (search (sendable, crosses), tt)))))
 
 -- a round may be shared by threads
 pub round_sync : (κ : _) → IsSync (round.the_row κ)

@@ -23,8 +23,7 @@ use Rattle.move_table.specs.declared.view.Terms.{Terms}
 use Rattle.move_table.specs.declared.view.View.{View}
 use Rattle.move_table.specs.declared.grant.Grant.{Grant}
 use Rattle.move_table.specs.declared.grant.Done.{Done}
-use Rattle.move_table.specs.declared.place.NetPlace.{NetPlace}
-use Rattle.move_table.specs.Places.{net_place, word_count}
+use Rattle.move_table.specs.Places.{word_count}
 use Rattle.move_table.specs.Standing.{terms_setup, IsTerms}
 use Rattle.move_table.specs.Steps.{acted}
 
@@ -220,18 +219,11 @@ pub record IsPass (i : ℕ) (grant : Option Grant) (done : List Done) (gain : �
   pub last : me.0.may ≡ 0
   pub grants : AreGrantsOf me.0.terms grant
 
--- where the words of each net begin, and how wide its counts are
-pub record HasNetPlaces (g : Setup) (nets : List NetPlace) : Type 0 where
-  pub all : length nets ≡ net_count g.graph
-  pub starts_at : (e : ℕ) (d : NetPlace) → e < net_count g.graph → (slice_index_or nets e d).start ≡ net_place g e
-  pub width_of : (e : ℕ) (d : NetPlace) → e < net_count g.graph → (slice_index_or nets e d).bits ≡ net_bits g.graph e
-
 -- what a round keeps beside its words
-pub record IsRound (h : Hyper) (t : Terms) (nets : List NetPlace) (table : TableId) (key : Terms) (opened : ℕ) : Type 0 where
+pub record IsRound (h : Hyper) (t : Terms) (table : TableId) (key : Terms) (opened : ℕ) : Type 0 where
   pub terms : IsTerms t
   pub hyper : h ≡ t.part.hyper
   pub same_key : key ≡ t
-  pub places : HasNetPlaces (terms_setup t) nets
   pub wide : table.words ≡ word_count (terms_setup t)
   pub bare : table.slots ≡ 0
   pub priced : opened ≡ cost t.part.hyper t.part.blocks

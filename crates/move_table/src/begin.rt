@@ -5,11 +5,9 @@ ghost use Rattle.hg_defs.specs.Partition.{Fits};
 ghost use Rattle.move_core.specs.State.{blank};
 ghost use Rattle.move_table.specs.Places.{word_count};
 ghost use Rattle.move_table.specs.Standing.{terms_setup, IsTerms, first_view};
-ghost use Rattle.move_table.specs.Calls.{AreFresh, HasNetPlaces};
+ghost use Rattle.move_table.specs.Calls.{AreFresh};
 
-use crate::open::lay_out;
 use crate::pass::{Pass, Passes};
-use crate::place::NetPlace;
 use crate::round::Round;
 use crate::rule::Balanced;
 use crate::steps;
@@ -41,29 +39,21 @@ fn make_passes(alloc: Global, words: &Words, seat: Place, workers: u32) -> Resul
 
 /// What a round begins with.
 pub(crate) struct Begun {
-    pub(crate) nets: Vec<NetPlace>,
     pub(crate) table: Table<(), View, Terms, Balanced, Global>,
     pub(crate) passes: Passes,
 }
 
 /// Takes all memory of a round, copies its words, and makes its passes.
-fn begin(alloc: Global, hyper: &Hypergraph, terms: &Terms) -> Result<Begun, NoMemory>
-    requires terms { IsTerms terms.now }
-    requires belongs { hyper.now ≡ terms.now.part.hyper }
-    ensures nets { IfOk result (λ b. HasNetPlaces (terms_setup terms.now) b.nets.items) }
+fn begin(alloc: Global, terms: &Terms) -> Result<Begun, NoMemory>
+    requires { IsTerms terms.now }
     ensures key { IfOk result (λ b. b.table.shared.key ≡ terms.now) }
     ensures wide { IfOk result (λ b. b.table.shared.table_id.words ≡ word_count (terms_setup terms.now)) }
     ensures bare { IfOk result (λ b. b.table.shared.table_id.slots ≡ 0) }
     ensures passes { IfOk result (λ b. AreFresh b.table.shared.table_id terms.now b.passes) }
 {
-    let nets = lay_out(alloc, hyper, terms)?;
     let (table, seat) = Table::of_words(alloc, terms.part.words(), terms)?;
     let passes = make_passes(alloc, &table.shared, seat, terms.workers)?;
-    Ok(Begun {
-        nets,
-        table,
-        passes,
-    })
+    Ok(Begun { table, passes })
 }
 
 impl<'h> Round<'h> {
@@ -86,18 +76,11 @@ impl<'h> Round<'h> {
         let (part, opening_cost) = part.into_ready(hyper);
         let _blocks = part.blocks();
         let terms = Terms { part, workers };
-        match begin(alloc, hyper, &terms) {
-            Ok(
-                Begun {
-                    nets,
-                    table,
-                    passes,
-                },
-            ) => Ok((
+        match begin(alloc, &terms) {
+            Ok(Begun { table, passes }) => Ok((
                 Round {
                     hyper,
                     terms,
-                    nets,
                     table,
                     opening_cost,
                 },

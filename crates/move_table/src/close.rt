@@ -157,7 +157,6 @@ impl<'h> Round<'h> {
         let Round {
             hyper,
             terms,
-            nets: _nets,
             table,
             opening_cost,
         } = self;

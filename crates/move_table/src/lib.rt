@@ -11,7 +11,6 @@ mod close;
 mod closed;
 mod deed;
 mod grant;
-mod open;
 mod pass;
 mod place;
 mod round;

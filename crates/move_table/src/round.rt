@@ -26,7 +26,6 @@ use std::marker::Model;
 pub struct Round<'h> {
     pub(crate) hyper: &'h Hypergraph,
     pub(crate) terms: Terms,
-    pub(crate) nets: Vec<NetPlace>,
     pub(crate) table: Table<(), View, Terms, Balanced, Global>,
     pub(crate) opening_cost: u64,
 }
@@ -38,7 +37,7 @@ impl<'h> Model for Round<'h> {
 
     ghost view = { λ r. record { table = r.table.shared.table_id; terms = r.terms } };
 
-    ghost invariant = { λ r. IsRound r.hyper.now r.terms r.nets.items r.table.shared.table_id r.table.shared.key
+    ghost invariant = { λ r. IsRound r.hyper.now r.terms r.table.shared.table_id r.table.shared.key
         r.opening_cost };
 }
 
@@ -126,7 +125,8 @@ impl<'h> Round<'h> {
         ensures bits { result.bits ≡ net_bits self.now.terms.part.hyper e }
         ensures width { IsWidth result.bits }
     {
-        self.nets[e as usize]
+        let (start, bits) = self.terms.part.place_of_net(e);
+        NetPlace { start, bits }
     }
 
     /// Where the count of a net in a block stands.

@@ -1,7 +1,10 @@
 //! A partition as a round begins with it.
 
-ghost use Rattle.std.specs.Prelude.{◌≡◌};
+ghost use Rattle.std.specs.Prelude.{◌≡◌, ◌<◌};
+ghost use Rattle.hg_defs.specs.Hypergraph.{net_count};
 ghost use Rattle.hg_defs.specs.Cost.{cost};
+ghost use Rattle.hg_base.specs.Packed.{IsWidth};
+ghost use Rattle.pin_plain.specs.Counts.{net_place, net_bits};
 ghost use Rattle.pin_plain.specs.Parted.{IsParted};
 ghost use Rattle.pin_plain.specs.Opened.{IsOpened};
 
@@ -66,6 +69,18 @@ impl Ready {
         ensures { result ≡ self.now.limit }
     {
         self.limit
+    }
+
+    /// Where the words of a net begin, the number of its blocks first, and how many bits each of its counts takes.
+    pub fn place_of_net(&self, e: u32) -> (u32, u32)
+        requires { e < net_count self.now.hyper }
+        ensures start { result.0 ≡ net_place self.now.hyper self.now.k e }
+        ensures bits { result.1 ≡ net_bits self.now.hyper e }
+        ensures width { IsWidth result.1 }
+    {
+        let starts = self.starts.as_slice();
+        let widths = self.widths.as_slice();
+        (starts[e as usize] - 1, u32::from(widths[e as usize]))
     }
 
     /// Gives the partition back.
