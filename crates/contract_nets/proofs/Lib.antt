@@ -1,7 +1,6 @@
 pub mod ImageLaws
 pub mod KeyLaws
 pub mod VertexLaws
-pub mod RoomLaws
 pub mod NetLaws
 pub mod MergeLaws
 pub mod SortedLaws

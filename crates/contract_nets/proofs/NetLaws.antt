@@ -1,12 +1,9 @@
 -- Laws of lists of nets, and of hypergraphs that get their nets.
 use Rattle.std.proofs.Common.{◌≡◌, ℕ, ◌+◌, ◌*◌, ◌<◌, List, [], ◌∷◌, ◌++◌, length, take, drop, get_or, All, refl, sym, ap, ◌∙◌, subst, arith}
-use Rattle.std.proofs.lemmas.List.{append_assoc, append-nil, length-append, take-append-drop, take_more, drop_more, get_or_append_left, get_or-append-add}
+use Rattle.std.proofs.lemmas.List.{append_assoc, append-nil, length-append, take-append-drop, take_more, get_or_append_left, get_or-append-add}
 use Rattle.hg_defs.specs.Hypergraph.{Net, Hyper, IsWithinLimits}
 use Rattle.hg_defs.proofs.SumLaws.{total-append}
-use Rattle.hg_base.specs.Flat.{net_at, nets_at}
-use Rattle.hg_base.proofs.FlatLaws.{get_or-nets_at}
 use Rattle.contract_nets.specs.Nets.{all_nets}
-use Rattle.contract_nets.proofs.RoomLaws.{HasRoom, room_before}
 
 pub all_nets-append : (xs ys : List (List Net)) → all_nets (xs ++ ys) ≡ all_nets xs ++ all_nets ys
 all_nets-append [] ys = refl
@@ -40,20 +37,6 @@ front_within h front back limits =
       net_weight = omega arith;
       pin_weight = omega arith;
     }
-
--- there is room for the next net of a list
-pub room_in_list : (h : Hyper) (list : List Net) (e : ℕ) (d : Net) → e < length list → IsWithinLimits (record h { nets = h.nets ++ list })
-    → HasRoom (h.nets ++ take e list) (get_or list e d).weight (length (get_or list e d).pins)
-room_in_list h list e d l limits =
-    room_before (record h { nets = h.nets ++ list }) (h.nets ++ take e list) (drop (e + 1) list) (get_or list e d) limits
-    (ap (λ (xs : List Net). h.nets ++ xs) (sym (take-append-drop e list) ∙ ap (λ (xs : List Net). take e list ++ xs) (drop_more list e d l))
-    ∙ sym (append_assoc h.nets (take e list) (get_or list e d ∷ drop (e + 1) list)))
-
--- a net of the flat arrays
-pub net_read : (ss ns ps : List ℕ) (list : List Net) (e : ℕ) → nets_at ss ns ps ≡ list → e < length ns
-    → get_or list e (record { weight = 0; pins = [] }) ≡ net_at ss ns ps e
-net_read ss ns ps list e is l =
-    ap (λ (xs : List Net). get_or xs e (record { weight = 0; pins = [] })) (sym is) ∙ get_or-nets_at ss ns ps e (record { weight = 0; pins = [] }) l
 
 -- what holds of all nets holds of those between others
 pub All-middle : (P : Net → Type 0) (xs ys zs : List Net) → All P (xs ++ ys ++ zs) → All P ys

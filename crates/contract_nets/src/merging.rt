@@ -135,30 +135,32 @@ fn merge_keys(nets: &Images<'_>, keys: &[Key], list: &mut Nets) -> Result<(), No
     list.push(weight, nets.pins(last.1))
 }
 
-/// Adds the nets of lists to a hypergraph without nets, one list after the other.
+/// Adds the nets of lists to a hypergraph without nets, one list after the other, with room for no
+/// more than these.
 pub(crate) fn add_nets(coarse: &mut FlatHyper, lists: &[Nets]) -> Result<(), NoMemory>
     requires none { coarse.old.nets ≡ [] }
     requires nets { All (IsNet (vertex_count coarse.old)) (all_nets lists.now) }
     requires limits { IsWithinLimits (record coarse.old { nets = all_nets lists.now }) }
     ensures { OnOk result (coarse.new ≡ record coarse.old { nets = all_nets lists.now }) }
 {
+    reserve_all(coarse, lists)?;
     for k in 0..lists.len() {
-        add_list(coarse, &lists[k])?;
+        lists[k].add_to(coarse)?;
     }
     Ok(())
 }
 
-/// Adds the nets of a list to a hypergraph.
-fn add_list(coarse: &mut FlatHyper, list: &Nets) -> Result<(), NoMemory>
-    requires nets { All (IsNet (vertex_count coarse.old)) list.now }
-    requires limits { IsWithinLimits (record coarse.old { nets = coarse.old.nets ++ list.now }) }
-    ensures { OnOk result (coarse.new ≡ record coarse.old { nets = coarse.old.nets ++ list.now }) }
+/// Makes room for the nets of lists in a hypergraph.
+fn reserve_all(coarse: &mut FlatHyper, lists: &[Nets]) -> Result<(), NoMemory>
+    ensures { coarse.new ≡ coarse.old }
 {
-    let count = list.len() as u32;
-    for e in 0..count {
-        coarse.push_net(list.weight(e), list.pins(e))?;
+    let mut nets: usize = 0;
+    let mut pins: usize = 0;
+    for list in lists {
+        nets = nets.saturating_add(list.len());
+        pins = pins.saturating_add(list.pins());
     }
-    Ok(())
+    coarse.reserve(nets, pins)
 }
 
 /// Writes the place of each net of the keys among the merged ones.

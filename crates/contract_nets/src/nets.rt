@@ -1,9 +1,10 @@
 //! Nets in flat arrays, without vertices.
 
-ghost use Rattle.std.specs.Prelude.{◌≡◌, ◌+◌, ◌<◌, ◌^◌, [], ◌∷◌, ◌++◌, length, slice_index_or, IfOk, OnOk, OnErr};
+ghost use Rattle.std.specs.Prelude.{◌≡◌, ◌+◌, ◌<◌, ◌^◌, [], ◌∷◌, ◌++◌, length, All, IfOk, OnOk, OnErr};
 ghost use Rattle.hg_defs.specs.Sums.{total};
+ghost use Rattle.hg_defs.specs.Hypergraph.{vertex_count, IsNet, IsWithinLimits};
 
-use hg_base::NoMemory;
+use hg_base::{FlatHyper, NoMemory};
 use std::alloc::Global;
 use std::marker::Model;
 
@@ -18,8 +19,7 @@ pub(crate) struct Nets {
 impl Model for Nets {
     ghost use Rattle.std.specs.Prelude.{List};
     ghost use Rattle.hg_defs.specs.Hypergraph.{Net};
-    ghost use Rattle.hg_base.specs.Flat.{nets_at};
-    ghost use Rattle.contract_nets.specs.Nets.{AreFlat};
+    ghost use Rattle.hg_base.specs.Flat.{nets_at, AreFlat};
 
     ghost Value = { List Net };
 
@@ -58,27 +58,21 @@ impl Nets {
     }
 
     /// How many nets there are.
-    pub(crate) fn len(&self) -> usize
-        ensures { result ≡ length self.now }
-    {
+    pub(crate) fn len(&self) -> usize {
         self.weights.len()
     }
 
-    /// The weight of a net.
-    pub(crate) fn weight(&self, e: u32) -> u64
-        requires { e < length self.now }
-        ensures { result ≡ (slice_index_or self.now e (record { weight = 0; pins = [] })).weight }
-    {
-        self.weights[e as usize]
+    /// How many pins the nets have together.
+    pub(crate) fn pins(&self) -> usize {
+        self.pins.len()
     }
 
-    /// The pins of a net.
-    pub(crate) fn pins(&self, e: u32) -> &[u32]
-        requires { e < length self.now }
-        ensures { result.now ≡ (slice_index_or self.now e (record { weight = 0; pins = [] })).pins }
+    /// Adds the nets to a hypergraph. Where there is no memory, it stays as it was.
+    pub(crate) fn add_to(&self, coarse: &mut FlatHyper) -> Result<(), NoMemory>
+        requires nets { All (IsNet (vertex_count coarse.old)) self.now }
+        requires limits { IsWithinLimits (record coarse.old { nets = coarse.old.nets ++ self.now }) }
+        ensures { OnOk result (coarse.new ≡ record coarse.old { nets = coarse.old.nets ++ self.now }) }
     {
-        let start = self.starts[e as usize] as usize;
-        let end = self.starts[e as usize + 1] as usize;
-        &self.pins[start..end]
+        coarse.push_nets(&self.weights, &self.starts, &self.pins)
     }
 }

@@ -1,6 +1,7 @@
 pub mod FlatLaws
 pub mod SetLaws
 pub mod PushLaws
+pub mod AppendLaws
 pub mod LimitLaws
 pub mod BlockSetLaws
 pub mod CountLaws

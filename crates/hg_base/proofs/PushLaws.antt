@@ -18,7 +18,7 @@ use Rattle.hg_base.specs.Flat.{net_at, nets_at, IsLaidOut, IsKept, GrowsBy}
 use Rattle.hg_base.proofs.FlatLaws.{length-nets_at, get_or-nets_at}
 
 -- a part of a list stays as more is appended
-slice_range-append : (ps qs : List ℕ) (a b : ℕ) → a ≤ b → b ≤ length ps → slice_range (ps ++ qs) a b ≡ slice_range ps a b
+pub slice_range-append : (ps qs : List ℕ) (a b : ℕ) → a ≤ b → b ≤ length ps → slice_range (ps ++ qs) a b ≡ slice_range ps a b
 slice_range-append ps qs a b h k =
     let l = length-drop a ps in
     ap (take (b - a)) (drop-append-le a ps qs (omega arith)) ∙ take-append-le (b - a) (drop a ps) qs (omega arith)
@@ -29,7 +29,7 @@ slice_range_appended ps qs a b h k =
     ap (take (b - a)) (drop_at ps qs a (sym h)) ∙ take_all (b - a) qs (omega arith)
 
 -- a net is its weight and its pins
-same_net : (w v : ℕ) (ps qs : List ℕ) → w ≡ v → ps ≡ qs → ◌≡◌ {A = Net} (record { weight = w; pins = ps }) (record { weight = v; pins = qs })
+pub same_net : (w v : ℕ) (ps qs : List ℕ) → w ≡ v → ps ≡ qs → ◌≡◌ {A = Net} (record { weight = w; pins = ps }) (record { weight = v; pins = qs })
 same_net w v ps qs e f = ap₂ (λ (x : ℕ) (xs : List ℕ). record { weight = x; pins = xs }) e f
 
 module _ (ss ns ps qs : List ℕ) (w t : ℕ) (laid : IsLaidOut ss ns ps) (end : t ≡ length ps + length qs) where

@@ -22,6 +22,11 @@ pub record IsLaidOut (starts weights pins : List ℕ) : Type 0 where
   pub within : (e : ℕ) → e ≤ length weights → slice_index starts e ≤ length pins
   pub last : slice_index starts (length weights) ≡ length pins
 
+-- the arrays are laid out, and the pins of the first net stand first
+pub record AreFlat (starts weights pins : List ℕ) : Type 0 where
+  pub laid_out : IsLaidOut starts weights pins
+  pub first : slice_index starts 0 ≡ 0
+
 -- the hypergraph is sound and within its limits; it has these pins and this weight in all
 pub record IsKept (h : Hyper) (pins weight : ℕ) : Type 0 where
   pub sound : IsHypergraph h

@@ -6,12 +6,12 @@ ghost use Rattle.std.specs.List.Sorted.{IsStrictlyIncreasing};
 ghost use Rattle.std.specs.Ordering.{nat_cmp};
 ghost use Rattle.hg_defs.specs.Sorting.{set_of};
 ghost use Rattle.hg_defs.specs.Sums.{total};
-ghost use Rattle.hg_base.specs.Flat.{GrowsBy};
+ghost use Rattle.hg_base.specs.Flat.{AreFlat, nets_at, GrowsBy};
 ghost use Rattle.hg_defs.specs.Hypergraph.{vertex_count, net_count, pin_count, weight_of, total_weight};
-ghost use Rattle.hg_defs.specs.Hypergraph.{total_net_weight, net_of, fix_of, IsHypergraph};
+ghost use Rattle.hg_defs.specs.Hypergraph.{total_net_weight, net_of, fix_of, IsNet, IsHypergraph};
 ghost use Rattle.hg_defs.specs.Hypergraph.{IsWithinLimits, IsFixedWithin, Suits};
 
-use crate::sets::append_set;
+use crate::sets::{append_raised, append_set};
 use hg_defs::{FREE, NoMemory, Objective};
 use std::alloc::Global;
 use std::marker::Model;
@@ -105,6 +105,46 @@ impl FlatHyper {
         append_set(&mut self.pins, pins)?;
         self.starts.push(self.pins.len() as u32)?;
         self.net_weights.push(weight)?;
+        Ok(())
+    }
+
+    /// Makes room for so many more nets, and for so many more pins of them all: room for no more than
+    /// these where there was too little. Where there is no memory, the hypergraph stays as it was.
+    pub fn reserve(&mut self, nets: usize, pins: usize) -> Result<(), NoMemory>
+        ensures { self.new ≡ self.old }
+    {
+        self.net_weights.reserve_exact(nets)?;
+        self.starts.reserve_exact(nets)?;
+        self.pins.reserve_exact(pins)?;
+        Ok(())
+    }
+
+    /// Adds nets that stand in flat arrays: their weights, the places at which their pins start, an
+    /// end behind the last one, and the pins of all, those of a net in strictly rising order. Where
+    /// there is no memory, the hypergraph stays as it was.
+    ///
+    /// With these nets the hypergraph must stay within the limits of the type.
+    pub fn push_nets(
+        &mut self,
+        weights: &[u64],
+        starts: &[u32],
+        pins: &[u32],
+    ) -> Result<(), NoMemory>
+        requires flat { AreFlat starts.now weights.now pins.now }
+        requires nets { All (IsNet (vertex_count self.old)) (nets_at starts.now weights.now pins.now) }
+        requires limits { IsWithinLimits (record self.old {
+          nets = self.old.nets ++ nets_at starts.now weights.now pins.now;
+        }) }
+        ensures ok { OnOk result (self.new ≡ record self.old {
+          nets = self.old.nets ++ nets_at starts.now weights.now pins.now;
+        }) }
+        ensures err { OnErr result (self.new ≡ self.old) }
+    {
+        self.net_weights.reserve(weights.len())?;
+        self.pins.reserve(pins.len())?;
+        append_raised(&mut self.starts, &starts[1..], self.pins.len() as u32)?;
+        self.net_weights.extend_from_slice(weights)?;
+        self.pins.extend_from_slice(pins)?;
         Ok(())
     }
 

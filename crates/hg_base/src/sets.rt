@@ -1,7 +1,7 @@
 //! Sets of numbers, as strictly rising lists.
 
 ghost use Rattle.std.specs.Prelude.{◌≡◌, ◌≤◌, ◌<◌, ◌+◌, ◌^◌, ◌++◌, length, take, IsTrue, ◌↔◌};
-ghost use Rattle.std.specs.Prelude.{OnOk, OnErr, nat_eq, vec_len};
+ghost use Rattle.std.specs.Prelude.{All, OnOk, OnErr, map, nat_eq, vec_len};
 ghost use Rattle.std.specs.List.{dedup};
 ghost use Rattle.std.specs.List.Sorted.{IsStrictlyIncreasing};
 ghost use Rattle.std.specs.Ordering.{nat_cmp};
@@ -59,5 +59,27 @@ pub(crate) fn append_set(list: &mut Vec<u32>, numbers: &[u32]) -> Result<(), All
         let count = sort_set(&mut list[start..]);
         list.truncate(start + count);
     }
+    Ok(())
+}
+
+/// Adds a number to each number.
+fn raise(numbers: &mut [u32], by: u32)
+    requires { All (λ n. n + by < 2 ^ 32) numbers.old }
+    ensures { numbers.new ≡ map (λ n. n + by) numbers.old }
+{
+    for number in numbers.iter_mut() {
+        *number += by;
+    }
+}
+
+/// Appends some numbers to a list, with a number added to each.
+pub(crate) fn append_raised(list: &mut Vec<u32>, numbers: &[u32], by: u32) -> Result<(), AllocError>
+    requires { All (λ n. n + by < 2 ^ 32) numbers.now }
+    ensures ok { OnOk result (list.new.items ≡ list.old.items ++ map (λ n. n + by) numbers.now) }
+    ensures err { OnErr result (list.new.items ≡ list.old.items) }
+{
+    let start = list.len();
+    list.extend_from_slice(numbers)?;
+    raise(&mut list[start..], by);
     Ok(())
 }

@@ -72,6 +72,23 @@ fn small_nets_cost_nothing(rt: HostRuntime) -> Result<(), Fail> {
 }
 
 #[test]
+fn nets_from_arrays(rt: HostRuntime) -> Result<(), Fail> {
+    let mut h = FlatHyper::start(rt.alloc(), 7)?;
+    h.reserve(3, 9)?;
+    h.push_nets(&[2, 3], &[0, 2, 6], &[0, 1, 0, 4, 5, 6])?;
+    h.push_nets(&[8], &[0, 3], &[3, 4, 5])?;
+    assert_eq!(rt; (h.vertices(), h.nets(), h.total_weight()), (7, 3, 7));
+    assert_eq!(rt; h.pins(0), [0, 1].as_slice());
+    assert_eq!(rt; h.pins(1), [0, 4, 5, 6].as_slice());
+    assert_eq!(rt; h.pins(2), [3, 4, 5].as_slice());
+    assert_eq!(rt;
+        (h.net_weight(0), h.net_weight(1), h.net_weight(2)),
+        (2, 3, 8)
+    );
+    Ok(())
+}
+
+#[test]
 fn limits(rt: HostRuntime) {
     for (weight, k, eps, limit) in [
         (7, 2, 0, 4),

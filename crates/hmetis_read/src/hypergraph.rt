@@ -20,6 +20,8 @@ pub fn read_hypergraph(alloc: Global, bytes: &[u8]) -> Result<FlatHyper, GraphFa
     let mut lines = Lines::over(bytes);
     let shape = read_header(&mut lines)?;
     let mut hyper = FlatHyper::start(alloc, shape.vertices)?;
+    // A net takes a line: a text has no more nets than bytes, whatever its header says.
+    hyper.reserve((shape.nets as usize).min(bytes.len()), 0)?;
     read_nets(alloc, &mut lines, &shape, &mut hyper)?;
     if shape.vertex_weights {
         read_vertices(&mut lines, &mut hyper)?;

@@ -6,8 +6,8 @@ use Rattle.contract_nets.specs.Nets.{all_nets}
 use Rattle.contract_nets.proofs.NetLaws.{all_nets-take_more, all_nets-split, All-middle, front_within}
 use Rattle.contract_nets.proofs.merging.add_nets.Goals as goal
 
-pub add_list-requires-clause-nets : goal.add_list-requires-clause-nets
-add_list-requires-clause-nets c =
+pub add_to-requires-clause-nets : goal.add_to-requires-clause-nets
+add_to-requires-clause-nets c =
     let h = c.args.coarse.now in
     let lists = c.args.lists.now in
     let k = c.loop-k.k in
@@ -22,8 +22,8 @@ add_list-requires-clause-nets c =
     subst (λ (x : Hyper). All (IsNet (length x.weights)) list) (sym c.loop-k.invariant)
     (All-middle (IsNet (vertex_count h)) front list back (subst (All (IsNet (vertex_count h))) all c.requires.nets))
 
-pub add_list-requires-clause-limits : goal.add_list-requires-clause-limits
-add_list-requires-clause-limits c =
+pub add_to-requires-clause-limits : goal.add_to-requires-clause-limits
+add_to-requires-clause-limits c =
     let h = c.args.coarse.now in
     let lists = c.args.lists.now in
     let k = c.loop-k.k in
@@ -47,6 +47,6 @@ loop-k-preserved c =
     let read = get_or_read lists k list c.loop-k-test.true c.index-lists-k.is [] in
     let more = all_nets-take_more lists k c.loop-k-test.true in
     let front = all_nets (take k lists) in
-    c.in_ok-add_list.ensures
+    c.in_ok-add_to.ensures
     ∙ ap (λ (x : Hyper). let y : Hyper = record x { nets = x.nets ++ list } in y) c.loop-k.invariant
     ∙ ap (λ (ns : List Net). let y : Hyper = record h { nets = ns } in y) (ap (λ (ys : List Net). front ++ ys) read ∙ sym more)

@@ -1,17 +1,14 @@
 -- One net more at the end of the arrays.
-use Rattle.std.proofs.Common.{◌≡◌, ◌+◌, ◌++◌, [], ◌∷◌, length, sym, ap, ◌∙◌, arith}
-use Rattle.std.proofs.lemmas.List.{length-append}
-use Rattle.hg_defs.specs.Hypergraph.{Net}
-use Rattle.hg_defs.specs.Sums.{total}
-use Rattle.hg_defs.proofs.SumLaws.{total_push}
-use Rattle.hg_base.specs.Flat.{nets_at}
+use Rattle.std.proofs.Common.{◌≡◌, ◌+◌, ◌++◌, [], ◌∷◌, length, ap, ◌∙◌, arith}
+use Rattle.std.proofs.lemmas.List.{get_or_append_left}
+use Rattle.hg_base.proofs.AppendLaws.{all_pins}
 use Rattle.hg_base.proofs.PushLaws.{nets_at_push, IsLaidOut_push}
 use Rattle.contract_nets.proofs.nets.Nets.push.Goals as goal
 
 pub overflow_cast-len : goal.overflow_cast-len
 overflow_cast-len c =
     let pins = c.in_ok-extend_from_slice.ensures.len in
-    let before = c.self.invariant.all_pins in
+    let before = all_pins c.self.inside.starts.items c.self.inside.weights.items c.self.inside.pins.items c.self.invariant in
     let bound = rw (← c.self.view_is) at c.requires in
     omega arith
 
@@ -22,17 +19,12 @@ invariant_of-self-2 c =
     let starts = c.in_ok-push.ensures.items ∙ ap (λ xs. xs ++ c.len.result ∷ []) c.in_ok-reserve-2.ensures.items in
     let weights = c.in_ok-push-2.ensures.items ∙ ap (λ xs. xs ++ c.args.weight ∷ []) c.in_ok-reserve.ensures.items in
     let pins = c.in_ok-extend_from_slice.ensures.items in
-    let sum = length-append h.pins.items more in
     let end : c.len.result ≡ length h.pins.items + length more = (let l = c.in_ok-extend_from_slice.ensures.len in omega arith) in
     let laid = c.self.invariant.laid_out in
-    let nets = nets_at_push h.starts.items h.weights.items h.pins.items more c.args.weight c.len.result laid end in
+    let ends = laid.ends in
     rw (starts, weights, pins) (record {
       laid_out = IsLaidOut_push h.starts.items h.weights.items h.pins.items more c.args.weight c.len.result laid end;
-      all_pins =
-          ap (total (λ (e : Net). length e.pins)) nets
-          ∙ total_push (λ (e : Net). length e.pins) (nets_at h.starts.items h.weights.items h.pins.items) (record { weight = c.args.weight; pins = more })
-          ∙ ap (λ n. n + length more) c.self.invariant.all_pins
-          ∙ sym sum;
+      first = get_or_append_left h.starts.items (c.len.result ∷ []) 0 0 (omega arith) ∙ c.self.invariant.first;
     })
 
 pub returns-clause-ok : goal.returns-clause-ok
