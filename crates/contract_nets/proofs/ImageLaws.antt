@@ -1,6 +1,6 @@
 -- Laws of images, list after list, in parts of a size.
-use Rattle.std.proofs.Common.{◌≡◌, ℕ, ◌+◌, ◌-◌, ◌*◌, ◌/◌, ◌%◌, ◌^◌, ◌<◌, ◌≤◌, ◌⊎◌, inl, inr, List, [], ◌∷◌, ◌++◌, length, map, take, drop, get_or}
-use Rattle.std.proofs.Common.{slice_index, slice_range, All, nat_cmp, Result, Ok, IfOk, refl, sym, ap, ap₂, ◌∙◌, subst, arith}
+use Rattle.std.proofs.Common.{◌≡◌, ℕ, ◌+◌, ◌-◌, ◌*◌, ◌/◌, ◌%◌, ◌<◌, ◌≤◌, ◌⊎◌, inl, inr, List, [], ◌∷◌, ◌++◌, length, map, take, drop, get_or}
+use Rattle.std.proofs.Common.{slice_index, slice_range, All, nat_cmp, Result, Ok, refl, sym, ap, ap₂, ◌∙◌, subst, arith}
 use Rattle.std.proofs.Math.Nat.{mod-add-div, mod-lt, mul_comm, div-lt_iff_lt-mul}
 use Rattle.std.proofs.lemmas.Bool.{cases_lt}
 use Rattle.std.proofs.lemmas.Cmp.{nat_cmp_total}
@@ -18,7 +18,7 @@ use Rattle.hg_defs.proofs.NumberingLaws.{below_count}
 use Rattle.hg_defs.proofs.SumLaws.{total-take_more}
 use Rattle.hg_defs.proofs.SortLaws.{nat_cmp_exact, length-set_of-le, Contains-from_set_of}
 use Rattle.contract_nets.specs.Merging.{mapped_net}
-use Rattle.contract_nets.specs.Images.{over, Lists, HasListAt, IsPart, ArePartsOf}
+use Rattle.contract_nets.specs.Images.{over, Lists, HasListAt, ArePartsOf}
 
 -- a part of a list stays as more is appended
 slice_range-append : (ps qs : List ℕ) (a b : ℕ) → a ≤ b → b ≤ length ps → slice_range (ps ++ qs) a b ≡ slice_range ps a b
@@ -195,19 +195,6 @@ AreThere-more {E} {X} results values result value old is = record {
         get_or_push results result r j (omega arith)
         ∙ is
         ∙ ap (λ (p : X). Ok p) (sym (get_or_push values value d j (omega arith)))
-
--- so they are the parts of all nets
-pub AreThere-all : {E : Type 0} (h : Hyper) (cs : List ℕ) (size : ℕ) (results : List (Result Lists E)) (parts : List Lists) → AreThere results parts →
-    length cs ≡ vertex_count h → cluster_count cs ≤ 2 ^ 22 → 0 < size → net_count h ≤ length results * size →
-    ((j : ℕ) (d : Result Lists E) → j < length results → IfOk (get_or results j d) (IsPart h cs size j)) → ArePartsOf h cs size parts
-AreThere-all h cs size results parts there vertices few some all each = record {
-  vertices = vertices;
-  few = few;
-  some = some;
-  all = subst (λ n. net_count h ≤ n * size) (sym there.long) all;
-  each = λ j d l. let low : j < length results = (let long = there.long in omega arith) in subst (λ r. IfOk r (IsPart h cs size j)) (there.each j (Ok d) d low)
-      (each j (Ok d) low);
-}
 
 -- what was taken out of a vector that is empty now is all of it
 taken_front : {X A : Type 0} (s : IntoIter X A) (xs : List X) (t : IntoIter X A) → Yields into_iter_steps s xs t → into_iter_items s ≡ xs ++ into_iter_items t

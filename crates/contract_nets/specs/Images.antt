@@ -1,5 +1,5 @@
 -- The images of nets, list after list, in parts of a size.
-use Rattle.std.specs.Prelude.{◌≡◌, ℕ, ◌+◌, ◌*◌, ◌^◌, ◌<◌, ◌≤◌, List, [], length, map, replicate, slice_index, slice_index_or, slice_range, Result, IfOk}
+use Rattle.std.specs.Prelude.{◌≡◌, ℕ, ◌+◌, ◌*◌, ◌^◌, ◌<◌, ◌≤◌, List, [], length, map, replicate, slice_index, slice_index_or, slice_range}
 use Rattle.hg_defs.specs.Hypergraph.{Hyper, vertex_count, net_count, net_of}
 use Rattle.hg_defs.specs.Clustering.{cluster_count}
 use Rattle.hg_defs.specs.Contraction.{image}
@@ -30,10 +30,6 @@ pub record HasListAt (lists : Lists) (i : ℕ) (list : List ℕ) : Type 0 where
 abbrev pub IsPart : Hyper → List ℕ → ℕ → ℕ → Lists → Type 0
 IsPart h clusters size j lists =
     (i : ℕ) → i < size → j * size + i < net_count h → HasListAt lists i (image clusters (net_of h (j * size + i)))
-
--- a part without lists, or none
-abbrev pub IsEmptyPart : {E : Type 0} → Result Lists E → Type 0
-IsEmptyPart part = IfOk part (λ lists. lists ≡ record { starts = []; pins = [] })
 
 -- the parts have the image of each net
 pub record ArePartsOf (h : Hyper) (clusters : List ℕ) (size : ℕ) (parts : List Lists) : Type 0 where

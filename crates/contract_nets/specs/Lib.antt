@@ -3,5 +3,6 @@ pub mod Ledger
 pub mod Merging
 pub mod Keys
 pub mod Images
+pub mod Mapped
 pub mod Cuts
 pub mod Nets

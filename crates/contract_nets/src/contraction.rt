@@ -11,7 +11,7 @@ ghost use Rattle.contract_nets.specs.Ledger.{IsLedger};
 ghost use Rattle.contract_nets.specs.Merging.{mapped_net, ArePlaces};
 
 use crate::images::map_nets;
-use crate::keys::{keys_of, sort_keys};
+use crate::keys::sort_keys;
 use crate::ledger::{DROPPED, MergeLedger};
 use crate::merging::{add_nets, merge_nets, write_places};
 use crate::nets::Nets;
@@ -88,8 +88,7 @@ fn merged_lists(
         slice_index places.new e ≢ DROPPED) }
 {
     let _vertices = h.vertices();
-    let nets = map_nets(rt, alloc, h, map)?;
-    let mut keys = keys_of(alloc, &nets)?;
+    let (nets, mut keys) = map_nets(rt, alloc, h, map)?;
     sort_keys(rt, &nets, &mut keys);
     let lists = merge_nets(rt, alloc, &nets, &keys)?;
     write_places(&nets, &keys, places);

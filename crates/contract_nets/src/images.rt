@@ -7,9 +7,11 @@ ghost use Rattle.std.specs.Ordering.{nat_cmp};
 ghost use Rattle.hg_defs.specs.Sorting.{set_of};
 ghost use Rattle.hg_defs.specs.Hypergraph.{vertex_count, net_count, net_of};
 ghost use Rattle.hg_defs.specs.Clustering.{cluster_count};
-ghost use Rattle.contract_nets.specs.Keys.{rest_of};
-ghost use Rattle.contract_nets.specs.Images.{over, IsPart, IsEmptyPart};
+ghost use Rattle.contract_nets.specs.Keys.{rest_of, keys_from};
+ghost use Rattle.contract_nets.specs.Images.{over, IsPart};
+ghost use Rattle.contract_nets.specs.Mapped.{keys_in, IsMapped, IsBare};
 
+use crate::keys::{Key, push_key};
 use hg_base::NoMemory;
 use incidence::Hypergraph;
 use std::alloc::{AllocError, Global};
@@ -117,69 +119,82 @@ impl Images<'_> {
     }
 }
 
-/// The images of all nets, made part by part by as many threads as there are parts.
+/// The images of some nets, and the keys of those with two pins or more.
+#[derive(Drop)]
+struct Mapped {
+    part: Part,
+    keys: Vec<Key>,
+}
+
+/// The images of all nets, and the keys of those with two pins or more in the order of the nets:
+/// made part by part, by as many threads as there are parts.
 pub(crate) fn map_nets<'a, R: Threads + Sync>(
     rt: &R,
     alloc: Global,
     h: &'a Hypergraph,
     clusters: &'a [u32],
-) -> Result<Images<'a>, NoMemory>
+) -> Result<(Images<'a>, Vec<Key>), NoMemory>
     requires vertices { length clusters.now ≡ vertex_count h.now }
     requires few { cluster_count clusters.now ≤ 2 ^ 22 }
-    ensures { IfOk result (λ images. images ≡ over h.now clusters.now) }
+    ensures images { IfOk result (λ pair. pair.0 ≡ over h.now clusters.now) }
+    ensures keys { IfOk result (λ pair. pair.1.items ≡ keys_from (over h.now clusters.now) 0 (net_count h.now)) }
 {
     let size = h.nets().div_ceil(MOST_PARTS).max(LEAST_NETS);
     let mut parts = Vec::new(alloc);
-    for part in map_parts(rt, alloc, h, clusters, size)? {
-        parts.push(part?)?;
+    let mut keys = Vec::with_capacity(alloc, h.nets() as usize)?;
+    for mapped in map_parts(rt, alloc, h, clusters, size)? {
+        let Mapped { part, keys: more } = mapped?;
+        keys.extend_from_slice(&more)?;
+        parts.push(part)?;
     }
-    Ok(Images {
+    let images = Images {
         h,
         clusters: Snapshot::of(&clusters),
         parts,
         size,
-    })
+    };
+    Ok((images, keys))
 }
 
-/// The parts of this size, or no memory for one. Their room is made here, since the memory that a
-/// thread takes stays with the thread's arena.
+/// The parts of this size with their keys, or no memory for one. Their room is made here, since the
+/// memory that a thread takes stays with the thread's arena.
 fn map_parts<R: Threads + Sync>(
     rt: &R,
     alloc: Global,
     h: &Hypergraph,
     clusters: &[u32],
     size: u32,
-) -> Result<Vec<Result<Part, NoMemory>>, NoMemory>
+) -> Result<Vec<Result<Mapped, NoMemory>>, NoMemory>
     requires vertices { length clusters.now ≡ vertex_count h.now }
     requires size { 0 < size }
     ensures all { IfOk result (λ parts. net_count h.now ≤ vec_len parts * size) }
     ensures each { IfOk result (λ parts. (j : ℕ) (d : _) → j < vec_len parts →
-        IfOk (slice_index_or parts.items j d) (IsPart h.now clusters.now size j)) }
+        IfOk (slice_index_or parts.items j d) (IsMapped h.now clusters.now size j)) }
 {
     let mut parts = empty_parts(alloc, h, size)?;
     for_each_mut(
         rt,
         parts.as_mut_slice(),
         MOST_PARTS as usize,
-        &|j: usize, part: &mut Result<Part, NoMemory>|
+        &|j: usize, part: &mut Result<Mapped, NoMemory>|
             requires { (j * size < net_count h.now) × (length clusters.now ≡ vertex_count h.now)
-                × IsEmptyPart part.now }
-            ensures { IfOk part.exit.now (IsPart h.entry.now clusters.entry.now size j) }
+                × IfOk part.now IsBare }
+            ensures { IfOk part.exit.now (IsMapped h.entry.now clusters.entry.now size j) }
         { fill_part(alloc, h, clusters, size, j, part) },
     );
     Ok(parts)
 }
 
-/// Parts without lists, with room for those of all nets.
+/// Parts without lists and keys, with room for those of all nets.
 fn empty_parts(
     alloc: Global,
     h: &Hypergraph,
     size: u32,
-) -> Result<Vec<Result<Part, NoMemory>>, NoMemory>
+) -> Result<Vec<Result<Mapped, NoMemory>>, NoMemory>
     requires { 0 < size }
     ensures all { IfOk result (λ parts. net_count h.now ≤ vec_len parts * size) }
     ensures begins { IfOk result (λ parts. (j : ℕ) → j < vec_len parts → j * size < net_count h.now) }
-    ensures empty { IfOk result (λ parts. All IsEmptyPart parts.items) }
+    ensures empty { IfOk result (λ parts. All (λ one. IfOk one IsBare) parts.items) }
 {
     let nets = h.nets();
     let mut parts = Vec::new(alloc);
@@ -187,34 +202,38 @@ fn empty_parts(
         let count = size.min(nets - j * size);
         let starts = Vec::with_capacity(alloc, count as usize + 1)?;
         let pins = Vec::with_capacity(alloc, pin_sum(h, j * size, count))?;
-        parts.push(Ok(Part { starts, pins }))?;
+        let keys = Vec::with_capacity(alloc, count as usize)?;
+        parts.push(Ok(Mapped {
+            part: Part { starts, pins },
+            keys,
+        }))?;
     }
     Ok(parts)
 }
 
-/// Writes the lists of part `j` into their room.
+/// Writes the lists and the keys of part `j` into their room.
 fn fill_part(
     alloc: Global,
     h: &Hypergraph,
     clusters: &[u32],
     size: u32,
     j: usize,
-    part: &mut Result<Part, NoMemory>,
+    part: &mut Result<Mapped, NoMemory>,
 )
     requires vertices { length clusters.now ≡ vertex_count h.now }
     requires begins { j * size < net_count h.now }
-    requires empty { IsEmptyPart part.old }
-    ensures { IfOk part.new (IsPart h.now clusters.now size j) }
+    requires empty { IfOk part.old IsBare }
+    ensures { IfOk part.new (IsMapped h.now clusters.now size j) }
 {
     let Ok(room) = part else {
         return;
     };
-    if let Err(refused) = map_part(alloc, h, clusters, size, j, room) {
+    if let Err(refused) = map_part(alloc, h, clusters, size, j, &mut room.part, &mut room.keys) {
         *part = Err(refused);
     }
 }
 
-/// Part `j` of the nets.
+/// Part `j` of the nets, and its keys.
 fn map_part(
     alloc: Global,
     h: &Hypergraph,
@@ -222,11 +241,14 @@ fn map_part(
     size: u32,
     j: usize,
     part: &mut Part,
+    keys: &mut Vec<Key>,
 ) -> Result<(), NoMemory>
     requires vertices { length clusters.now ≡ vertex_count h.now }
     requires begins { j * size < net_count h.now }
     requires empty { part.old ≡ record { starts = []; pins = [] } }
-    ensures { OnOk result (IsPart h.now clusters.now size j part.new) }
+    requires none { keys.old.items ≡ [] }
+    ensures part { OnOk result (IsPart h.now clusters.now size j part.new) }
+    ensures keys { OnOk result (keys.new.items ≡ keys_in h.now clusters.now size j) }
 {
     let nets = h.nets();
     let from = (j * size as usize) as u32;
@@ -236,6 +258,7 @@ fn map_part(
         map_pins(&mut numbers, clusters, h.pins(from + i))?;
         part.pins.extend_from_slice(numbers.as_slice())?;
         part.starts.push(part.pins.len() as u32)?;
+        push_key(keys, from + i, numbers.as_slice())?;
     }
     Ok(())
 }
