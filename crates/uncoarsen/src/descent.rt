@@ -121,13 +121,13 @@ pub fn uncoarsen(
     ensures tallies { IfOk result (λ r. map (λ b. tally b) refiners.new ≡ tallies_with r.1.rounds
         (map (λ b. kind b) refiners.old) (map (λ b. tally b) refiners.old)) }
 {
-    let maps = maps_of(alloc, stack)?;
     let first = start.blocks.copy()?;
     let level = start.level;
     let mut log = Log::new(alloc);
     let part = refine_down(
         alloc, stack, start, k, limit, workers, seed, refiners, &mut log,
     )?;
+    let maps = maps_of(alloc, stack)?;
     let last = Blocks::from_vec(part.blocks().to_vec(alloc)?);
     let trace = Trace {
         maps,
