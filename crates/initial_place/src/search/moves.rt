@@ -16,6 +16,9 @@ use std::marker::Model;
 /// How many moves are made without a better partition until a pass ends.
 const PATIENCE: u32 = 20;
 
+/// The same while no partition of the pass is within the limits.
+const OVERFULL_PATIENCE: u32 = 200;
+
 /// How many times two passes are made at most.
 const ROUNDS: u32 = 10;
 
@@ -33,6 +36,16 @@ pub(crate) struct Search {
     origins: Labels,
     pub(crate) draws: Draws,
     heaviest: u64,
+}
+
+/// How many moves are made without a better partition until a pass ends, of which the best so far passes the
+/// limits by this much: more while it does.
+fn patience(overload: u64) -> u32 {
+    if overload > 0 {
+        OVERFULL_PATIENCE
+    } else {
+        PATIENCE
+    }
 }
 
 impl Model for Search {
@@ -292,7 +305,7 @@ impl Search {
             if rank < best {
                 best = rank;
                 kept = made;
-            } else if made - kept >= PATIENCE {
+            } else if made - kept >= patience(best.0) {
                 break;
             }
             self.offer_touched(slack)?;

@@ -410,7 +410,7 @@ impl Tables {
     {
         let pull = self.pulls.get(u, block).wrapping_add(weight);
         self.pulls.set(u, block, pull);
-        self.touch(u, weight);
+        self.touched.add(u);
     }
 
     /// Adds to what a vertex gains by leaving the nets in which it is alone.
@@ -420,18 +420,7 @@ impl Tables {
     {
         let alone = self.alone.get(u).wrapping_add(weight);
         self.alone.set(u, alone);
-        self.touch(u, weight);
-    }
-
-    /// Notes a vertex where a gain of it has changed by this weight and so risen. One that fell is seen
-    /// when its offer comes.
-    fn touch(&mut self, u: u32, weight: i64)
-        requires { u < self.old.vertices }
-        ensures { self.new ≡ self.old }
-    {
-        if weight > 0 {
-            self.touched.add(u);
-        }
+        self.touched.add(u);
     }
 
     /// Tells the pin of a block beside `v`, if there is one, that it is alone there, or no longer.
