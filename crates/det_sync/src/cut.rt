@@ -93,7 +93,7 @@ pub(crate) fn held_between(
     ensures { IfOk result (λ held. held.items ≡ filter (cuts.is_held h.now marks.now)
         (range_with_len first (end - first))) }
 {
-    let mut held = Vec::new(alloc);
+    let mut held = Vec::with_capacity(alloc, (end - first) as usize)?;
     for v in first..end {
         if !is_held(h, marks, v) {
             continue;

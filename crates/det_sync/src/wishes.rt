@@ -22,6 +22,9 @@ type PartWishes = Result<Vec<BestMove>, NoMemory>;
 /// as to look at them.
 const LEAST_NETS: usize = 1024;
 
+/// Each of several workers has so many parts, since one may take longer than another.
+const MOST_PARTS: u32 = 2;
+
 /// On how many nets the vertices are, each counted for each of its vertices.
 fn pin_count(h: &Hypergraph) -> usize {
     let mut pins = 0usize;
@@ -31,13 +34,14 @@ fn pin_count(h: &Hypergraph) -> usize {
     pins
 }
 
-/// Where the vertices are cut into parts, from 0 to their number: into one part for each worker, whose
-/// vertices are on about as many nets as those of another one.
+/// Where the vertices are cut into parts, from 0 to their number: into one part for a single worker, and
+/// two for each of several, whose vertices are on about as many nets as those of another one.
 pub(crate) fn cuts_of(alloc: Global, h: &Hypergraph, workers: u32) -> Result<Vec<u32>, AllocError>
     requires some { 1 ≤ workers }
     ensures { IfOk result (λ cuts. AreCuts (vertex_count h.now) cuts.items) }
 {
-    let share = pin_count(h).div_ceil(workers as usize).max(LEAST_NETS);
+    let parts = workers as usize * workers.min(MOST_PARTS) as usize;
+    let share = pin_count(h).div_ceil(parts).max(LEAST_NETS);
     let mut cuts = Vec::new(alloc);
     cuts.push(0)?;
     let mut pins = 0usize;
