@@ -23,8 +23,8 @@ use Rattle.std.proofs.lemmas.List.Folds.{list_any_at}
 use Rattle.std.proofs.lemmas.List.FromFn.{length-range_with_len, get_or-range_with_len}
 use Rattle.incidence.proofs.IndexLaws.{sum_below_upto-le, nets_of-below, nets_of-rising, is_pin_new, is_pin_more}
 use Rattle.pin_plain.proofs.GainLaws.{nets_of-hold, two_within}
-use Rattle.pin_plain.specs.Counts.{net_bits, net_words, words_at_net, net_place, net_start, all_words, HasLayout, HoldsCounts, counts_of, counts_before, counts_between}
-use Rattle.pin_plain.specs.Counts.{HaveSpreads, HaveSpreadsBetween}
+use Rattle.pin_plain.specs.Counts.{net_bits, net_words, words_at_net, net_place, net_start, all_words, HasLayout}
+use Rattle.pin_plain.specs.Counts.{HoldsCounts, counts_of, counts_before, counts_between, HaveSpreads, HaveSpreadsBetween}
 
 -- ---- the width of a net's counts
 

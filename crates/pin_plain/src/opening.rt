@@ -1,4 +1,4 @@
-//! What a round begins with, written into the words of a partition, which have the counts already.
+//! The words of a partition: its counts, the number of blocks that each net touches, and what a round begins with.
 
 ghost use Rattle.std.specs.Prelude.{◌≡◌, ℕ, ◌+◌, ◌*◌, ◌/◌, ◌<◌, ◌≤◌, ◌^◌, All, length, slice_index, replicate};
 ghost use Rattle.hg_defs.specs.Sums.{sum_below};

@@ -1,4 +1,5 @@
-use Rattle.std.proofs.Common.{◌≡◌, ◌≤◌, ◌^◌, ◌+◌, ◌-◌, ℕ, Bool, true, false, if◌then◌else◌, nat_eq, ◌∙◌, length, take, slice_index, slice_set, refl, sym, ap, subst, arith}
+use Rattle.std.proofs.Common.{◌≡◌, ◌≤◌, ◌^◌, ◌+◌, ◌-◌, ℕ, Bool, true, false, if◌then◌else◌, nat_eq, ◌∙◌, length}
+use Rattle.std.proofs.Common.{take, slice_index, slice_set, refl, sym, ap, subst, arith}
 use Rattle.std.proofs.lemmas.List.{take_all}
 use Rattle.hg_base.specs.Packed.{bits_of, count_at}
 use Rattle.hg_defs.proofs.SumLaws.{weight_if, weight_if-le}
