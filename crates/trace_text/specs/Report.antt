@@ -1,7 +1,7 @@
 -- The report of a run: what it was asked, its levels, every round, and what was written.
-use Rattle.std.specs.Prelude.{ℕ, suc, ◌-◌, ◌≤◌, List, [], ◌∷◌, ◌++◌, length, slice_get, codes, Option, Some, None}
+use Rattle.std.specs.Prelude.{◌≡◌, ℕ, suc, ◌-◌, ◌≤◌, List, [], ◌∷◌, ◌++◌, length, slice_get, take, drop, codes, Option, Some, None}
 use Rattle.std.specs.List.{flat_map, enumerate_from}
-use Rattle.hg_defs.specs.Hypergraph.{Hyper}
+use Rattle.hg_defs.specs.Hypergraph.{Hyper, vertex_count}
 use Rattle.hg_defs.specs.Partition.{IsPartition}
 use Rattle.hg_defs.specs.Cost.{cost}
 use Rattle.hg_defs.specs.LeastLoaded.{greedy}
@@ -13,6 +13,7 @@ use Rattle.round_log.specs.declared.record.Job.{Job}
 use Rattle.round_log.specs.declared.record.LoggedRound.{LoggedRound}
 use Rattle.round_log.specs.declared.record.Trace.{Trace}
 use Rattle.round_log.specs.Trace.{limit_of}
+use Rattle.trace_text.specs.Carrying.{AreCarried}
 use Rattle.trace_text.specs.Fields.{fields_text}
 use Rattle.trace_text.specs.Lines.{number_line, sizes_text, objective_text, loads_text, loads_of}
 use Rattle.trace_text.specs.Rounds.{refined_text, swept_text}
@@ -28,6 +29,12 @@ pub record IsPrintable (h : Hyper) (k : ℕ) (trace : Trace) : Type 0 where
   pub start : trace.start ≤ length trace.maps
   pub levels : AreContractible h trace.maps trace.start
   pub first : IsPartition (level h trace.maps trace.start) k trace.first
+
+-- they are the blocks on a level between the file and that of the first partition, which is carried down to it
+pub record AreOnLevel (h : Hyper) (trace : Trace) (i : ℕ) (blocks : List ℕ) : Type 0 where
+  pub within : i ≤ trace.start
+  pub all : length blocks ≡ vertex_count (level h trace.maps i)
+  pub each : AreCarried (drop i (take trace.start trace.maps)) trace.first blocks
 
 -- the cost of the first partition, on its level
 abbrev pub first_cost : Hyper → Trace → ℕ

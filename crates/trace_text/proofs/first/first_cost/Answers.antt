@@ -1,44 +1,50 @@
--- One net more.
-use Rattle.std.proofs.Common.{◌≡◌, ℕ, ◌+◌, ◌*◌, ◌<◌, List, sym, ap, ap₂, ◌∙◌, arith}
-use Rattle.std.proofs.lemmas.List.{take_all}
-use Rattle.hg_defs.specs.Hypergraph.{net_of, net_count}
-use Rattle.hg_defs.specs.Sums.{total}
-use Rattle.hg_defs.specs.Cost.{net_cost, price}
-use Rattle.hg_defs.specs.Levels.{projected_from}
-use Rattle.hg_base.proofs.CountLaws.{cost_so_far-lt, cost_more}
-use Rattle.trace_text.proofs.CarryingLemmas.{first_cost-projected}
+-- The table has the blocks of its level.
+use Rattle.std.proofs.Common.{◌≡◌, ◌≢◌, ℕ, ◌-◌, ◌<◌, ◌≤◌, ◌^◌, List, [], length, take, drop, slice_index, sym, ap, ◌∙◌, subst, arith}
+use Rattle.std.proofs.lemmas.List.{length-take-le, get_or_default, get_or-take}
+use Rattle.hg_defs.specs.Levels.{map_of}
+use Rattle.trace_text.specs.Carrying.{carried, LeadsInto}
+use Rattle.trace_text.proofs.CarryingLemmas.{leads_from, on_level}
 use Rattle.trace_text.proofs.first.first_cost.Goals as goal
 
-abbrev below : (c : goal.After-price) → List ℕ
-below c = let t = c.args.trace.now in projected_from t.first t.maps t.start
-
-net : (c : goal.After-price) → c.net_weight.result * c.price.result ≡ net_cost c.args.h.now.objective (below c) (net_of c.args.h.now c.nets.e)
-net c = ap₂ (λ (m n : ℕ). m * n) c.net_weight.ensures.value (c.price.ensures.value ∙ ap₂ price c.objective-objective.ensures c.touched.ensures.value)
-
-inside : (c : goal.After-price) → c.nets.e < net_count c.args.h.now
-inside c = omega (arith, c.nets-test.true, c.nets-e-end.ensures.count)
-
-pub overflow_mul-sum : goal.overflow_mul-sum
-overflow_mul-sum c =
-    let e = net c in
-    let most = cost_so_far-lt c.args.h.now (below c) c.nets.e c.nets-e-end.ensures.bounds (inside c) in
-    omega arith
-
-pub overflow_add-sum : goal.overflow_add-sum
-overflow_add-sum c =
-    let e = net c in
-    let most = cost_so_far-lt c.args.h.now (below c) c.nets.e c.nets-e-end.ensures.bounds (inside c) in
-    let sum = c.nets.invariant in
-    omega arith
-
-pub nets-preserved : goal.nets-preserved
-nets-preserved c =
-    ap₂ (λ (m n : ℕ). m + n) c.nets.invariant (net c) ∙ sym (cost_more c.args.h.now (below c) c.nets.e (inside c))
-
-pub returns : goal.returns
-returns c =
-    let h = c.args.h.now in
+pub write_blocks-requires-clause-leads : goal.write_blocks-requires-clause-leads
+write_blocks-requires-clause-leads c =
     let t = c.args.trace.now in
-    c.nets.invariant
-    ∙ ap (total (net_cost h.objective (projected_from t.first t.maps t.start))) (take_all c.nets.e h.nets (omega arith))
-    ∙ first_cost-projected h 256 t c.requires
+    let i = c.small_level-level.result in
+    let start = c.requires.start in
+    let within = c.small_level-level.ensures.within in
+    let apart : i ≢ t.start = c.if-level-trace.false in
+    let low : i < t.start = omega arith in
+    let maps = c.slice-maps.ensures in
+    let many = ap length maps in
+    let here : c.slice-vertices.result.now ≡ map_of t.maps i =
+    c.slice-vertices.ensures ∙ c.index-maps-level.is ∙ get_or_default c.slice-maps.result.now i c.index-maps-level.result [] (omega arith)
+    ∙ ap (λ (ms : List (List ℕ)). map_of ms i) maps in
+    λ v inside. subst (λ (ms : List (List ℕ)). LeadsInto (take (t.start - i) (drop i ms)) c.slice-first.result.now v) (sym maps)
+    (subst (λ (p : List ℕ). LeadsInto (take (t.start - i) (drop i t.maps)) p v) (sym c.slice-first.ensures)
+    (leads_from c.args.h.now t i v c.requires low (subst (λ (m : List ℕ). v < length m) here inside)))
+
+pub cost_below-requires-2-clause-blocks : goal.cost_below-requires-2-clause-blocks
+cost_below-requires-2-clause-blocks c =
+    let t = c.args.trace.now in
+    let i = c.small_level-level.result in
+    let start = c.requires.start in
+    let within = c.small_level-level.ensures.within in
+    let apart : i ≢ t.start = c.if-level-trace.false in
+    let low : i < t.start = omega arith in
+    let maps = c.slice-maps.ensures in
+    let many = ap length maps in
+    let here : c.slice-vertices.result.now ≡ map_of t.maps i =
+    c.slice-vertices.ensures ∙ c.index-maps-level.is ∙ get_or_default c.slice-maps.result.now i c.index-maps-level.result [] (omega arith)
+    ∙ ap (λ (ms : List (List ℕ)). map_of ms i) maps in
+    let count = length c.slice-vertices.result.now in
+    let few : length (map_of t.maps i) ≤ 2 ^ 16 = c.small_level-level.ensures.few low in
+    let same = ap length here in
+    let table = c.write_blocks.new.table in
+    let all : length table ≡ 2 ^ 16 = c.write_blocks.ensures.count in
+    let long = length-take-le count table (omega arith) in
+    on_level c.args.h.now t i (take count table) c.requires low (long ∙ same)
+    (λ v inside. (
+    get_or-take count table v 0 (omega arith)
+    ∙ c.write_blocks.ensures.blocks v (omega arith)
+    ∙ ap (λ (p : List ℕ). slice_index p (carried (take (t.start - i) (drop i c.slice-maps.result.now)) v)) c.slice-first.ensures
+    ∙ ap (λ (ms : List (List ℕ)). slice_index t.first (carried (take (t.start - i) (drop i ms)) v)) maps))

@@ -1,14 +1,14 @@
 -- One pin more: its block is counted where it has no mark.
 use Rattle.std.proofs.Common.{◌≡◌, ℕ, ◌+◌, ◌<◌, Bool, true, false, not, if◌then◌else◌, List, []}
-use Rattle.std.proofs.Common.{◌∷◌, ◌++◌, length, map, take, set, slice_index, slice_index_or, refl, sym, ap}
-use Rattle.std.proofs.Common.{ap₂, ◌∙◌, subst, arith}
+use Rattle.std.proofs.Common.{◌∷◌, ◌++◌, length, map, take, slice_index, refl, sym, ap}
+use Rattle.std.proofs.Common.{◌∙◌, subst, arith}
 use Rattle.std.proofs.lemmas.List.{map_more}
 use Rattle.hg_defs.specs.Hypergraph.{vertex_count, net_of}
 use Rattle.hg_defs.specs.Levels.{projected_from}
 use Rattle.hg_base.specs.BlockSet.{has}
 use Rattle.hg_defs.specs.Partition.{block_of}
 use Rattle.trace_text.specs.Carrying.{carried, LeadsInto}
-use Rattle.trace_text.proofs.CarryingLemmas.{AreSeen, seen-none, seen-more, leads_into, block_carried, block-small}
+use Rattle.trace_text.proofs.CarryingLemmas.{AreSeen, seen-none, seen-more, leads_to_level, block-on_level, block_carried, block-small}
 use Rattle.trace_text.proofs.first.touched.Goals as goal
 use mir.Val.{bool_byte}
 
@@ -30,9 +30,8 @@ block_below-block-requires c =
     let t = c.args.trace.now in
     let v = slice_index c.pins-v-items.result.now c.pins.v-index in
     let inside : v < vertex_count h = c.pins-v-items.ensures.below c.pins.v-index 0 (omega arith) in
-    subst (λ (ms : List (List ℕ)). LeadsInto (take t.start ms) c.slice-in-pins.result.now v) (sym c.slice.ensures)
-    (subst (λ (p : List ℕ). LeadsInto (take t.start t.maps) p v) (sym c.slice-in-pins.ensures)
-    (leads_into h t.maps t.start v t.first c.requires.printable.start c.requires.printable.levels inside c.requires.printable.first.vertices))
+    subst (λ (ms : List (List ℕ)). LeadsInto (take c.args.level ms) c.args.blocks.now v) (sym c.slice.ensures)
+    (leads_to_level h t c.args.level v c.args.blocks.now c.requires.printable c.requires.blocks inside)
 
 pub pins-preserved : goal.pins-preserved
 pins-preserved c =
@@ -46,7 +45,8 @@ pins-preserved c =
     let inside : v < vertex_count h = c.pins-v-items.ensures.below i 0 (omega arith) in
     let found : x ≡ slice_index t.first (carried (take t.start t.maps) v) =
     c.block_below-block.ensures
-    ∙ ap₂ (λ (p : List ℕ) (ms : List (List ℕ)). slice_index p (carried (take t.start ms) v)) c.slice-in-pins.ensures c.slice.ensures in
+    ∙ ap (λ (ms : List (List ℕ)). slice_index c.args.blocks.now (carried (take c.args.level ms) v)) c.slice.ensures
+    ∙ block-on_level h t c.args.level v c.args.blocks.now c.requires.printable c.requires.blocks inside in
     let is : x ≡ block_of q (slice_index pins i) =
     found
     ∙ sym (block_carried h t.maps t.start v t.first c.requires.printable.start c.requires.printable.levels inside)

@@ -3,7 +3,7 @@ use Rattle.std.proofs.Common.{◌≡◌, take}
 use Rattle.hg_defs.specs.Sums.{total}
 use Rattle.hg_defs.specs.Cost.{net_cost}
 use Rattle.hg_defs.specs.Levels.{projected_from}
-use Rattle.trace_text.proofs.first.first_cost.Given as goal
+use Rattle.trace_text.proofs.first.cost_below.Given as goal
 
 abbrev pub invariant-nets : goal.invariant-nets
 invariant-nets l =
