@@ -1,9 +1,10 @@
 -- The residual network. Each arc i has two halves: 2i goes along it, and 2i + 1 against it. A half has a rest,
 -- by which the flow may still be raised along it: the capacity less the flow along the arc, and the flow against it.
 use Rattle.std.specs.Prelude.{◌≡◌, ◌≢◌, ℕ, zero, suc, ◌+◌, ◌-◌, ◌*◌, ◌/◌, ◌%◌, ◌^◌, ◌<◌, ◌≤◌, List, length, All, slice_index, nat_eq, if◌then◌else◌}
+use Rattle.std.specs.Prelude.{Bool, true, false}
 use Rattle.hg_defs.specs.Sums.{sum_below}
 use Rattle.flow_net.specs.declared.network.Arc.{Arc}
-use Rattle.flow_net.specs.Flow.{arc_at}
+use Rattle.flow_net.specs.Flow.{arc_at, is_in}
 
 -- the other half of the same arc
 abbrev pub mate : ℕ → ℕ
@@ -53,6 +54,11 @@ IsOpen rests levels ways sink =
 abbrev pub IsClosed : List ℕ → List ℕ → List ℕ → Type 0
 IsClosed heads rests levels =
     (h : ℕ) → h < length heads → 0 < slice_index levels (head heads h) → slice_index levels (tail heads h) ≡ 0 → slice_index rests h ≡ 0
+
+-- no half that leaves a side may take more flow
+abbrev pub IsShut : List ℕ → List ℕ → List Bool → Type 0
+IsShut heads rests side =
+    (h : ℕ) → h < length heads → is_in side (tail heads h) ≡ true → is_in side (head heads h) ≡ false → slice_index rests h ≡ 0
 
 -- the next steps from v, as many as told, may each take this amount
 abbrev pub Carries : List ℕ → List ℕ → List ℕ → ℕ → ℕ → ℕ → Type 0

@@ -6,7 +6,7 @@ ghost use Rattle.flow_net.specs.Flow.{IsNetwork, IsFlow, IsFilledCut};
 ghost use Rattle.flow_net.specs.Residual.{IsTree, IsClosed, IsBounded, IsRaised, AreJoined};
 ghost use Rattle.flow_net.specs.Ready.{IsReady};
 
-use crate::cut::{Cut, flag_unreached, flow_from, write_flows};
+use crate::cut::{Cut, flag_near, flag_unreached, flow_from, write_flows};
 use crate::layout::{lay, link};
 use crate::levels::search;
 use crate::network::{Arc, Network};
@@ -104,7 +104,8 @@ impl Workspace {
     }
 }
 
-/// Writes a maximum flow and the side of the source, and answers the capacity of the arcs that leave it.
+/// Writes a maximum flow and the two extreme sides of the source, and answers the capacity of the arcs that
+/// leave either.
 fn solve(
     arcs: &[Arc],
     space: &mut Workspace,
@@ -112,6 +113,7 @@ fn solve(
     sink: u32,
     flows: &mut [u64],
     side: &mut [bool],
+    near: &mut [bool],
 ) -> u128
     requires nodes { length side.old ≤ 2 ^ 26 }
     requires few { length arcs.now ≤ 2 ^ 28 }
@@ -120,10 +122,13 @@ fn solve(
     requires source { source < length side.old }
     requires sink { sink < length side.old }
     requires apart { source ≢ sink }
+    requires near { length near.old ≡ length side.old }
     requires ready { IsReady space.old (length side.old) (2 * length arcs.now) }
     ensures flow { IsFlow (record { nodes = length side.old; arcs = arcs.now; flows = flows.new }) source sink }
     ensures cut { IsFilledCut (record { nodes = length side.old; arcs = arcs.now; flows = flows.new }) source sink
         result side.new }
+    ensures near { IsFilledCut (record { nodes = length side.old; arcs = arcs.now; flows = flows.new }) source sink
+        result near.new }
 {
     let nodes = side.len();
     let count = 2 * arcs.len();
@@ -132,6 +137,8 @@ fn solve(
     let firsts = &mut space.firsts.as_mut_slice()[..nodes];
     let rests = &mut space.rests.as_mut_slice()[..count];
     let levels = &mut space.levels.as_mut_slice()[..nodes];
+    let ways = &mut space.ways.as_mut_slice()[..nodes];
+    let queue = &mut space.queue.as_mut_slice()[..nodes];
     lay(arcs, heads, rests);
     link(heads, nexts, firsts);
     let halves = Halves {
@@ -145,19 +152,20 @@ fn solve(
         halves,
         rests,
         levels,
-        &mut space.ways.as_mut_slice()[..nodes],
+        ways,
         &mut space.currents.as_mut_slice()[..nodes],
         &mut space.entries.as_mut_slice()[..nodes],
-        &mut space.queue.as_mut_slice()[..nodes],
+        queue,
     );
     flag_unreached(levels, side);
     write_flows(rests, flows);
+    flag_near(halves, rests, levels, ways, queue, near);
     flow_from(arcs, flows, source)
 }
 
 impl Network {
-    /// Computes a maximum flow from one node to another, beginning without flow, and a cut that it
-    /// fills. Without memory the flows stay as they were.
+    /// Computes a maximum flow from one node to another, beginning without flow, and the two extreme cuts
+    /// that it fills. Without memory the flows stay as they were.
     pub fn max_flow(&mut self, source: u32, sink: u32) -> Result<Cut, NoMemory>
         requires source { source < self.old.nodes }
         requires sink { sink < self.old.nodes }
@@ -166,6 +174,7 @@ impl Network {
         ensures sound { IsNetwork self.new }
         ensures flow { OnOk result (IsFlow self.new source sink) }
         ensures cut { IfOk result (λ cut. IsFilledCut self.new source sink cut.value cut.side) }
+        ensures near { IfOk result (λ cut. IsFilledCut self.new source sink cut.value cut.near) }
         ensures err { OnErr result (self.new ≡ self.old) }
     {
         let mut space = Workspace::new(*self.arcs.allocator());
@@ -186,11 +195,13 @@ impl Network {
         ensures sound { IsNetwork self.new }
         ensures flow { OnOk result (IsFlow self.new source sink) }
         ensures cut { IfOk result (λ cut. IsFilledCut self.new source sink cut.value cut.side) }
+        ensures near { IfOk result (λ cut. IsFilledCut self.new source sink cut.value cut.near) }
         ensures err { OnErr result (self.new ≡ self.old) }
     {
         let nodes = self.nodes as usize;
         space.prepare(nodes, 2 * self.arcs.len())?;
         let mut side = vec![in *self.arcs.allocator(); false; nodes]?;
+        let mut near = vec![in *self.arcs.allocator(); false; nodes]?;
         let value = solve(
             self.arcs.as_slice(),
             space,
@@ -198,10 +209,12 @@ impl Network {
             sink,
             self.flows.as_mut_slice(),
             side.as_mut_slice(),
+            near.as_mut_slice(),
         );
         Ok(Cut {
             value,
             side: Flags::from_vec(side),
+            near: Flags::from_vec(near),
         })
     }
 }

@@ -1,6 +1,6 @@
 //! The residual network: two halves for each arc, and the list of the halves that leave each node.
 
-ghost use Rattle.std.specs.Prelude.{◌≡◌, ◌≢◌, ℕ, ◌+◌, ◌*◌, ◌^◌, ◌<◌, ◌≤◌, length, slice_index};
+ghost use Rattle.std.specs.Prelude.{◌≡◌, ◌≢◌, ℕ, ◌+◌, ◌*◌, ◌%◌, ◌^◌, ◌<◌, ◌≤◌, length, slice_index};
 ghost use Rattle.flow_net.specs.Residual.{mate, IsLinked};
 
 /// The halves of the arcs: where each leads, and the lists of those that leave each node, between two nodes.
@@ -26,6 +26,16 @@ pub(crate) fn clear(list: &mut [u32])
 {
     for number in list.iter_mut() {
         *number = 0;
+    }
+}
+
+/// Exchanges the rests of the two halves of each arc: every half then has the rest of the one against it.
+pub(crate) fn turn(rests: &mut [u64])
+    requires { length rests.old % 2 ≡ 0 }
+    ensures { (h : ℕ) → h < length rests.new → slice_index rests.new h ≡ slice_index rests.old (mate h) }
+{
+    for i in 0..rests.len() / 2 {
+        rests.swap(2 * i, 2 * i + 1);
     }
 }
 

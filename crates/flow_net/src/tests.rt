@@ -1,6 +1,7 @@
 ghost use Rattle.std.specs.Prelude.{◌≡◌, ◌≤◌, length, OnOk};
 
 use super::*;
+use std::alloc::Global;
 use std::test::Fail;
 
 /// How many nodes and arcs the random networks have.
@@ -12,9 +13,12 @@ fn is_in_set(set: u32, node: u32) -> bool {
     (set >> (node % 32)) & 1 == 1
 }
 
-/// The least capacity of a cut between the first and the last node, by trying every side.
-fn least_cut(arcs: &[Arc]) -> u64 {
+/// The least capacity of a cut between the first and the last node, by trying every side, and the nodes
+/// that are on each side of that capacity and those that are on one.
+fn least_cuts(arcs: &[Arc]) -> (u64, u32, u32) {
     let mut least = u64::MAX;
+    let mut every = u32::MAX;
+    let mut some = 0;
     for set in 0..1u32 << NODES {
         if is_in_set(set, 0) && !is_in_set(set, NODES - 1) {
             let mut sum = 0u64;
@@ -23,10 +27,25 @@ fn least_cut(arcs: &[Arc]) -> u64 {
                     sum = sum.saturating_add(arc.cap);
                 }
             }
-            least = least.min(sum);
+            if sum < least {
+                (least, every, some) = (sum, u32::MAX, 0);
+            }
+            if sum == least {
+                every &= set;
+                some |= set;
+            }
         }
     }
-    least
+    (least, every, some)
+}
+
+/// The nodes of a side as bits.
+fn bits_of(side: &[bool]) -> u32 {
+    let mut set = 0;
+    for (node, flag) in side.iter().enumerate() {
+        set |= u32::from(*flag) << (node as u32 % 32);
+    }
+    set
 }
 
 /// Fills a network with random arcs of capacities up to 9.
@@ -51,7 +70,12 @@ fn random_networks(rt: HostRuntime) -> Result<(), Fail> {
     for seed in 0..200 {
         fill(&mut network, seed)?;
         let cut = network.max_flow_in(&mut space, 0, NODES - 1)?;
-        assert_eq!(rt; cut.value, u128::from(least_cut(network.arcs())));
+        let (least, every, some) = least_cuts(network.arcs());
+        assert_eq!(rt; cut.value, u128::from(least));
+        assert_eq!(rt;
+            (bits_of(cut.near.slice()), bits_of(cut.side.slice())),
+            (every, some)
+        );
     }
     Ok(())
 }
@@ -68,9 +92,55 @@ fn two_ways_and_a_bridge(rt: HostRuntime) -> Result<(), Fail> {
     let cut = network.max_flow(0, 3)?;
     assert_eq!(rt; cut.value, 5);
     assert_eq!(rt; cut.side.slice(), [true, true, true, false].as_slice());
+    assert_eq!(rt; cut.near.slice(), [true, false, false, false].as_slice());
     assert_eq!(rt;
         (network.flow_on(0), network.flow_on(1), network.flow_on(4)),
         (3, 2, 1)
     );
+    Ok(())
+}
+
+/// A row of nodes with an arc from each to the next one, and the least cut between its ends.
+struct Row<'a> {
+    caps: &'a [u64],
+    value: u128,
+    near: &'a [bool],
+    side: &'a [bool],
+}
+
+const ROWS: &[Row<'static>] = &[
+    Row {
+        caps: &[4, 3, 5, 3, 4],
+        value: 3,
+        near: &[true, true, false, false, false, false],
+        side: &[true, true, true, true, false, false],
+    },
+    Row {
+        caps: &[2, 1, 2],
+        value: 1,
+        near: &[true, true, false, false],
+        side: &[true, true, false, false],
+    },
+];
+
+/// Compares the two extreme cuts of a row with what is expected.
+fn is_right(alloc: Global, row: &Row<'_>) -> Result<bool, NoMemory> {
+    let last = row.caps.len() as u32 % 32;
+    if last == 0 {
+        return Ok(false);
+    }
+    let mut network = Network::new(alloc, last + 1)?;
+    for (from, cap) in (0..last).zip(row.caps) {
+        network.arc(from, from + 1, *cap % 10)?;
+    }
+    let cut = network.max_flow(0, last)?;
+    Ok(cut.value == row.value && cut.near.slice() == row.near && cut.side.slice() == row.side)
+}
+
+#[test]
+fn extreme_cuts(rt: HostRuntime) -> Result<(), Fail> {
+    for row in ROWS {
+        assert!(rt; is_right(rt.alloc(), row)?, "{:?}", row.caps);
+    }
     Ok(())
 }

@@ -2,6 +2,7 @@
 //! refiner that makes it for one pair after the other.
 #![tactic(auto)]
 
+mod balance;
 mod cut;
 mod cut_nets;
 mod distinct;

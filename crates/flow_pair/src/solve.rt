@@ -10,6 +10,7 @@ ghost use Rattle.flow_pair.specs.PairEnds.{IsPairEnd};
 ghost use Rattle.flow_pair.specs.PairNetwork.{unbounded};
 ghost use Rattle.flow_pair.specs.Sides.{touching_nets, WeighsAtLeast};
 
+use crate::balance::balanced_side;
 use crate::cut::touching_nets_of;
 use crate::cut_nets::CutNets;
 use crate::pair::{more_than_all, place_region};
@@ -48,7 +49,8 @@ fn blocks_of(alloc: Global, side: &[bool], count: usize, a: u32, b: u32) -> Resu
     Ok(Blocks::from_vec(blocks))
 }
 
-/// The cheapest assignment of the region of a pair, given the nets that touch both blocks.
+/// The cheapest assignment of the region of a pair, given the nets that touch both blocks: of the two
+/// extreme minimum cuts the one by which the greater load of the two blocks is lesser.
 fn solve_region(
     space: &mut Workspace,
     places: &mut Vec<u32>,
@@ -81,7 +83,9 @@ fn solve_region(
     let places = places.as_slice();
     let mut short = build_short(alloc, spots, h, p, a, b, region.slice(), places, nets, most)?;
     let cut = short.network.max_flow_in(space, 0, 1)?;
-    let blocks = blocks_of(alloc, cut.side.slice(), region.len(), a, b)?;
+    let (near, far) = (cut.near.slice(), cut.side.slice());
+    let side = balanced_side(h, p, a, b, region.slice(), near, far);
+    let blocks = blocks_of(alloc, side, region.len(), a, b)?;
     Ok(PairEnd {
         region,
         blocks,

@@ -28,6 +28,16 @@ fn row_of_four(alloc: Global) -> Result<Hypergraph, NoMemory> {
     Hypergraph::build(alloc, flat)
 }
 
+/// Five vertices in a row, with nets of these weights between neighbours.
+fn row_of_five(alloc: Global, weights: [u64; 4]) -> Result<Hypergraph, NoMemory> {
+    let mut flat = FlatHyper::start(alloc, 5)?;
+    flat.push_net(weights[0], &[0, 1])?;
+    flat.push_net(weights[1], &[1, 2])?;
+    flat.push_net(weights[2], &[2, 3])?;
+    flat.push_net(weights[3], &[3, 4])?;
+    Hypergraph::build(alloc, flat)
+}
+
 /// Three vertices with nets of weights 5 and 1, the second one without the last vertex.
 fn three_vertices(alloc: Global, objective: Objective) -> Result<Hypergraph, NoMemory> {
     let mut flat = FlatHyper::start(alloc, 3)?;
@@ -75,6 +85,8 @@ struct Row<'a> {
     blocks: &'a [u32],
     pair: (u32, u32),
     region: &'a [u32],
+    /// The blocks of the region afterwards.
+    assigned: &'a [u32],
     value: u64,
     /// The costs before and after the round of the pair, which is the first one of a pass.
     costs: (u64, u64),
@@ -131,6 +143,7 @@ fn compare(rt: &impl Abort, alloc: Global, h: &Hypergraph, row: &Row<'_>) -> Res
     assert!(rt; a < b && b < row.k);
     let end = solve_pair(alloc, h, &p, a, b)?.ok_or("a net touches both")?;
     assert_eq!(rt; (end.region.slice(), end.value), (row.region, row.value));
+    assert_eq!(rt; end.blocks.slice(), row.assigned);
     assert_eq!(rt; flow_of(alloc, h, &p, a, b, &end)?, u128::from(row.value));
     let task = Task {
         level: 2,
@@ -164,6 +177,7 @@ fn ends_and_passes(rt: HostRuntime) -> Result<(), Fail> {
         blocks: &[0, 1],
         pair: (0, 1),
         region: &[],
+        assigned: &[],
         value: 1,
         costs: (1, 1),
         tally: (1, 0),
@@ -175,6 +189,7 @@ fn ends_and_passes(rt: HostRuntime) -> Result<(), Fail> {
         blocks: &[0, 0, 0, 1, 1, 1, 0],
         pair: (0, 1),
         region: &[],
+        assigned: &[],
         value: 10,
         costs: (10, 10),
         tally: (1, 0),
@@ -186,11 +201,41 @@ fn ends_and_passes(rt: HostRuntime) -> Result<(), Fail> {
         blocks: &[0, 0, 1, 1],
         pair: (0, 1),
         region: &[1, 2],
+        assigned: &[1, 1],
         value: 1,
         costs: (5, 1),
         tally: (1, 4),
     };
     compare(&rt, alloc, &row_of_four(alloc)?, &four)
+}
+
+#[test]
+fn balanced_sides(rt: HostRuntime) -> Result<(), Fail> {
+    let alloc = rt.alloc();
+    let far = Row {
+        k: 2,
+        limit: 4,
+        blocks: &[0, 0, 1, 1, 1],
+        pair: (0, 1),
+        region: &[1, 2, 3],
+        assigned: &[0, 0, 1],
+        value: 1,
+        costs: (5, 1),
+        tally: (1, 4),
+    };
+    compare(&rt, alloc, &row_of_five(alloc, [1, 5, 1, 5])?, &far)?;
+    let near = Row {
+        k: 2,
+        limit: 4,
+        blocks: &[0, 0, 0, 1, 1],
+        pair: (0, 1),
+        region: &[1, 2, 3],
+        assigned: &[0, 1, 1],
+        value: 1,
+        costs: (5, 1),
+        tally: (1, 4),
+    };
+    compare(&rt, alloc, &row_of_five(alloc, [5, 1, 5, 1])?, &near)
 }
 
 #[test]
@@ -207,6 +252,7 @@ fn objectives(rt: HostRuntime) -> Result<(), Fail> {
             blocks: &[0, 1, 2],
             pair: (0, 1),
             region: &[0, 1],
+            assigned: &[1, 1],
             value: 0,
             costs: (before, after),
             tally: (2, gain),
@@ -220,6 +266,7 @@ fn objectives(rt: HostRuntime) -> Result<(), Fail> {
             blocks: &blocks,
             pair: (0, 3),
             region: &[1, 2],
+            assigned: &[3, 3],
             value: twice,
             costs: if twice == 2 { (20, 12) } else { (10, 6) },
             tally: if twice == 2 { (2, 16) } else { (2, 8) },
@@ -329,15 +376,33 @@ fn assigned(region: u32, chosen: u32) -> [u32; 3] {
     ]
 }
 
-/// The least cost of an assignment of a region, by trying all.
-fn least_cost(nets: &[(u32, u64)], objective: Objective, region: u32) -> u64 {
+/// The greater load of the first two blocks, where each vertex weighs 1.
+fn greater_of(sets: [u32; 3]) -> u32 {
+    sets[0].count_ones().max(sets[1].count_ones())
+}
+
+/// The least cost of an assignment of a region, by trying all, and what the first block gets: of the vertices
+/// that it gets in each assignment of that cost and those that it gets in one, the choice with the lesser greater load.
+fn cheapest(nets: &[(u32, u64)], objective: Objective, region: u32) -> (u64, u32) {
     let mut least = u64::MAX;
+    let mut every = u32::MAX;
+    let mut some = 0;
     for chosen in 0..1u32 << VERTICES {
         if chosen & !region == 0 {
-            least = least.min(cost_in(nets, objective, assigned(region, chosen)));
+            let cost = cost_in(nets, objective, assigned(region, chosen));
+            if cost < least {
+                (least, every, some) = (cost, u32::MAX, 0);
+            }
+            if cost == least {
+                every &= chosen;
+                some |= chosen;
+            }
         }
     }
-    least
+    if greater_of(assigned(region, some)) < greater_of(assigned(region, every)) {
+        return (least, some);
+    }
+    (least, every)
 }
 
 /// The free vertices of a block on nets that touch another one, and those that share a net with them.
@@ -391,9 +456,10 @@ fn try_all(
             (0, room.min(all.count_ones()))
         );
     }
-    let now = assigned(region, bits_in_first(&end));
+    let first = bits_in_first(&end);
+    let now = assigned(region, first);
     let cost = cost_in(nets, objective, now);
-    assert_eq!(rt; cost, least_cost(nets, objective, region));
+    assert_eq!(rt; (cost, first), cheapest(nets, objective, region));
     let joined = [now[0] | now[1], 0, now[2]];
     assert_eq!(rt;
         cost,
