@@ -1,14 +1,15 @@
 -- A flow that no half raises fills the cut between the nodes that more could flow from and the others.
 use Rattle.std.proofs.Common.{◌≡◌, ◌≢◌, ℕ, ◌+◌, ◌*◌, ◌/◌, ◌%◌, ◌^◌, ◌<◌, ◌≤◌, List, length, slice_index, nat_eq, refl, sym, ap}
 use Rattle.std.proofs.Common.{◌∙◌, subst, arith, ◌⊎◌, inl, inr, Bool, true, false, not, ◌&&◌, if◌then◌else◌}
-use Rattle.std.proofs.lemmas.Bool.{cases_eq, eqb-true, eqb-false, eq-eqb, ne_eqb}
+use Rattle.std.proofs.lemmas.Bool.{cases_eq, eqb-true, eqb-false}
 use Rattle.hg_defs.specs.Sums.{sum_below}
 use Rattle.hg_defs.proofs.SumLaws.{sum_below-change, sum_below-same, sum_below-le, sum_below-add, sum_below-zero, sum_below-only}
 use Rattle.hg_defs.proofs.SumLaws.{sum_below-swap, weight_if, weight_if-same, weight_if-other, weight_if-le}
 use Rattle.flow_net.specs.declared.network.Arc.{Arc}
 use Rattle.flow_net.specs.Flow.{arc_at, leaving, entering, is_in, cut_capacity, IsFlow, IsFilledCut}
 use Rattle.flow_net.specs.Laws.{FlowsAreWithinCuts}
-use Rattle.flow_net.specs.Residual.{mate, out_of, into, AreLaid, AreJoined, IsRaised, IsClosed}
+use Rattle.flow_net.specs.Residual.{mate, head, tail, out_of, into, AreLaid, AreJoined, IsRaised, IsClosed, IsShut, IsLinked}
+use Rattle.flow_net.proofs.LevelLaws.{mate-within}
 
 module _ (m n : ℕ) (flow : ℕ → ℕ) (S : ℕ → Bool) where
   chosen : (t : Bool) (f : ℕ → ℕ) → (if t then sum_below f m else 0) ≡ sum_below (λ i. if t then f i else 0) m
@@ -89,13 +90,19 @@ reached level e = by (cases_eq level 0)
     by (inl q) = absurd (eqb-false level 0 e q)
     by (inr q) = omega arith
 
-module _ (nodes source sink : ℕ) (arcs : List Arc) (flows heads before rests levels : List ℕ) (side : List Bool)
+-- the nodes without a level are on a side that no half with a rest leaves
+pub unreached_shut : (heads nexts firsts rests levels : List ℕ) (side : List Bool) → IsLinked heads nexts firsts → length side ≡ length firsts
+    → IsClosed heads rests levels → ((v : ℕ) → v < length side → is_in side v ≡ nat_eq (slice_index levels v) 0) → IsShut heads rests side
+unreached_shut heads nexts firsts rests levels side linked long closed sides h l p q =
+    let tail_in = linked.nodes (mate h) (mate-within (length heads) h linked.pairs l) in
+    let head_in = linked.nodes h l in
+    closed h l (reached (slice_index levels (head heads h)) (sym (sides (head heads h) (omega arith)) ∙ q))
+    (unreached (slice_index levels (tail heads h)) (sym (sides (tail heads h) (omega arith)) ∙ p))
+
+module _ (nodes source sink : ℕ) (arcs : List Arc) (flows heads before rests : List ℕ)
     (joined : AreJoined nodes arcs) (source_in : source < nodes) (sink_in : sink < nodes) (apart : source ≢ sink)
     (long_heads : length heads ≡ 2 * length arcs) (long_before : length before ≡ 2 * length arcs) (long_flows : length flows ≡ length arcs)
-    (long_side : length side ≡ nodes)
     (laid : AreLaid arcs heads before (length arcs)) (raised : IsRaised heads source sink 0 before rests)
-    (at_source : slice_index levels source ≡ 0) (at_sink : slice_index levels sink ≡ 1) (closed : IsClosed heads rests levels)
-    (sides : (v : ℕ) → v < length side → is_in side v ≡ nat_eq (slice_index levels v) 0)
     (written : (i : ℕ) → i < length flows → slice_index flows i ≡ slice_index rests (2 * i + 1)) where
   half_count : length heads / 2 ≡ length arcs
   half_count = omega arith
@@ -155,52 +162,43 @@ module _ (nodes source sink : ℕ) (arcs : List Arc) (flows heads before rests l
   to_in : (i : ℕ) → i < length arcs → (arc_at arcs i).to < nodes
   to_in i l = (joined i (record { from = 0; to = 0; cap = 0 }) l).1
 
-  level_at : (v : ℕ) → v < nodes → (b : Bool) → is_in side v ≡ b → nat_eq (slice_index levels v) 0 ≡ b
-  level_at v l b e = sym (sides v (omega arith)) ∙ e
-
-  full_at : (i : ℕ) → i < length arcs → is_in side (arc_at arcs i).from ≡ true → is_in side (arc_at arcs i).to ≡ false →
-      slice_index flows i ≡ (arc_at arcs i).cap
-  full_at i l p q =
-      let far = unreached (slice_index levels (arc_at arcs i).from) (level_at (arc_at arcs i).from (from_in i l) true p) in
-      let near = reached (slice_index levels (arc_at arcs i).to) (level_at (arc_at arcs i).to (to_in i l) false q) in
-      let other : mate (2 * i) ≡ 2 * i + 1 = omega arith in
-      let none : slice_index rests (2 * i) ≡ 0 =
-      closed (2 * i) (omega arith) (subst (λ v. 0 < slice_index levels v) (sym (laid.to i l)) near)
-      (ap (slice_index levels) (ap (slice_index heads) other ∙ laid.from i l) ∙ far) in
-      let a = pair_is i l in
-      let b = written i (omega arith) in
-      omega arith
-
-  empty_at : (i : ℕ) → i < length arcs → is_in side (arc_at arcs i).from ≡ false → is_in side (arc_at arcs i).to ≡ true → slice_index flows i ≡ 0
-  empty_at i l p q =
-      let near = reached (slice_index levels (arc_at arcs i).from) (level_at (arc_at arcs i).from (from_in i l) false p) in
-      let far = unreached (slice_index levels (arc_at arcs i).to) (level_at (arc_at arcs i).to (to_in i l) true q) in
-      let other : mate (2 * i + 1) ≡ 2 * i = omega arith in
-      let none : slice_index rests (2 * i + 1) ≡ 0 =
-      closed (2 * i + 1) (omega arith) (subst (λ v. 0 < slice_index levels v) (sym (laid.from i l)) near)
-      (ap (slice_index levels) (ap (slice_index heads) other ∙ laid.to i l) ∙ far) in
-      written i (omega arith) ∙ none
-
   pub flow_holds : IsFlow (record { nodes = nodes; arcs = arcs; flows = flows }) source sink
   flow_holds = record {
     within = λ i l. let a = pair_is i l in let b = written i (omega arith) in omega arith;
     balanced = λ v l p q. balanced_at v p q;
   }
 
-  pub cut_holds : IsFilledCut (record { nodes = nodes; arcs = arcs; flows = flows }) source sink (cut_capacity arcs side) side
-  cut_holds =
-      let holds : is_in side source ≡ true = sides source (omega arith) ∙ eq-eqb (slice_index levels source) 0 at_source in
-      let lacks : is_in side sink ≡ false = sides sink (omega arith) ∙ ne_eqb (slice_index levels sink) 0 (λ e. absurd (omega arith)) in
-      record {
-        long = long_side;
-        holds_source = holds;
-        lacks_sink = lacks;
-        flow =
-            filled (length arcs) nodes source sink (λ i. (arc_at arcs i).from) (λ i. (arc_at arcs i).to) (slice_index flows) (λ i. (arc_at arcs i).cap)
-            (is_in side)
-            source_in apart holds lacks from_in to_in (λ v l p q. balanced_at v p q) full_at empty_at;
-        capacity = refl;
-      }
+  module _ (side : List Bool) (long_side : length side ≡ nodes) (holds : is_in side source ≡ true) (lacks : is_in side sink ≡ false)
+      (shut : IsShut heads rests side) where
+    full_at : (i : ℕ) → i < length arcs → is_in side (arc_at arcs i).from ≡ true → is_in side (arc_at arcs i).to ≡ false →
+        slice_index flows i ≡ (arc_at arcs i).cap
+    full_at i l p q =
+        let other : mate (2 * i) ≡ 2 * i + 1 = omega arith in
+        let none : slice_index rests (2 * i) ≡ 0 =
+        shut (2 * i) (omega arith) (ap (is_in side) (ap (slice_index heads) other ∙ laid.from i l) ∙ p) (ap (is_in side) (laid.to i l) ∙ q) in
+        let a = pair_is i l in
+        let b = written i (omega arith) in
+        omega arith
+
+    empty_at : (i : ℕ) → i < length arcs → is_in side (arc_at arcs i).from ≡ false → is_in side (arc_at arcs i).to ≡ true → slice_index flows i ≡ 0
+    empty_at i l p q =
+        let other : mate (2 * i + 1) ≡ 2 * i = omega arith in
+        let none : slice_index rests (2 * i + 1) ≡ 0 =
+        shut (2 * i + 1) (omega arith) (ap (is_in side) (ap (slice_index heads) other ∙ laid.to i l) ∙ q) (ap (is_in side) (laid.from i l) ∙ p) in
+        written i (omega arith) ∙ none
+
+    -- a side that no half with a rest leaves is one of a cut that the flow fills
+    pub cut_holds : IsFilledCut (record { nodes = nodes; arcs = arcs; flows = flows }) source sink (cut_capacity arcs side) side
+    cut_holds = record {
+      long = long_side;
+      holds_source = holds;
+      lacks_sink = lacks;
+      flow =
+          filled (length arcs) nodes source sink (λ i. (arc_at arcs i).from) (λ i. (arc_at arcs i).to) (slice_index flows) (λ i. (arc_at arcs i).cap)
+          (is_in side)
+          source_in apart holds lacks from_in to_in (λ v l p q. balanced_at v p q) full_at empty_at;
+      capacity = refl;
+    }
 
 -- ---- the halves of arcs
 

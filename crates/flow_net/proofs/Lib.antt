@@ -1,3 +1,4 @@
 pub mod LevelLaws
 pub mod ConservationLaws
 pub mod CutLaws
+pub mod NearLaws
