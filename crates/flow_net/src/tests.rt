@@ -42,8 +42,8 @@ fn least_cuts(arcs: &[Arc]) -> (u64, u32, u32) {
 /// The nodes of a side as bits.
 fn bits_of(side: &[bool]) -> u32 {
     let mut set = 0;
-    for (node, flag) in side.iter().enumerate() {
-        set |= u32::from(*flag) << (node as u32 % 32);
+    for flag in side.iter().rev() {
+        set = (set << 1) | u32::from(*flag);
     }
     set
 }
@@ -100,41 +100,41 @@ fn two_ways_and_a_bridge(rt: HostRuntime) -> Result<(), Fail> {
     Ok(())
 }
 
-/// A row of nodes with an arc from each to the next one, and the least cut between its ends.
-struct Row<'a> {
-    caps: &'a [u64],
+/// The capacities of arcs from each of six nodes to the next one, and the least cuts between the two ends.
+struct Row {
+    caps: [u32; 5],
     value: u128,
-    near: &'a [bool],
-    side: &'a [bool],
+    near: [bool; 6],
+    side: [bool; 6],
 }
 
-const ROWS: &[Row<'static>] = &[
+const ROWS: &[Row] = &[
     Row {
-        caps: &[4, 3, 5, 3, 4],
+        caps: [4, 3, 5, 3, 4],
         value: 3,
-        near: &[true, true, false, false, false, false],
-        side: &[true, true, true, true, false, false],
+        near: [true, true, false, false, false, false],
+        side: [true, true, true, true, false, false],
     },
     Row {
-        caps: &[2, 1, 2],
-        value: 1,
-        near: &[true, true, false, false],
-        side: &[true, true, false, false],
+        caps: [9, 7, 2, 5, 8],
+        value: 2,
+        near: [true, true, true, false, false, false],
+        side: [true, true, true, false, false, false],
     },
 ];
 
 /// Compares the two extreme cuts of a row with what is expected.
-fn is_right(alloc: Global, row: &Row<'_>) -> Result<bool, NoMemory> {
-    let last = row.caps.len() as u32 % 32;
-    if last == 0 {
-        return Ok(false);
+fn is_right(alloc: Global, row: &Row) -> Result<bool, NoMemory> {
+    let mut network = Network::new(alloc, NODES)?;
+    for from in 0..NODES - 1 {
+        network.arc(from, from + 1, u64::from(row.caps[from as usize]))?;
     }
-    let mut network = Network::new(alloc, last + 1)?;
-    for (from, cap) in (0..last).zip(row.caps) {
-        network.arc(from, from + 1, *cap % 10)?;
-    }
-    let cut = network.max_flow(0, last)?;
-    Ok(cut.value == row.value && cut.near.slice() == row.near && cut.side.slice() == row.side)
+    let cut = network.max_flow(0, NODES - 1)?;
+    Ok(
+        cut.value == row.value
+            && cut.near.slice() == row.near.as_slice()
+            && cut.side.slice() == row.side.as_slice(),
+    )
 }
 
 #[test]
