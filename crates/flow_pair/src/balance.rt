@@ -52,8 +52,7 @@ pub(crate) fn balanced_side<'a>(
     ensures { (result.now ≡ near.now) ⊎ (result.now ≡ far.now) }
 {
     if greater_load(h, p, a, b, region, far) < greater_load(h, p, a, b, region, near) {
-        far
-    } else {
-        near
+        return far;
     }
+    near
 }

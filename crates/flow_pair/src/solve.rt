@@ -83,8 +83,15 @@ fn solve_region(
     let places = places.as_slice();
     let mut short = build_short(alloc, spots, h, p, a, b, region.slice(), places, nets, most)?;
     let cut = short.network.max_flow_in(space, 0, 1)?;
-    let (near, far) = (cut.near.slice(), cut.side.slice());
-    let side = balanced_side(h, p, a, b, region.slice(), near, far);
+    let side = balanced_side(
+        h,
+        p,
+        a,
+        b,
+        region.slice(),
+        cut.near.slice(),
+        cut.side.slice(),
+    );
     let blocks = blocks_of(alloc, side, region.len(), a, b)?;
     Ok(PairEnd {
         region,
