@@ -10,16 +10,21 @@ ghost use Rattle.hg_defs.specs.Partition.{IsPartition};
 ghost use Rattle.initial_place.specs.NoWorse.{IsNoWorse};
 ghost use Rattle.initial_place.specs.Shapes.{Range, Shape, IsShapeOf};
 
+mod agenda;
 mod candidate;
 mod cells;
 mod division;
 mod draws;
+mod edges;
 mod frame;
 mod growing;
+mod halving;
 mod listed;
 mod moves;
 mod rest;
+mod sides;
 mod tables;
+mod tally;
 
 use candidate::{candidate, cheaper, frame_of, labels_of, thrown};
 use frame::Frame;
@@ -31,6 +36,9 @@ use std::thread::{Threads, map_indices};
 
 /// The most cells that the table of pulls may have.
 const MOST_CELLS: u64 = 1 << 23;
+
+/// With fewer bisections than this each of them is made by two threads.
+const FEW_TRIES: usize = 4;
 
 /// How many bisections and how many perturbations are tried: fewer where they cost more.
 fn effort(h: &Hypergraph, k: u32) -> usize
@@ -104,13 +112,16 @@ fn best_of_tries<R: Threads + Sync>(
     requires best { IsPartition h.now k best }
     ensures { IfOk result (IsNoWorse h.now k limit best) }
 {
+    let by_two = tries < FEW_TRIES;
     let candidates = map_indices(
         rt,
         alloc,
         tries + 1,
-        &|i: usize| -> Result<Blocks, NoMemory> {
-            candidate(alloc, h, frame, rest, limit, seed, i as u64)
-        },
+        &|i: usize| -> Result<Blocks, NoMemory>
+            requires { (frame.now.vertices ≡ vertex_count h.now) × (frame.now.whole ≡ vertex_count h.now)
+                × (0 < vertex_count h.now) × (2 ≤ frame.now.blocks) × (frame.now.all ≡ frame.now.blocks)
+                × (rest.now ≡ vertex_count h.now) }
+        { candidate(rt, alloc, h, frame, rest, limit, seed, i as u64, by_two) },
     )?;
     cheapest(alloc, h, k, limit, best, candidates)
 }

@@ -16,6 +16,7 @@ use hg_base::{Blocks, FREE, NoMemory, cost_of};
 use incidence::Hypergraph;
 use pin_plain::Partition;
 use std::alloc::Global;
+use std::thread::Threads;
 
 /// How far the streams of random numbers of two candidates are apart.
 const STREAMS: u64 = 1 << 10;
@@ -44,7 +45,8 @@ pub(crate) fn frame_of(alloc: Global, h: &Hypergraph, k: u32) -> Result<Frame, N
 }
 
 /// A candidate of this number: the first one is grown, the others are bisected.
-pub(crate) fn candidate(
+pub(crate) fn candidate<R: Threads + Sync>(
+    rt: &R,
     alloc: Global,
     h: &Hypergraph,
     frame: &Frame,
@@ -52,6 +54,7 @@ pub(crate) fn candidate(
     limit: u64,
     seed: u64,
     number: u64,
+    by_two: bool,
 ) -> Result<Blocks, NoMemory>
     requires part { frame.now.vertices ≡ vertex_count h.now }
     requires whole { frame.now.whole ≡ vertex_count h.now }
@@ -67,7 +70,16 @@ pub(crate) fn candidate(
         search.reset(h, &start);
         search.grow_all(h, limit)?;
     } else {
-        let labels = divided(alloc, h, frame, limit, seed, stream.wrapping_add(1))?;
+        let labels = divided(
+            rt,
+            alloc,
+            h,
+            frame,
+            limit,
+            seed,
+            stream.wrapping_add(1),
+            by_two,
+        )?;
         search.reset(h, &labels);
     }
     better(alloc, h, rest, &mut search)

@@ -51,6 +51,16 @@ impl<T: Copy> Cells<T> {
             *place = item;
         }
     }
+
+    /// Takes over the items of another list.
+    pub(crate) fn copy_from(&mut self, other: &Cells<T>)
+        requires { other.now ≡ self.old }
+        ensures { self.new ≡ self.old }
+    {
+        self.items
+            .as_mut_slice()
+            .copy_from_slice(other.items.as_slice());
+    }
 }
 
 /// Numbers below a bound, in a list of a fixed length.

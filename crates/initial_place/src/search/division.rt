@@ -6,11 +6,16 @@ ghost use Rattle.initial_place.specs.Shapes.{Range, Whole};
 
 use crate::search::cells::Labels;
 use crate::search::draws::Draws;
+use crate::search::edges::{Edges, MOST_SMALL};
 use crate::search::frame::Frame;
 use hg_base::{FlatHyper, NoMemory};
 use incidence::Hypergraph;
 use std::alloc::Global;
 use std::marker::Model;
+use std::thread::{self, Threads};
+
+/// The most blocks that there are.
+const MOST_BLOCKS: u64 = 1 << 8;
 
 /// Puts the numbers of the pins of a net that are below `count` into a list.
 fn number_pins(
@@ -35,13 +40,14 @@ fn number_pins(
     Ok(())
 }
 
-/// The hypergraph of the vertices that are numbered below `count`, and of the nets with two of them
-/// or more. Its vertices weigh 1 and are free, whatever they weigh here.
+/// The hypergraph of the vertices that are numbered below `count`, and of the nets with more than `few` of them. Its
+/// vertices weigh 1 and are free, whatever they weigh here.
 fn inner(
     alloc: Global,
     h: &Hypergraph,
     numbers: &Labels,
     count: u32,
+    few: usize,
 ) -> Result<Hypergraph, NoMemory>
     requires numbers { numbers.now.count ≡ vertex_count h.now }
     requires count { count ≤ vertex_count h.now }
@@ -52,11 +58,23 @@ fn inner(
     let mut pins = Vec::new(alloc);
     for e in 0..h.nets() {
         number_pins(h, e, numbers, count, &mut pins)?;
-        if pins.len() > 1 {
+        if pins.len() > few {
             flat.push_net(h.net_weight(e), pins.as_slice())?;
         }
     }
     Hypergraph::build(alloc, flat)
+}
+
+/// The nets of a hypergraph that are no edges.
+fn large(alloc: Global, h: &Hypergraph) -> Result<Hypergraph, NoMemory>
+    ensures { IfOk result (λ large. vertex_count large ≡ vertex_count h.now) }
+{
+    let vertices = h.vertices();
+    let mut numbers = Labels::start(alloc, vertices, vertices + 1, 0)?;
+    for v in 0..vertices {
+        numbers.set(v, v);
+    }
+    inner(alloc, h, &numbers, vertices, MOST_SMALL)
 }
 
 /// A part that is to be bisected, with the nets inside it.
@@ -131,7 +149,7 @@ impl Division {
         requires all { frame.now.all ≡ self.old.blocks }
         ensures { self.new ≡ self.old }
     {
-        let sides = frame.bisect(alloc, h, self.limit, draws)?;
+        let sides = bisected(alloc, h, frame, self.limit, draws)?;
         self.add_side(alloc, h, frame, &sides, 0)?;
         self.add_side(alloc, h, frame, &sides, 1)
     }
@@ -158,7 +176,7 @@ impl Division {
         let count = frame.number(sides, side, &mut numbers);
         let half = frame.side(alloc, &numbers, count, side)?;
         if half.is_divisible() {
-            let h = inner(alloc, h, &numbers, count)?;
+            let h = inner(alloc, h, &numbers, count, 1)?;
             self.add(Part { h, frame: half })
         } else {
             half.settle(&mut self.labels);
@@ -207,16 +225,92 @@ impl Division {
         self.divide(alloc, &part.h, &part.frame, draws)?;
         Ok(true)
     }
+
+    /// Bisects the parts until each of them is a block. Each bisection draws from another stream.
+    fn finish(mut self, alloc: Global, seed: u64, stream: u64) -> Result<Labels, NoMemory>
+        ensures { IfOk result (λ labels. labels ≡ record { count = self.vertices; bound = self.blocks }) }
+    {
+        for number in 0..self.blocks {
+            let draws = Draws::start(seed, stream.wrapping_add(u64::from(number)));
+            if !self.divide_next(alloc, draws)? {
+                break;
+            }
+        }
+        Ok(self.into_labels())
+    }
 }
 
-/// Parts the vertices of a hypergraph into blocks within a limit by bisections.
-pub(crate) fn divided(
+/// The sides of a part that is bisected.
+fn bisected(
+    alloc: Global,
+    h: &Hypergraph,
+    frame: &Frame,
+    limit: u64,
+    draws: Draws,
+) -> Result<Labels, NoMemory>
+    requires part { frame.now.vertices ≡ vertex_count h.now }
+    requires vertices { 0 < frame.now.vertices }
+    ensures { IfOk result (λ sides. sides ≡ record { count = frame.now.vertices; bound = 2 }) }
+{
+    let edges = Edges::of(alloc, h)?;
+    let large = large(alloc, h)?;
+    frame.bisect(alloc, &large, &edges, limit, draws)
+}
+
+/// Finishes two divisions, by two threads where it is said.
+fn finish_both<R: Threads + Sync>(
+    rt: &R,
+    alloc: Global,
+    low: Division,
+    high: Division,
+    seed: u64,
+    stream: u64,
+    by_two: bool,
+) -> Result<(Labels, Labels), NoMemory>
+    ensures low { IfOk result (λ both. both.0 ≡ record { count = low.vertices; bound = low.blocks }) }
+    ensures high { IfOk result (λ both. both.1 ≡ record { count = high.vertices; bound = high.blocks }) }
+{
+    let above = stream.wrapping_add(MOST_BLOCKS);
+    if !by_two {
+        let first = low.finish(alloc, seed, stream)?;
+        return Ok((first, high.finish(alloc, seed, above)?));
+    }
+    let (first, second) = thread::join(
+        rt,
+        move || -> Result<Labels, NoMemory>
+            ensures { IfOk result (λ labels. labels ≡ record { count = low.vertices; bound = low.blocks }) }
+        { low.finish(alloc, seed, stream) },
+        move || -> Result<Labels, NoMemory>
+            ensures { IfOk result (λ labels. labels ≡ record { count = high.vertices; bound = high.blocks }) }
+        { high.finish(alloc, seed, above) },
+    );
+    Ok((first?, second?))
+}
+
+/// Takes over the labels of the vertices of side 1.
+fn take_high(vertices: u32, sides: &Labels, others: &Labels, labels: &mut Labels)
+    requires sides { sides.now.count ≡ vertices }
+    requires others { others.now ≡ labels.old }
+    requires labels { labels.old.count ≡ vertices }
+    ensures { labels.new ≡ labels.old }
+{
+    for v in 0..vertices {
+        if sides.get(v) == 1 {
+            labels.set(v, others.get(v));
+        }
+    }
+}
+
+/// Parts the vertices of a hypergraph into blocks within a limit by bisections, by two threads where it is said.
+pub(crate) fn divided<R: Threads + Sync>(
+    rt: &R,
     alloc: Global,
     h: &Hypergraph,
     frame: &Frame,
     limit: u64,
     seed: u64,
     stream: u64,
+    by_two: bool,
 ) -> Result<Labels, NoMemory>
     requires part { frame.now.vertices ≡ vertex_count h.now }
     requires whole { frame.now.whole ≡ vertex_count h.now }
@@ -226,13 +320,20 @@ pub(crate) fn divided(
     ensures { IfOk result (λ labels. labels ≡ record { count = vertex_count h.now; bound = frame.now.blocks }) }
 {
     let blocks = frame.blocks();
-    let mut division = Division::start(alloc, h.vertices(), blocks, limit)?;
-    division.divide(alloc, h, frame, Draws::start(seed, stream))?;
-    for number in 1..blocks {
-        let draws = Draws::start(seed, stream.wrapping_add(u64::from(number)));
-        if !division.divide_next(alloc, draws)? {
-            break;
-        }
-    }
-    Ok(division.into_labels())
+    let mut low = Division::start(alloc, h.vertices(), blocks, limit)?;
+    let mut high = Division::start(alloc, h.vertices(), blocks, limit)?;
+    let sides = bisected(alloc, h, frame, limit, Draws::start(seed, stream))?;
+    low.add_side(alloc, h, frame, &sides, 0)?;
+    high.add_side(alloc, h, frame, &sides, 1)?;
+    let (mut labels, others) = finish_both(
+        rt,
+        alloc,
+        low,
+        high,
+        seed,
+        stream.wrapping_add(1),
+        by_two,
+    )?;
+    take_high(h.vertices(), &sides, &others, &mut labels);
+    Ok(labels)
 }

@@ -6,6 +6,8 @@ ghost use Rattle.initial_place.specs.Shapes.{Range, Part};
 
 use crate::search::cells::{Cells, Labels};
 use crate::search::draws::Draws;
+use crate::search::edges::Edges;
+use crate::search::halving::Halving;
 use crate::search::moves::Search;
 use hg_base::{FREE, NoMemory};
 use incidence::Hypergraph;
@@ -214,14 +216,16 @@ impl Frame {
     }
 
     /// A candidate of two sides.
-    fn search(
+    fn halving(
         &self,
         alloc: Global,
         h: &Hypergraph,
+        edges: &Edges,
         limits: (u64, u64),
         draws: Draws,
-    ) -> Result<Search, NoMemory>
+    ) -> Result<Halving, NoMemory>
         requires part { self.now.vertices ≡ vertex_count h.now }
+        requires edges { edges.now.bound ≡ vertex_count h.now }
         requires vertices { 0 < self.now.vertices }
         ensures { IfOk result (λ search. search ≡ record {
           vertices = self.now.vertices;
@@ -232,7 +236,7 @@ impl Frame {
         let weights = self.copied_weights(alloc)?;
         let fixed = self.fixed(alloc)?;
         let limits = Cells::of(vec![in alloc; limits.0, limits.1]?);
-        Search::start(alloc, h, weights, fixed, 2, limits, draws)
+        Halving::start(alloc, h, edges, weights, fixed, limits, draws)
     }
 
     /// A candidate of all blocks, each with the same limit.
@@ -269,15 +273,17 @@ impl Frame {
         Ok(labels)
     }
 
-    /// Bisects the part, by the best of some tries.
+    /// Bisects the part, of which the small nets are edges, by the best of some tries.
     pub(crate) fn bisect(
         &self,
         alloc: Global,
         h: &Hypergraph,
+        edges: &Edges,
         limit: u64,
         draws: Draws,
     ) -> Result<Labels, NoMemory>
         requires part { self.now.vertices ≡ vertex_count h.now }
+        requires edges { edges.now.bound ≡ vertex_count h.now }
         requires vertices { 0 < self.now.vertices }
         ensures { IfOk result (λ sides. sides ≡ record { count = self.now.vertices; bound = 2 }) }
     {
@@ -285,12 +291,12 @@ impl Frame {
         let limits = self.limits(total, limit);
         let start = self.first_sides(alloc)?;
         let mut best = self.first_sides(alloc)?;
-        let mut search = self.search(alloc, h, limits, draws)?;
+        let mut search = self.halving(alloc, h, edges, limits, draws)?;
         let mut least = (u64::MAX, i64::MAX);
         for attempt in 0..TRIES {
             let word = search.word();
             let target = self.target(attempt, total, limits, word);
-            search.try_side(h, &start, target, limits.0)?;
+            search.attempt(h, edges, &start, target, limits.0)?;
             let rank = search.rank();
             if rank < least {
                 least = rank;

@@ -34,7 +34,7 @@ impl Search {
         ensures vertex { result < self.old.vertices }
     {
         let vertices = self.vertices();
-        self.draws.below(vertices)
+        self.agenda.below(vertices)
     }
 
     /// The first vertex from `low` up to `high` that is in a block and isn't locked.
@@ -57,7 +57,7 @@ impl Search {
         ensures { self.new ≡ self.old }
     {
         let gain = self.tables.gain(v, block);
-        self.queue.push(Offer {
+        self.agenda.push(Offer {
             gain,
             tie,
             vertex: v,
@@ -123,7 +123,7 @@ impl Search {
                 break;
             };
             if !self.is_locked(v) && self.tables.block(v) == from {
-                let tie = i64::from(self.draws.word());
+                let tie = i64::from(self.agenda.word());
                 self.offer_to(v, block, tie)?;
             }
         }
@@ -182,33 +182,6 @@ impl Search {
         self.next_grown(block, from, target, most)
     }
 
-    /// Any number.
-    pub(crate) fn word(&mut self) -> u32
-        ensures { self.new ≡ self.old }
-    {
-        self.draws.word()
-    }
-
-    /// Grows block 0 out of block 1 to a load, from these blocks of the vertices on, and improves that.
-    pub(crate) fn try_side(
-        &mut self,
-        h: &Hypergraph,
-        labels: &Labels,
-        target: u64,
-        most: u64,
-    ) -> Result<(), NoMemory>
-        requires suits { IsShapeOf h.now self.old }
-        requires vertices { 0 < self.old.vertices }
-        requires blocks { 0 < self.old.blocks }
-        requires labels { labels.now ≡ record { count = self.old.vertices; bound = self.old.blocks } }
-        ensures { self.new ≡ self.old }
-    {
-        self.reset(h, labels);
-        self.grow(h, 0, 1, target, most)?;
-        self.repair(h)?;
-        self.improve(h)
-    }
-
     /// Grows all blocks but the last one out of it, each to its share of what is left.
     pub(crate) fn grow_all(&mut self, h: &Hypergraph, most: u64) -> Result<(), NoMemory>
         requires suits { IsShapeOf h.now self.old }
@@ -257,7 +230,7 @@ impl Search {
         ensures { self.new ≡ self.old }
     {
         self.lock(v);
-        self.order.set(place, v);
+        self.agenda.write_down(place, v);
     }
 
     /// Writes down a ball of vertices round a drawn one, and answers how many there are.
@@ -276,7 +249,7 @@ impl Search {
             if place >= count || count >= most {
                 break;
             }
-            for e in h.nets_of(self.order.get(place)) {
+            for e in h.nets_of(self.agenda.written(place)) {
                 count = self.add_pins(h, *e, count, most);
             }
         }
@@ -290,11 +263,11 @@ impl Search {
         requires blocks { 0 < self.old.blocks }
         ensures { self.new ≡ self.old }
     {
-        let share = self.draws.below(30) + 10;
+        let share = self.agenda.below(30) + 10;
         let most = (self.vertices() / share).max(2).min(self.vertices());
         let count = self.ball(h, most);
         let blocks = self.blocks();
-        let block = self.draws.below(blocks);
+        let block = self.agenda.below(blocks);
         self.begin();
         for place in 0..count {
             self.throw(h, place, block);
@@ -308,8 +281,8 @@ impl Search {
         requires block { block < self.old.blocks }
         ensures { self.new ≡ self.old }
     {
-        let v = self.order.get(place);
-        if !self.locked.get(v)
+        let v = self.agenda.written(place);
+        if !self.is_locked(v)
             && self
                 .tables
                 .has_room(block, self.tables.weight(v), self.heaviest())

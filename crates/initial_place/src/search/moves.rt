@@ -4,10 +4,11 @@ ghost use Rattle.std.specs.Prelude.{◌≡◌, ◌≢◌, ℕ, ◌+◌, ◌<◌,
 ghost use Rattle.hg_defs.specs.Hypergraph.{vertex_count, net_count};
 ghost use Rattle.initial_place.specs.Shapes.{Range, Shape, IsShapeOf, IsMoveWithin};
 
+use crate::search::agenda::Agenda;
 use crate::search::cells::{Cells, Labels};
 use crate::search::draws::Draws;
 use crate::search::tables::Tables;
-use gain_heap::{GainHeap, Offer};
+use gain_heap::Offer;
 use hg_base::NoMemory;
 use incidence::Hypergraph;
 use std::alloc::Global;
@@ -20,27 +21,23 @@ const PATIENCE: u32 = 20;
 const OVERFULL_PATIENCE: u32 = 200;
 
 /// How many times two passes are made at most.
-const ROUNDS: u32 = 10;
+pub(crate) const ROUNDS: u32 = 10;
 
 /// How many offers are looked at for a move at most.
-const MOST_OFFERS: u32 = 1 << 24;
+pub(crate) const MOST_OFFERS: u32 = 1 << 24;
 
 /// A candidate: its tables, and the room to make moves and to undo them.
 #[derive(Drop)]
 pub(crate) struct Search {
     pub(crate) tables: Tables,
-    pub(crate) queue: GainHeap,
-    pub(crate) locked: Cells<bool>,
-    fixed: Cells<bool>,
-    pub(crate) order: Labels,
+    pub(crate) agenda: Agenda,
     origins: Labels,
-    pub(crate) draws: Draws,
     heaviest: u64,
 }
 
 /// How many moves are made without a better partition until a pass ends, of which the best so far passes the
 /// limits by this much: more while it does.
-fn patience(overload: u64) -> u32 {
+pub(crate) fn patience(overload: u64) -> u32 {
     if overload > 0 {
         OVERFULL_PATIENCE
     } else {
@@ -57,10 +54,7 @@ impl Model for Search {
     ghost view = { λ s. s.tables };
 
     ghost invariant = { λ s.
-        (s.queue.vertices ≡ s.tables.vertices)
-        × (s.locked ≡ s.tables.vertices)
-        × (s.fixed ≡ s.tables.vertices)
-        × (s.order ≡ record { count = s.tables.vertices; bound = s.tables.vertices })
+        (s.agenda ≡ s.tables.vertices)
         × (s.origins ≡ record { count = s.tables.vertices; bound = s.tables.blocks }) };
 }
 
@@ -90,12 +84,8 @@ impl Search {
         let tables = Tables::start(alloc, h, blocks, weights, limits)?;
         let mut search = Search {
             tables,
-            queue: GainHeap::start(alloc, vertices),
-            locked: Cells::of(vec![in alloc; false; vertices as usize]?),
-            fixed,
-            order: Labels::start(alloc, vertices, vertices, 0)?,
+            agenda: Agenda::start(alloc, vertices, fixed, draws)?,
             origins: Labels::start(alloc, vertices, blocks, 0)?,
-            draws,
             heaviest: 0,
         };
         search.weigh();
@@ -136,26 +126,15 @@ impl Search {
     pub(crate) fn begin(&mut self)
         ensures { self.new ≡ self.old }
     {
-        self.queue.clear();
+        self.agenda.begin();
         self.tables.forget();
-        for v in 0..self.vertices() {
-            self.unlock(v);
-        }
-    }
-
-    /// Locks a vertex where it is fixed, and else unlocks it.
-    fn unlock(&mut self, v: u32)
-        requires { v < self.old.vertices }
-        ensures { self.new ≡ self.old }
-    {
-        self.locked.set(v, self.fixed.get(v));
     }
 
     /// Whether a vertex is locked.
     pub(crate) fn is_locked(&self, v: u32) -> bool
         requires { v < self.now.vertices }
     {
-        self.locked.get(v)
+        self.agenda.is_locked(v)
     }
 
     /// Locks a vertex.
@@ -163,7 +142,7 @@ impl Search {
         requires { v < self.old.vertices }
         ensures { self.new ≡ self.old }
     {
-        self.locked.set(v, true);
+        self.agenda.lock(v);
     }
 
     /// Takes the highest offer from the queue.
@@ -171,7 +150,7 @@ impl Search {
         ensures same { self.new ≡ self.old }
         ensures vertex { IfSome result (λ offer. offer.vertex < self.old.vertices) }
     {
-        self.queue.pop()
+        self.agenda.pop()
     }
 
     /// Puts the best move of a vertex into the queue.
@@ -180,12 +159,7 @@ impl Search {
         ensures { self.new ≡ self.old }
     {
         if let Some((gain, _to)) = self.tables.best_move(v, slack) {
-            let tie = i64::from(self.draws.word());
-            self.queue.push(Offer {
-                gain,
-                tie,
-                vertex: v,
-            })?;
+            self.agenda.offer(v, gain)?;
         }
         Ok(())
     }
@@ -231,11 +205,11 @@ impl Search {
         ensures within { IfOk result (λ next. IfSome next (IsMoveWithin self.old)) }
     {
         for _ in 0..MOST_OFFERS {
-            let Some(offer) = self.queue.pop() else {
+            let Some(offer) = self.agenda.pop() else {
                 return Ok(None);
             };
             let v = offer.vertex;
-            if self.locked.get(v) {
+            if self.agenda.is_locked(v) {
                 continue;
             }
             let Some((now, to)) = self.tables.best_move(v, slack) else {
@@ -244,7 +218,7 @@ impl Search {
             if now >= offer.gain {
                 return Ok(Some((v, to)));
             }
-            self.queue.push(Offer { gain: now, ..offer })?;
+            self.agenda.push(Offer { gain: now, ..offer })?;
         }
         Ok(None)
     }
@@ -257,8 +231,8 @@ impl Search {
         requires block { to < self.old.blocks }
         ensures { self.new ≡ self.old }
     {
-        self.locked.set(v, true);
-        self.order.set(place, v);
+        self.agenda.lock(v);
+        self.agenda.write_down(place, v);
         self.origins.set(v, self.tables.block(v));
         self.tables.shift(h, v, to);
     }
@@ -280,7 +254,7 @@ impl Search {
         requires place { place < self.old.vertices }
         ensures { self.new ≡ self.old }
     {
-        let v = self.order.get(place);
+        let v = self.agenda.written(place);
         self.tables.shift(h, v, self.origins.get(v));
     }
 
@@ -339,9 +313,9 @@ impl Search {
         requires { v < self.old.vertices }
         ensures { self.new ≡ self.old }
     {
-        if !self.locked.get(v) {
+        if !self.agenda.is_locked(v) {
             if let Some((rate, _to)) = self.tables.relief(v) {
-                self.queue.push(Offer {
+                self.agenda.push(Offer {
                     gain: rate,
                     tie: i64::from(v),
                     vertex: v,
@@ -357,7 +331,7 @@ impl Search {
         ensures within { IfOk result (λ next. IfSome next (IsMoveWithin self.old)) }
     {
         for _ in 0..MOST_OFFERS {
-            let Some(offer) = self.queue.pop() else {
+            let Some(offer) = self.agenda.pop() else {
                 return Ok(None);
             };
             let v = offer.vertex;
@@ -367,7 +341,7 @@ impl Search {
             if now >= offer.gain {
                 return Ok(Some((v, to)));
             }
-            self.queue.push(Offer { gain: now, ..offer })?;
+            self.agenda.push(Offer { gain: now, ..offer })?;
         }
         Ok(None)
     }

@@ -6,23 +6,24 @@ ghost use Rattle.initial_place.specs.Shapes.{Size, Range, Shape, IsShapeOf};
 
 use crate::search::cells::{Cells, Grid, Labels};
 use crate::search::listed::Listed;
+use crate::search::tally::Tally;
 use hg_base::NoMemory;
 use incidence::Hypergraph;
 use std::alloc::Global;
 use std::marker::Model;
 
 /// The most that a vertex is said to take from an overfull block.
-const MOST_HELP: u64 = 1 << 40;
+pub(crate) const MOST_HELP: u64 = 1 << 40;
 
 /// How many cells a table of so many rows and columns has.
-fn cell_count(rows: u32, columns: u32) -> usize
+pub(crate) fn cell_count(rows: u32, columns: u32) -> usize
     ensures { result ≡ rows * columns }
 {
     rows as usize * columns as usize
 }
 
 /// A gain for what it helps: a loss counts less where more is helped, a gain more.
-fn rate_of(gain: i64, helps: i64) -> i64
+pub(crate) fn rate_of(gain: i64, helps: i64) -> i64
     requires { pos 0 <ℤ helps }
 {
     if gain > 0 {
@@ -45,11 +46,12 @@ pub(crate) struct Tables {
     weights: Cells<u64>,
     loads: Cells<u64>,
     limits: Cells<u64>,
-    counts: Grid<u32>,
+    tallies: Grid<Tally>,
     pulls: Grid<i64>,
     alone: Cells<i64>,
     whole: Cells<i64>,
     touched: Listed,
+    overload: u64,
     cost: i64,
 }
 
@@ -66,7 +68,7 @@ impl Model for Tables {
         × (s.weights ≡ s.vertices)
         × (s.loads ≡ s.blocks)
         × (s.limits ≡ s.blocks)
-        × (s.counts ≡ record { rows = s.nets; columns = s.blocks })
+        × (s.tallies ≡ record { rows = s.nets; columns = s.blocks })
         × (s.pulls ≡ record { rows = s.vertices; columns = s.blocks })
         × (s.alone ≡ s.vertices)
         × (s.whole ≡ s.vertices)
@@ -101,8 +103,8 @@ impl Tables {
             weights,
             loads: Cells::of(vec![in alloc; 0u64; blocks as usize]?),
             limits,
-            counts: Grid::of(
-                vec![in alloc; 0u32; cell_count(nets, blocks)]?,
+            tallies: Grid::of(
+                vec![in alloc; Tally::none(); cell_count(nets, blocks)]?,
                 nets,
                 blocks,
             ),
@@ -114,6 +116,7 @@ impl Tables {
             alone: Cells::of(vec![in alloc; 0i64; vertices as usize]?),
             whole: Cells::of(vec![in alloc; 0i64; vertices as usize]?),
             touched: Listed::start(alloc, vertices)?,
+            overload: 0,
             cost: 0,
         };
         for e in 0..nets {
@@ -153,6 +156,7 @@ impl Tables {
         for v in 0..h.vertices() {
             self.seat(v, labels.get(v));
         }
+        self.weigh_loads();
         for e in 0..h.nets() {
             self.count_net(h, e);
         }
@@ -164,7 +168,7 @@ impl Tables {
         ensures { self.new ≡ self.old }
     {
         self.loads.fill(0);
-        self.counts.fill(0);
+        self.tallies.fill(Tally::none());
         self.pulls.fill(0);
         self.alone.fill(0);
         self.cost = 0;
@@ -207,9 +211,9 @@ impl Tables {
         ensures { self.new ≡ self.old }
     {
         let block = self.labels.get(u);
-        let count = self.counts.get(e, block).wrapping_add(1);
-        self.counts.set(e, block, count);
-        if count == 1 {
+        let before = self.tallies.get(e, block);
+        self.tallies.set(e, block, before.with(u));
+        if before.pins == 0 {
             self.cost = self.cost.wrapping_add(weight);
             self.pull_pins(h, e, block, weight);
         }
@@ -221,7 +225,7 @@ impl Tables {
         requires vertex { u < self.old.vertices }
         ensures { self.new ≡ self.old }
     {
-        if self.counts.get(e, self.labels.get(u)) == 1 {
+        if self.tallies.get(e, self.labels.get(u)).pins == 1 {
             self.leave_alone(u, weight);
         }
     }
@@ -287,11 +291,44 @@ impl Tables {
 
     /// By how much the blocks pass their limits, all together.
     pub(crate) fn overload(&self) -> u64 {
+        self.overload
+    }
+
+    /// By how much a block passes its limit.
+    fn excess(&self, b: u32) -> u64
+        requires { b < self.now.blocks }
+    {
+        self.loads.get(b).saturating_sub(self.limits.get(b))
+    }
+
+    /// The sum of what the blocks pass their limits by.
+    fn sum_of_excess(&self) -> u64 {
         let mut sum: u64 = 0;
         for b in 0..self.blocks {
-            sum = sum.saturating_add(self.loads.get(b).saturating_sub(self.limits.get(b)));
+            sum = sum.wrapping_add(self.excess(b));
         }
         sum
+    }
+
+    /// Sums up by how much the blocks pass their limits.
+    fn weigh_loads(&mut self)
+        ensures { self.new ≡ self.old }
+    {
+        let sum = self.sum_of_excess();
+        self.overload = sum;
+    }
+
+    /// Replaces the load of a block.
+    fn reload(&mut self, b: u32, load: u64)
+        requires { b < self.old.blocks }
+        ensures { self.new ≡ self.old }
+    {
+        let before = self.excess(b);
+        self.loads.set(b, load);
+        self.overload = self
+            .overload
+            .wrapping_sub(before)
+            .wrapping_add(self.excess(b));
     }
 
     /// Whether a vertex has a net with a pin in another block, or its block is overfull.
@@ -315,7 +352,7 @@ impl Tables {
     {
         let from = self.labels.get(v);
         let weight = self.weights.get(v);
-        let over = self.loads.get(from).saturating_sub(self.limits.get(from));
+        let over = self.excess(from);
         let helps = over.min(weight).min(MOST_HELP) as i64;
         if helps == 0 {
             return None;
@@ -337,6 +374,7 @@ impl Tables {
         }
         Some((highest, best))
     }
+
     /// The block of a vertex.
     pub(crate) fn block(&self, v: u32) -> u32
         requires { v < self.now.vertices }
@@ -374,12 +412,12 @@ impl Tables {
         let mut best = from;
         let mut strongest = i64::MIN;
         for b in 0..self.blocks {
-            if b == from || !self.has_room(b, weight, slack) {
+            let pull = self.pulls.get(v, b);
+            if pull < strongest || b == from || !self.has_room(b, weight, slack) {
                 continue;
             }
-            let pull = self.pulls.get(v, b);
             let lighter = self.loads.get(b) < self.loads.get(best);
-            if best == from || pull > strongest || pull == strongest && lighter {
+            if best == from || pull > strongest || lighter {
                 best = b;
                 strongest = pull;
             }
@@ -423,17 +461,13 @@ impl Tables {
         self.touched.add(u);
     }
 
-    /// Tells the pin of a block beside `v`, if there is one, that it is alone there, or no longer.
-    fn tell_other_pin(&mut self, h: &Hypergraph, e: u32, v: u32, block: u32, weight: i64)
-        requires suits { IsShapeOf h.now self.old }
-        requires net { e < self.old.nets }
+    /// Tells the pin of a block, where there is one alone, that it is so, or no longer.
+    fn tell_only(&mut self, tally: Tally, weight: i64)
         ensures { self.new ≡ self.old }
     {
-        for u in h.pins(e) {
-            if *u != v && self.labels.get(*u) == block {
-                self.leave_alone(*u, weight);
-                return;
-            }
+        let u = tally.only();
+        if tally.pins == 1 && u < self.vertices {
+            self.leave_alone(u, weight);
         }
     }
 
@@ -444,14 +478,13 @@ impl Tables {
         requires block { block < self.old.blocks }
         ensures { self.new ≡ self.old }
     {
-        let count = self.counts.get(e, block).wrapping_add(1);
-        self.counts.set(e, block, count);
-        if count == 1 {
+        let before = self.tallies.get(e, block);
+        self.tallies.set(e, block, before.with(v));
+        if before.pins == 0 {
             self.pull_pins(h, e, block, weight);
-        } else if count == 2 {
-            self.tell_other_pin(h, e, v, block, weight.wrapping_neg());
         }
-        count == 1
+        self.tell_only(before, weight.wrapping_neg());
+        before.pins == 0
     }
 
     /// Counts a pin less in a block.
@@ -461,13 +494,12 @@ impl Tables {
         requires block { block < self.old.blocks }
         ensures { self.new ≡ self.old }
     {
-        let count = self.counts.get(e, block).wrapping_sub(1);
-        self.counts.set(e, block, count);
-        if count == 0 {
+        let after = self.tallies.get(e, block).without(v);
+        self.tallies.set(e, block, after);
+        if after.pins == 0 {
             self.pull_pins(h, e, block, weight.wrapping_neg());
-        } else if count == 1 {
-            self.tell_other_pin(h, e, v, block, weight);
         }
+        self.tell_only(after, weight);
     }
 
     /// Labels a vertex anew, and moves its weight.
@@ -480,9 +512,10 @@ impl Tables {
         let weight = self.weights.get(v);
         self.cost = self.cost.wrapping_sub(self.gain(v, to));
         self.labels.set(v, to);
-        self.loads
-            .set(from, self.loads.get(from).wrapping_sub(weight));
-        self.loads.set(to, self.loads.get(to).wrapping_add(weight));
+        let left = self.loads.get(from).wrapping_sub(weight);
+        self.reload(from, left);
+        let entered = self.loads.get(to).wrapping_add(weight);
+        self.reload(to, entered);
     }
 
     /// Moves a vertex to a block.

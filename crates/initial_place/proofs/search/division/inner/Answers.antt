@@ -3,7 +3,7 @@ use Rattle.std.proofs.Common.{ℕ, ◌+◌, ◌<◌, List, length, ap, arith, su
 use Rattle.hg_defs.specs.Hypergraph.{Hyper, net_count}
 use Rattle.initial_place.proofs.InnerLaws.{IsInner, HasRoom, inner_kept, inner_grown, inner_room}
 use Rattle.initial_place.proofs.search.division.inner.Goals as goal
-use Rattle.initial_place.proofs.search.division.inner.Goals.{then-len-gt1+in_ok-push_net, else-len-gt1}
+use Rattle.initial_place.proofs.search.division.inner.Goals.{then-len-few+in_ok-push_net, else-len-few}
 
 -- the facts before the net is added
 room :
@@ -29,15 +29,15 @@ pub loop-e-preserved : goal.loop-e-preserved
 loop-e-preserved c =
     let h = c.args.h.now in
     let here : c.loop-e.e < net_count h = omega (arith, c.loop-e-test.true, c.nets-e-end.ensures.count) in
-    elim c.if-len-gt1.branch [
-      | then-len-gt1+in_ok-push_net w ↦
+    elim c.if-len-few.branch [
+      | then-len-few+in_ok-push_net w ↦
           (let few = c.in_ok-number_pins.ensures.few in
           let same = ap (λ (xs : List ℕ). length xs) w.as_slice.ensures.value in
           subst (λ (g : Hyper). IsInner h g (c.loop-e.e + 1) c.args.count) (sym w.flat-is)
           (inner_grown h c.loop-e.flat c.loop-e.e c.args.count here c.loop-e.invariant w.push_net.new.self w.net_weight.result
           (length w.as_slice.result.now)
           w.in_ok-push_net.ensures.sizes w.net_weight.ensures.value (omega arith)))
-      | else-len-gt1 w ↦
+      | else-len-few w ↦
           subst (λ (g : Hyper). IsInner h g (c.loop-e.e + 1) c.args.count) (sym w.flat-is)
           (inner_kept h c.loop-e.flat c.loop-e.e c.args.count here c.loop-e.invariant)
     ]
