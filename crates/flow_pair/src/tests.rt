@@ -28,13 +28,20 @@ fn row_of_four(alloc: Global) -> Result<Hypergraph, NoMemory> {
     Hypergraph::build(alloc, flat)
 }
 
-/// Five vertices in a row, with nets of these weights between neighbours.
-fn row_of_five(alloc: Global, weights: [u64; 4]) -> Result<Hypergraph, NoMemory> {
+/// Five vertices in a row, with nets of weights 1, 5, 1, 5 between neighbours, or of 5, 1, 5, 1.
+fn row_of_five(alloc: Global, turned: bool) -> Result<Hypergraph, NoMemory> {
     let mut flat = FlatHyper::start(alloc, 5)?;
-    flat.push_net(weights[0], &[0, 1])?;
-    flat.push_net(weights[1], &[1, 2])?;
-    flat.push_net(weights[2], &[2, 3])?;
-    flat.push_net(weights[3], &[3, 4])?;
+    if turned {
+        flat.push_net(5, &[0, 1])?;
+        flat.push_net(1, &[1, 2])?;
+        flat.push_net(5, &[2, 3])?;
+        flat.push_net(1, &[3, 4])?;
+    } else {
+        flat.push_net(1, &[0, 1])?;
+        flat.push_net(5, &[1, 2])?;
+        flat.push_net(1, &[2, 3])?;
+        flat.push_net(5, &[3, 4])?;
+    }
     Hypergraph::build(alloc, flat)
 }
 
@@ -223,7 +230,7 @@ fn balanced_sides(rt: HostRuntime) -> Result<(), Fail> {
         costs: (5, 1),
         tally: (1, 4),
     };
-    compare(&rt, alloc, &row_of_five(alloc, [1, 5, 1, 5])?, &far)?;
+    compare(&rt, alloc, &row_of_five(alloc, false)?, &far)?;
     let near = Row {
         k: 2,
         limit: 4,
@@ -235,7 +242,7 @@ fn balanced_sides(rt: HostRuntime) -> Result<(), Fail> {
         costs: (5, 1),
         tally: (1, 4),
     };
-    compare(&rt, alloc, &row_of_five(alloc, [5, 1, 5, 1])?, &near)
+    compare(&rt, alloc, &row_of_five(alloc, true)?, &near)
 }
 
 #[test]
