@@ -9,5 +9,5 @@ mod tests;
 mod work;
 
 pub use gate::{Gate, OpenGate};
-pub use start::each;
+pub use start::{each, each_chunk};
 pub use work::{Span, span_of};

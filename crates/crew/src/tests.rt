@@ -1,4 +1,4 @@
-use crate::{Gate, OpenGate, Span, each, span_of};
+use crate::{Gate, OpenGate, Span, each, each_chunk, span_of};
 use std::test::Fail;
 
 #[test]
@@ -26,5 +26,17 @@ fn jobs(rt: HostRuntime) -> Result<(), Fail> {
     assert_eq!(rt; items.as_slice(), [50, 61, 72].as_slice());
     let mut nothing: [u64; 0] = [];
     each(&rt, &mut nothing, &|_, item: &mut u64| *item = 1);
+    let mut items = vec![in rt.alloc(); 0usize; 7]?;
+    each_chunk(
+        &rt,
+        items.as_mut_slice(),
+        3,
+        &|place, run: &mut [usize]| {
+            for item in run.iter_mut() {
+                *item = place.wrapping_add(1);
+            }
+        },
+    );
+    assert_eq!(rt; items.as_slice(), [1, 1, 1, 4, 4, 4, 7].as_slice());
     Ok(())
 }
