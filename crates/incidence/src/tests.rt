@@ -32,6 +32,18 @@ fn nets_of_vertices(rt: HostRuntime) -> Result<(), Fail> {
 }
 
 #[test]
+fn index_by_threads(rt: HostRuntime) -> Result<(), Fail> {
+    let mut flat = FlatHyper::start(rt.alloc(), 3)?;
+    flat.push_net(1, &[2, 0])?;
+    flat.push_net(1, &[1, 2])?;
+    let h = Hypergraph::build_with(&rt, rt.alloc(), flat, 4)?;
+    assert_eq!(rt; h.nets_of(0), [0].as_slice());
+    assert_eq!(rt; h.nets_of(1), [1].as_slice());
+    assert_eq!(rt; h.nets_of(2), [0, 1].as_slice());
+    Ok(())
+}
+
+#[test]
 fn readers(rt: HostRuntime) -> Result<(), Fail> {
     let h = four_nets(rt.alloc())?;
     assert_eq!(rt; (h.vertices(), h.nets(), h.total_weight()), (7, 4, 7));
