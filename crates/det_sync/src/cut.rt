@@ -6,11 +6,12 @@ ghost use Rattle.hg_defs.specs.Hypergraph.{vertex_count, net_count};
 ghost use Rattle.det_sync.specs.CutNets as cuts;
 ghost use Rattle.det_sync.specs.CutNets.{is_cut, AreCutFrom, AreCutMarks};
 
+use crew::each_chunk;
 use hg_base::NoMemory;
 use incidence::Hypergraph;
 use pin_plain::Partition;
 use std::alloc::{AllocError, Global};
-use std::thread::{Threads, for_each_chunk_mut};
+use std::thread::Threads;
 
 /// A thread looks at so many nets at least: to start it costs as much.
 const LEAST_NETS: u32 = 8192;
@@ -58,7 +59,7 @@ pub(crate) fn cut_marks<R: Threads + Sync>(
 {
     let mut marks = vec![in alloc; false; h.nets() as usize]?;
     let share = h.nets().div_ceil(workers).max(LEAST_NETS) as usize;
-    for_each_chunk_mut(
+    each_chunk(
         rt,
         marks.as_mut_slice(),
         share,

@@ -12,7 +12,7 @@ use round_log::Trace;
 
 /// The blocks of a level of so few vertices stand in a table, so that the clusterings above it are gone
 /// through for each of its vertices, and not for each pin of the file.
-const MOST_VERTICES: usize = 1 << 16;
+const MOST_VERTICES: usize = 1 << 18;
 
 /// The cost of the first partition on its level. It is that on the file of the partition carried down, and
 /// so it is found with no level built.
@@ -37,7 +37,7 @@ pub(crate) fn first_cost(h: &FlatHyper, trace: &Trace) -> u64
 fn small_level(trace: &Trace) -> u32
     requires { trace.now.start ≤ length trace.now.maps }
     ensures within { result ≤ trace.now.start }
-    ensures few { result < trace.now.start → length (map_of trace.now.maps result) ≤ 2 ^ 16 }
+    ensures few { result < trace.now.start → length (map_of trace.now.maps result) ≤ 2 ^ 18 }
 {
     for level in 0..trace.start {
         if trace.maps.slice()[level as usize].slice().len() <= MOST_VERTICES {
@@ -49,9 +49,9 @@ fn small_level(trace: &Trace) -> u32
 
 /// Writes the blocks of so many vertices below some clusterings into a table.
 fn write_blocks(maps: &[MapList], blocks: &[u32], vertices: usize, table: &mut [u32; MOST_VERTICES])
-    requires few { vertices ≤ 2 ^ 16 }
+    requires few { vertices ≤ 2 ^ 18 }
     requires leads { (v : ℕ) → v < vertices → LeadsInto maps.now blocks.now v }
-    ensures count { length table.new ≡ 2 ^ 16 }
+    ensures count { length table.new ≡ 2 ^ 18 }
     ensures blocks { (v : ℕ) → v < vertices → slice_index table.new v ≡ slice_index blocks.now (carried maps.now v) }
 {
     for v in 0..vertices {

@@ -6,10 +6,11 @@ ghost use Rattle.pin_plain.specs.Quiet.{AreQuiet, AreQuietFrom};
 
 use crate::partition::Partition;
 use crate::scores::Scores;
+use crew::each_chunk;
 use hg_base::NoMemory;
 use incidence::Hypergraph;
 use std::alloc::Global;
-use std::thread::{Threads, for_each_chunk_mut};
+use std::thread::Threads;
 
 /// A thread looks at so many vertices at least: to start it takes as long as to look at a thousand.
 const LEAST_VERTICES: u32 = 4096;
@@ -49,7 +50,7 @@ fn mark_runs<R: Threads + Sync>(
     requires all { length marks.old ≡ vertex_count h.now }
     ensures { AreQuiet h.now p.now.k p.now.blocks marks.new }
 {
-    for_each_chunk_mut(
+    each_chunk(
         rt,
         marks,
         share,

@@ -37,10 +37,10 @@ cost_below-requires-2-clause-blocks c =
     c.slice-vertices.ensures ∙ c.index-maps-level.is ∙ get_or_default c.slice-maps.result.now i c.index-maps-level.result [] (omega arith)
     ∙ ap (λ (ms : List (List ℕ)). map_of ms i) maps in
     let count = length c.slice-vertices.result.now in
-    let few : length (map_of t.maps i) ≤ 2 ^ 16 = c.small_level-level.ensures.few low in
+    let few : length (map_of t.maps i) ≤ 2 ^ 18 = c.small_level-level.ensures.few low in
     let same = ap length here in
     let table = c.write_blocks.new.table in
-    let all : length table ≡ 2 ^ 16 = c.write_blocks.ensures.count in
+    let all : length table ≡ 2 ^ 18 = c.write_blocks.ensures.count in
     let long = length-take-le count table (omega arith) in
     on_level c.args.h.now t i (take count table) c.requires low (long ∙ same)
     (λ v inside. (

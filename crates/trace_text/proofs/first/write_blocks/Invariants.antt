@@ -5,6 +5,6 @@ use Rattle.trace_text.proofs.first.write_blocks.Given as goal
 
 abbrev pub invariant-loop-v : goal.invariant-loop-v
 invariant-loop-v l = record {
-  count : length l.table ≡ 2 ^ 16;
+  count : length l.table ≡ 2 ^ 18;
   written : (u : ℕ) → u < l.v → slice_index l.table u ≡ slice_index l.blocks (carried l.maps u);
 }
