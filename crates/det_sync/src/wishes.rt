@@ -8,10 +8,11 @@ ghost use Rattle.det_sync.specs.CutNets.{AreCutMarks};
 ghost use Rattle.det_sync.specs.Wishes.{AreWishes, AreCuts, part_at};
 
 use crate::cut::{cut_marks, held_between};
+use crew::each;
 use hg_base::NoMemory;
 use incidence::Hypergraph;
 use pin_plain::{BestMove, Partition};
-use rayon::prelude::*;
+use rayon::prelude::par_sort_unstable;
 use std::alloc::{AllocError, Global};
 use std::thread::Threads;
 
@@ -78,6 +79,37 @@ fn part_wishes(
     p.best_moves(alloc, h, held.as_slice())
 }
 
+/// No wishes yet for each of so many parts.
+fn no_wishes(alloc: Global, parts: usize) -> Result<Vec<PartWishes>, NoMemory>
+    ensures { IfOk result (λ made. vec_len made ≡ parts) }
+{
+    let mut made = Vec::with_capacity(alloc, parts)?;
+    for _ in 0..parts {
+        made.push(Ok(Vec::new(alloc)))?;
+    }
+    Ok(made)
+}
+
+/// Writes the wishes of part `j` down.
+fn fill_part(
+    alloc: Global,
+    h: &Hypergraph,
+    p: &Partition,
+    marks: &[bool],
+    cuts: &[u32],
+    j: usize,
+    part: &mut PartWishes,
+)
+    requires belongs { p.now.hyper ≡ h.now }
+    requires marks { AreCutMarks h.now p.now.blocks marks.now }
+    requires cuts { AreCuts (vertex_count h.now) cuts.now }
+    requires part { j + 1 < length cuts.now }
+    ensures { IfOk part.new (λ wishes. wishes.items ≡ best_moves h.now p.now.k p.now.limit p.now.blocks
+        (part_at cuts.now j)) }
+{
+    *part = part_wishes(alloc, h, p, marks, cuts[j], cuts[j + 1]);
+}
+
 /// The wishes of the vertices of each part, in a thread of its own.
 fn wishes_by_part<R: Threads + Sync>(
     rt: &R,
@@ -95,22 +127,20 @@ fn wishes_by_part<R: Threads + Sync>(
         → IfOk (slice_index_or parts.items j d) (λ wishes. wishes.items ≡ best_moves h.now p.now.k p.now.limit
         p.now.blocks (part_at cuts.now j))) }
 {
-    let parts = cuts.len() - 1;
-    let wishes = (0..parts)
-        .into_par_iter()
-        .map(
-            move |j: usize| -> PartWishes
-                requires { (j + 1 < length cuts.now)
-                    × AreCuts (vertex_count h.now) cuts.now
-                    × AreCutMarks h.now p.now.blocks marks.now
-                    × (p.now.hyper ≡ h.now) }
-                ensures { IfOk result (λ wishes. wishes.items ≡ best_moves h.entry.now p.entry.now.k p.entry.now.limit
-                    p.entry.now.blocks (part_at cuts.entry.now j)) }
-            { part_wishes(alloc, h, p, marks, cuts[j], cuts[j + 1]) },
-        )
-        .with_min_len(1)
-        .collect(rt, alloc)?;
-    Ok(wishes)
+    let mut parts = no_wishes(alloc, cuts.len() - 1)?;
+    each(
+        rt,
+        parts.as_mut_slice(),
+        &|j: usize, part: &mut PartWishes|
+            requires { (j + 1 < length cuts.now)
+                × AreCuts (vertex_count h.now) cuts.now
+                × AreCutMarks h.now p.now.blocks marks.now
+                × (p.now.hyper ≡ h.now) }
+            ensures { IfOk part.exit.now (λ wishes. wishes.items ≡ best_moves h.entry.now p.entry.now.k
+                p.entry.now.limit p.entry.now.blocks (part_at cuts.entry.now j)) }
+        { fill_part(alloc, h, p, marks, cuts, j, part) },
+    );
+    Ok(parts)
 }
 
 /// The wishes of all vertices, in rising number.
