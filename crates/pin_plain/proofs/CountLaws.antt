@@ -1,8 +1,8 @@
 -- Laws of the counts of all nets: where they stand, and what a change of one net's words leaves.
 use Rattle.std.proofs.Common.{◌≡◌, ◌≢◌, ◌⊎◌, inl, inr, ℕ, ◌+◌, ◌*◌, ◌/◌, ◌%◌, ◌^◌, ◌<◌, ◌≤◌, Bool, true, false, ◌||◌, cond}
-use Rattle.std.proofs.Common.{if◌then◌else◌, nat_eq, nat_lt, nat_le, List, [], ◌∷◌, length, filter, take, All, Contains}
-use Rattle.std.proofs.Common.{slice_index, get_or, slice_set, get_or-set_same, get_or-set_other, refl, sym, ap, ap₂, ◌∙◌, subst, arith, true≢false}
-use Rattle.std.proofs.lemmas.Bool.{eqb-true, eqb-false, ne_eqb, eq-eqb, ltb-true, ltb-false, lt-ltb, leb-true, cases_eq, cases_lt}
+use Rattle.std.proofs.Common.{if◌then◌else◌, nat_eq, nat_le, List, [], ◌∷◌, length, filter, take, All, Contains}
+use Rattle.std.proofs.Common.{slice_index, get_or, slice_set, get_or-set_same, get_or-set_other, refl, sym, ap, ◌∙◌, subst, arith, true≢false}
+use Rattle.std.proofs.lemmas.Bool.{eqb-true, eqb-false, ne_eqb, eq-eqb, leb-true, cases_eq, cases_lt}
 use Rattle.hg_base.specs.Packed.{count_at, IsWidth, fields_of, bits_of, words_of, field}
 use Rattle.hg_defs.specs.Hypergraph.{Hyper, IsHypergraph, IsWithinLimits, vertex_count, net_count, net_of, Suits}
 use Rattle.hg_defs.specs.Partition.{IsPartition, block_of}
@@ -24,7 +24,7 @@ use Rattle.std.proofs.lemmas.List.FromFn.{length-range_with_len, get_or-range_wi
 use Rattle.incidence.proofs.IndexLaws.{sum_below_upto-le, nets_of-below, nets_of-rising, is_pin_new, is_pin_more}
 use Rattle.pin_plain.proofs.GainLaws.{nets_of-hold, two_within}
 use Rattle.pin_plain.specs.Counts.{net_bits, net_words, words_at_net, net_place, net_start, all_words, HasLayout}
-use Rattle.pin_plain.specs.Counts.{HoldsCounts, counts_of, counts_before, counts_between, HaveSpreads, HaveSpreadsBetween}
+use Rattle.pin_plain.specs.Counts.{HoldsCounts, counts_of, counts_between, HaveSpreads, HaveSpreadsBetween}
 
 -- ---- the width of a net's counts
 
@@ -134,63 +134,6 @@ part_inside h k starts words e b start bits laid l low es eb =
 pub count_same : (h : Hyper) (k e start bits : ℕ) → start ≡ net_start h k e → bits ≡ net_bits h e → (words : List ℕ) (b : ℕ) → count_at words start bits b ≡
     count_at words (net_start h k e) (net_bits h e) b
 count_same h k e start bits es eb words b = ap (λ s. count_at words s bits b) es ∙ ap (λ w. count_at words (net_start h k e) w b) eb
-
-before_not : (h : Hyper) (p : List ℕ) (e b : ℕ) → counts_before h p e e b ≡ 0
-before_not h p e b = ap (λ t. if t then counts_of h p e b else 0) (not_below e)
-  where
-    not_below : (n : ℕ) → nat_lt n n ≡ false
-    not_below n = by (nat_lt n n) refl
-      where
-        by : (t : Bool) → nat_lt n n ≡ t → t ≡ false
-        by true q = let r = ltb-true n n q in absurd (omega arith)
-        by false q = refl
-
-before_now : (h : Hyper) (p : List ℕ) (e b : ℕ) → counts_before h p (e + 1) e b ≡ counts_of h p e b
-before_now h p e b = ap (λ t. if t then counts_of h p e b else 0) (lt-ltb e (e + 1) (omega arith))
-
-before_other : (h : Hyper) (p : List ℕ) (e i b : ℕ) → i ≢ e → counts_before h p (e + 1) i b ≡ counts_before h p e i b
-before_other h p e i b other = ap (λ t. if t then counts_of h p i b else 0) (by (nat_lt i e) refl)
-  where
-    by : (t : Bool) → nat_lt i e ≡ t → nat_lt i (e + 1) ≡ t
-    by true q = let r = ltb-true i e q in lt-ltb i (e + 1) (omega arith)
-    by false q =
-        let r = ltb-false i e q in
-        ltb-no i (e + 1) (λ s. other (omega arith))
-      where
-        ltb-no : (a b : ℕ) → (a < b → ⊥) → nat_lt a b ≡ false
-        ltb-no a b n = from (nat_lt a b) refl
-          where
-            from : (t : Bool) → nat_lt a b ≡ t → t ≡ false
-            from true s = absurd (n (ltb-true a b s))
-            from false s = refl
-
-module _ (h : Hyper) (k : ℕ) (p words new : List ℕ) (e start bits : ℕ) (pins : List ℕ) (es : start ≡ net_start h k e) (eb : bits ≡ net_bits h e)
-    (ep : pins ≡ (net_of h e).pins) (l : e < net_count h) (blocks : All (λ b. b < k) p) where
-  pub counted_net :
-      ((b : ℕ) → count_at new start bits b ≡ count_at words start bits b + pins_in p pins b)
-      → ((i : ℕ) → All (λ b. i ≢ start + b / fields_of bits) p → slice_index new i ≡ slice_index words i)
-      → HoldsCounts h k words (counts_before h p e)
-      → HoldsCounts h k new (counts_before h p (e + 1))
-  counted_net counts others held =
-      HoldsCounts-net h k words new (counts_before h p e) (counts_before h p (e + 1)) e held l
-      (λ b low.
-      let a = count_same h k e start bits es eb new b in
-      let c = count_same h k e start bits es eb words b in
-      let d = counts b in
-      let f = ap (λ ps. pins_in p ps b) ep in
-      let z = held e b l low in
-      let n = before_not h p e b in
-      let w = before_now h p e b in
-      omega arith)
-      (λ i apart.
-      others i
-      (λ j d m q.
-      let low = blocks j d m in
-      let enough = fields_enough (length (net_of h e).pins) k in
-      let inside = word_below (net_bits h e) (net_words h k e) (get_or p j d) (bits_width (length (net_of h e).pins)) (omega arith) in
-      apart (get_or p j d / fields_of (net_bits h e)) inside
-      (q ∙ ap (λ s. s + get_or p j d / fields_of bits) es ∙ ap (λ w. net_start h k e + get_or p j d / fields_of w) eb)))
-      (λ i b other. before_other h p e i b other)
 
 -- ---- the numbers of blocks that the nets touch
 

@@ -11,3 +11,4 @@ pub mod RankLaws
 pub mod InnerLaws
 pub mod QuietLaws
 pub mod OpeningLaws
+pub mod RunLaws

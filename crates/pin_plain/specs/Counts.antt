@@ -1,6 +1,6 @@
 -- The pin counts of all nets, packed into words: the words of each net stand after those of the nets before it. Between them
 -- there is room for all else that a round has in its words.
-use Rattle.std.specs.Prelude.{◌≡◌, ℕ, ◌+◌, ◌*◌, ◌<◌, List, length, slice_index, nat_eq, nat_lt, if◌then◌else◌}
+use Rattle.std.specs.Prelude.{◌≡◌, ℕ, ◌+◌, ◌*◌, ◌<◌, List, length, slice_index, nat_eq, if◌then◌else◌}
 use Rattle.std.specs.Set.{is_member}
 use Rattle.hg_defs.specs.Sums.{sum_below}
 use Rattle.hg_defs.specs.Hypergraph.{Hyper, vertex_count, net_count, net_of}
@@ -54,10 +54,6 @@ HoldsCounts h k words counts =
 -- the pin counts of a partition
 abbrev pub counts_of : Hyper → List ℕ → ℕ → ℕ → ℕ
 counts_of h p e b = pins_in p (net_of h e).pins b
-
--- nets below e hold their pin counts, and the later ones 0
-abbrev pub counts_before : Hyper → List ℕ → ℕ → ℕ → ℕ → ℕ
-counts_before h p e i b = if nat_lt i e then counts_of h p i b else 0
 
 -- the nets among these hold the counts after a move, and the others those before it
 abbrev pub counts_between : Hyper → List ℕ → List ℕ → List ℕ → ℕ → ℕ → ℕ

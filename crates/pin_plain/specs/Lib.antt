@@ -7,3 +7,4 @@ pub mod Settling
 pub mod BestMoves
 pub mod Quiet
 pub mod Opened
+pub mod Tallies

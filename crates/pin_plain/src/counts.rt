@@ -56,7 +56,7 @@ pub fn lower(words: &mut [u64], start: u32, bits: u32, b: u32)
 }
 
 /// Counts the pins of one net in the blocks.
-fn count_net(words: &mut [u64], start: u32, bits: u32, pins: &[u32], blocks: &[u32])
+pub fn count_net(words: &mut [u64], start: u32, bits: u32, pins: &[u32], blocks: &[u32])
     requires width { IsWidth bits }
     requires few { length words.old < 2 ^ 32 }
     requires pins { All (λ v. v < length blocks.now) pins.now }
@@ -69,26 +69,6 @@ fn count_net(words: &mut [u64], start: u32, bits: u32, pins: &[u32], blocks: &[u
 {
     for v in pins {
         raise(words, start, bits, blocks[*v as usize]);
-    }
-}
-
-/// Counts the pins of all nets in `k` blocks, from words of 0.
-pub fn count_nets(h: &Hypergraph, k: u32, blocks: &[u32], starts: &[u32], words: &mut [u64])
-    requires parted { IsParted h.now k blocks.now }
-    requires laid { HasLayout h.now k starts.now words.old }
-    requires zeros { words.old ≡ replicate (length words.old) 0 }
-    ensures { HoldsCounts h.now k words.new (counts_of h.now blocks.now) }
-{
-    prove!(k <= 256);
-    for e in 0..h.nets() {
-        let pins = h.pins(e);
-        count_net(
-            words,
-            starts[e as usize],
-            bits_of(pins.len() as u32),
-            pins,
-            blocks,
-        );
     }
 }
 

@@ -10,6 +10,7 @@ mod quiet;
 mod scores;
 mod seen;
 mod sums;
+mod tallies;
 
 pub use hg_base::NoMemory;
 pub use partition::{BestMove, Partition, Ready};

@@ -8,17 +8,19 @@ ghost use Rattle.hg_defs.specs.Cost.{cost};
 ghost use Rattle.hg_defs.specs.Pins.{pins_in};
 ghost use Rattle.hg_defs.specs.Moves.{moved, gain};
 ghost use Rattle.hg_defs.specs.Contraction.{after};
-ghost use Rattle.pin_plain.specs.Parted.{IsParted, IsLoaded, loads_after, KeepsCost};
+ghost use Rattle.pin_plain.specs.Counts.{all_words, HasStarts, HasWidths};
+ghost use Rattle.pin_plain.specs.Parted.{IsParted, IsLoaded, IsTallied, loads_after, KeepsCost};
 
 mod best;
 mod marking;
 mod ready;
 mod sweep;
 
-use crate::counts::{count, lay_out, move_pin};
+use crate::counts::{Layout, count, lay_out, move_pin};
 use crate::gains::saved_and_lost;
 use crate::lent::Lent;
-use crate::opening::{cost_by_spreads, tally};
+use crate::opening::cost_by_spreads;
+use crate::tallies::{Nets, tally, tally_with};
 pub use best::BestMove;
 use hg_base::{Blocks, Items, NoMemory, bits_of};
 use incidence::Hypergraph;
@@ -26,6 +28,7 @@ pub use ready::Ready;
 use std::alloc::Global;
 use std::marker::Model;
 use std::snapshot::Snapshot;
+use std::thread::Threads;
 
 /// A partition of a hypergraph into `k` blocks, with the load of each block and the pin counts of
 /// each net.
@@ -86,6 +89,54 @@ fn mapped(alloc: Global, blocks: &[u32], map: &[u32]) -> Result<Vec<u32>, NoMemo
     Ok(map.iter().map(|v| blocks[*v as usize]).collect(alloc)?)
 }
 
+/// The loads of the blocks, where the counts of each net stand, and the words for them.
+#[derive(Drop)]
+struct Laid {
+    loads: Vec<u64>,
+    layout: Layout,
+    words: Vec<u64>,
+}
+
+/// Adds up the loads, and lays out the counts in words of 0.
+fn lay(alloc: Global, h: &Hypergraph, k: u32, blocks: &[u32]) -> Result<Laid, NoMemory>
+    requires some { 2 ≤ k }
+    requires few { k ≤ 256 }
+    requires partition { IsPartition h.now k blocks.now }
+    requires suits { Suits h.now k }
+    ensures loads { IfOk result (λ l. IsLoaded h.now k blocks.now l.loads.items) }
+    ensures starts { IfOk result (λ l. HasStarts h.now k l.layout.starts.items) }
+    ensures widths { IfOk result (λ l. HasWidths h.now l.layout.widths.items) }
+    ensures words { IfOk result (λ l. l.words.items ≡ replicate (all_words h.now k) 0) }
+{
+    let mut loads = vec![in alloc; 0u64; k as usize]?;
+    let layout = lay_out(alloc, h, k)?;
+    let words = vec![in alloc; 0u64; layout.words as usize]?;
+    add_weights(h, blocks, loads.as_mut_slice());
+    Ok(Laid {
+        loads,
+        layout,
+        words,
+    })
+}
+
+/// The partition of the blocks, whose counts are made.
+fn made(h: &Hypergraph, k: u32, limit: u64, blocks: Blocks, laid: Laid) -> Partition
+    requires { IsTallied h.now k blocks laid.loads.items laid.layout.starts.items laid.layout.widths.items
+        laid.words.items }
+    ensures { result ≡ record { hyper = h.now; k = k; limit = limit; blocks = blocks } }
+{
+    Partition {
+        hyper: Snapshot::of(h),
+        k,
+        limit,
+        blocks,
+        loads: laid.loads,
+        starts: laid.layout.starts,
+        widths: laid.layout.widths,
+        words: laid.words,
+    }
+}
+
 impl Partition {
     /// Makes a partition of the blocks, one below `k` for each vertex, `k` being from 2 to 256.
     pub fn of(
@@ -103,27 +154,45 @@ impl Partition {
         ensures { IfOk result (λ p. p ≡ record { hyper = h.now; k = k; limit = limit; blocks = blocks }) }
     {
         let _vertices = h.vertices();
-        let mut loads = vec![in alloc; 0u64; k as usize]?;
-        let layout = lay_out(alloc, h, k)?;
-        let mut words = vec![in alloc; 0u64; layout.words as usize]?;
-        add_weights(h, blocks.slice(), loads.as_mut_slice());
-        tally(
+        let mut laid = lay(alloc, h, k, blocks.slice())?;
+        let nets = Nets {
             h,
             k,
-            blocks.slice(),
-            layout.starts.as_slice(),
-            words.as_mut_slice(),
-        );
-        Ok(Partition {
-            hyper: Snapshot::of(h),
+            blocks: blocks.slice(),
+            starts: laid.layout.starts.as_slice(),
+        };
+        tally(&nets, laid.words.as_mut_slice());
+        Ok(made(h, k, limit, blocks, laid))
+    }
+
+    /// Does what [`of`](Self::of) does with at most so many threads.
+    fn of_with<R: Threads + Sync>(
+        rt: &R,
+        alloc: Global,
+        h: &Hypergraph,
+        k: u32,
+        limit: u64,
+        blocks: Blocks,
+        workers: u32,
+    ) -> Result<Self, NoMemory>
+        requires some { 2 ≤ k }
+        requires few { k ≤ 256 }
+        requires partition { IsPartition h.now k blocks }
+        requires suits { Suits h.now k }
+        requires fixed { IsFixedWithin h.now k }
+        requires workers { 1 ≤ workers }
+        ensures { IfOk result (λ p. p ≡ record { hyper = h.now; k = k; limit = limit; blocks = blocks }) }
+    {
+        let _vertices = h.vertices();
+        let mut laid = lay(alloc, h, k, blocks.slice())?;
+        let nets = Nets {
+            h,
             k,
-            limit,
-            blocks,
-            loads,
-            starts: layout.starts,
-            widths: layout.widths,
-            words,
-        })
+            blocks: blocks.slice(),
+            starts: laid.layout.starts.as_slice(),
+        };
+        tally_with(rt, &nets, workers, laid.words.as_mut_slice());
+        Ok(made(h, k, limit, blocks, laid))
     }
 
     /// The block of each vertex.
@@ -258,6 +327,25 @@ impl Partition {
         saved as i64 - lost as i64
     }
 
+    /// The blocks of a finer hypergraph that gives each vertex the block of its place in the map.
+    fn finer_blocks(
+        &self,
+        alloc: Global,
+        fine: &Hypergraph,
+        map: &[u32],
+    ) -> Result<Blocks, NoMemory>
+        requires vertices { length map.now ≡ vertex_count fine.now }
+        requires places { All (λ v. v < vertex_count self.now.hyper) map.now }
+        ensures value { IfOk result (λ q. q ≡ after self.now.blocks map.now) }
+        ensures partition { IfOk result (λ q. IsPartition fine.now self.now.k q) }
+        ensures cost { IfOk result (λ q. KeepsCost self.now.hyper self.now.blocks fine.now map.now q) }
+        ensures some { 2 ≤ self.now.k }
+        ensures few { self.now.k ≤ 256 }
+    {
+        let blocks = mapped(alloc, self.blocks.slice(), map)?;
+        Ok(Items::from_vec(blocks))
+    }
+
     /// The partition of a finer hypergraph that gives each vertex the block of its place in the map.
     pub fn project(&self, alloc: Global, fine: &Hypergraph, map: &[u32]) -> Result<Self, NoMemory>
         requires vertices { length map.now ≡ vertex_count fine.now }
@@ -272,7 +360,34 @@ impl Partition {
         }) }
         ensures cost { IfOk result (λ p. KeepsCost self.now.hyper self.now.blocks fine.now map.now p.blocks) }
     {
-        let blocks = mapped(alloc, self.blocks.slice(), map)?;
-        Partition::of(alloc, fine, self.k, self.limit, Items::from_vec(blocks))
+        let blocks = self.finer_blocks(alloc, fine, map)?;
+        Partition::of(alloc, fine, self.k, self.limit, blocks)
+    }
+
+    /// Does what [`project`](Self::project) does: the counts are made by at most so many threads, and by no more
+    /// than one for each 8,192 nets.
+    pub fn project_with<R: Threads + Sync>(
+        &self,
+        rt: &R,
+        alloc: Global,
+        fine: &Hypergraph,
+        map: &[u32],
+        workers: u32,
+    ) -> Result<Self, NoMemory>
+        requires vertices { length map.now ≡ vertex_count fine.now }
+        requires places { All (λ v. v < vertex_count self.now.hyper) map.now }
+        requires suits { Suits fine.now self.now.k }
+        requires fixed { IsFixedWithin fine.now self.now.k }
+        requires workers { 1 ≤ workers }
+        ensures value { IfOk result (λ p. p ≡ record {
+          hyper = fine.now;
+          k = self.now.k;
+          limit = self.now.limit;
+          blocks = after self.now.blocks map.now;
+        }) }
+        ensures cost { IfOk result (λ p. KeepsCost self.now.hyper self.now.blocks fine.now map.now p.blocks) }
+    {
+        let blocks = self.finer_blocks(alloc, fine, map)?;
+        Partition::of_with(rt, alloc, fine, self.k, self.limit, blocks, workers)
     }
 }

@@ -1,6 +1,6 @@
-use Rattle.std.proofs.Common.{◌≡◌, length, take}
+use Rattle.std.proofs.Common.{take}
 use Rattle.hg_defs.specs.Moves.{moved}
-use Rattle.pin_plain.specs.Counts.{all_words, HoldsCounts, HaveSpreadsBetween, counts_between}
+use Rattle.pin_plain.specs.Counts.{HoldsCounts, HaveSpreadsBetween, counts_between}
 use Rattle.pin_plain.proofs.counts.move_pin.Given as goal
 
 abbrev pub invariant-loop-e : goal.invariant-loop-e

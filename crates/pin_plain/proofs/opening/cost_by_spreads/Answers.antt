@@ -1,5 +1,5 @@
 use Rattle.std.proofs.Common.{rules, ◌≡◌, ℕ, ◌+◌, ◌-◌, ◌<◌, slice_index, sym, ap, ap₂, ◌∙◌, arith}
-use Rattle.hg_defs.specs.Hypergraph.{net_count, net_of}
+use Rattle.hg_defs.specs.Hypergraph.{net_count}
 use Rattle.hg_defs.specs.Cost.{net_cost}
 use Rattle.hg_defs.proofs.SumLaws.{total-take-le}
 use Rattle.hg_base.proofs.CountLaws.{cost_so_far-lt, cost_more, cost-lt}

@@ -5,7 +5,7 @@ use Rattle.std.specs.Set.{is_member, distinct_count}
 use Rattle.std.proofs.lemmas.List.{map_more}
 use Rattle.hg_defs.specs.Partition.{block_of}
 use Rattle.hg_base.proofs.CountLaws.{is_member_push, distinct_push}
-use Rattle.pin_plain.proofs.opening.touched_by_pins.Goals as goal
+use Rattle.pin_plain.proofs.tallies.touched_by_pins.Goals as goal
 use mir.Val.{bool_byte}
 
 byte_is : (t : Bool) → bool_byte t ≡ (if t then 1 else 0)

@@ -2,7 +2,7 @@ use Rattle.std.proofs.Common.{◌≡◌, ◌≤◌}
 use Rattle.hg_defs.specs.Pins.{present}
 use Rattle.hg_defs.specs.Sums.{sum_below}
 use Rattle.hg_base.specs.Packed.{count_at}
-use Rattle.pin_plain.proofs.opening.touched_by_counts.Given as goal
+use Rattle.pin_plain.proofs.tallies.touched_by_counts.Given as goal
 
 abbrev pub invariant-loop-b : goal.invariant-loop-b
 invariant-loop-b l = record {

@@ -3,7 +3,7 @@ use Rattle.std.proofs.Common.{◌≡◌, ℕ, ◌≤◌, map, take, nat_eq}
 use Rattle.std.specs.Set.{is_member, distinct_count}
 use Rattle.hg_defs.specs.Partition.{block_of}
 use Rattle.hg_base.specs.BlockSet.{has}
-use Rattle.pin_plain.proofs.opening.touched_by_pins.Given as goal
+use Rattle.pin_plain.proofs.tallies.touched_by_pins.Given as goal
 
 abbrev pub invariant-loop-v : goal.invariant-loop-v
 invariant-loop-v l =
