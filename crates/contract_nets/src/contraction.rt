@@ -10,6 +10,7 @@ ghost use Rattle.hg_defs.specs.Clustering.{cluster_count};
 ghost use Rattle.contract_nets.specs.Ledger.{IsLedger};
 ghost use Rattle.contract_nets.specs.Merging.{mapped_net, ArePlaces};
 
+use crate::cuts::MOST_PARTS;
 use crate::images::map_nets;
 use crate::keys::sort_keys;
 use crate::ledger::{DROPPED, MergeLedger};
@@ -18,6 +19,7 @@ use crate::nets::Nets;
 use crate::vertices::vertices_of;
 use hg_base::{FlatHyper, NoMemory};
 use incidence::Hypergraph;
+use rayon::current_num_threads;
 use std::alloc::Global;
 use std::thread::Threads;
 
@@ -41,8 +43,9 @@ pub fn contract(
 {
     let mut places = vec![in alloc; DROPPED; h.nets() as usize]?;
     let coarse = merge(rt, alloc, h, map, places.as_mut_slice())?;
+    let threads = current_num_threads(rt).min(MOST_PARTS);
     Ok((
-        Hypergraph::build(alloc, coarse)?,
+        Hypergraph::build_with(rt, alloc, coarse, threads)?,
         MergeLedger::from_places(places),
     ))
 }

@@ -8,7 +8,7 @@ use crate::images::Images;
 use crate::keys::{Key, have_same_pins};
 use std::alloc::{AllocError, Global};
 
-/// The keys are cut into so many parts at most.
+/// The keys are cut into so many parts at most, each of which a thread takes; nor do more threads make the index.
 pub(crate) const MOST_PARTS: usize = 8;
 
 /// A part has so many keys at least, but for the last one: to start a thread for it costs as much

@@ -12,12 +12,13 @@ ghost use Rattle.contract_nets.specs.Images.{over, IsPart};
 ghost use Rattle.contract_nets.specs.Mapped.{keys_in, IsMapped, IsBare};
 
 use crate::keys::{Key, push_key};
+use crew::each;
 use hg_base::NoMemory;
 use incidence::Hypergraph;
 use std::alloc::{AllocError, Global};
 use std::marker::Model;
 use std::snapshot::Snapshot;
-use std::thread::{Threads, for_each_mut};
+use std::thread::Threads;
 
 /// The nets are cut into so many parts at most.
 const MOST_PARTS: u32 = 8;
@@ -172,10 +173,9 @@ fn map_parts<R: Threads + Sync>(
         IfOk (slice_index_or parts.items j d) (IsMapped h.now clusters.now size j)) }
 {
     let mut parts = empty_parts(alloc, h, size)?;
-    for_each_mut(
+    each(
         rt,
         parts.as_mut_slice(),
-        MOST_PARTS as usize,
         &|j: usize, part: &mut Result<Mapped, NoMemory>|
             requires { (j * size < net_count h.now) × (length clusters.now ≡ vertex_count h.now)
                 × IfOk part.now IsBare }

@@ -8,14 +8,15 @@ ghost use Rattle.contract_nets.specs.Merging.{merged, AreWithin, ArePlaces};
 ghost use Rattle.contract_nets.specs.Keys.{net_of_key, IsKey};
 ghost use Rattle.contract_nets.specs.Cuts.{AreCuts, part_of};
 
-use crate::cuts::{MOST_PARTS, cuts_of};
+use crate::cuts::cuts_of;
 use crate::images::Images;
 use crate::keys::{Key, have_same_pins};
 use crate::ledger::DROPPED;
 use crate::nets::Nets;
+use crew::each;
 use hg_base::{FlatHyper, NoMemory};
 use std::alloc::Global;
-use std::thread::{Threads, for_each_mut};
+use std::thread::Threads;
 
 /// The nets of sorted keys, with equal neighbours merged: in lists that follow one another, each of
 /// which a thread makes.
@@ -54,10 +55,9 @@ fn merge_parts<R: Threads + Sync>(
         IfOk (slice_index_or lists.items j d) (λ list. list ≡ part_of nets.now keys.now cuts.now j)) }
 {
     let mut lists = empty_lists(alloc, nets, cuts)?;
-    for_each_mut(
+    each(
         rt,
         lists.as_mut_slice(),
-        MOST_PARTS,
         &|j: usize, list: &mut Result<Nets, NoMemory>|
             requires { (j + 1 < length cuts.now) × All (IsKey nets.now) keys.now
                 × AreWithin (merged (map (net_of_key nets.now) keys.now))

@@ -19,7 +19,7 @@ returns-clause-ledger g c =
     let same = c.in_ok-coarse.ensures.coarse in
     let long : length places ≡ c.in_ok-places.places.len = c.merge.auto.places ∙ c.as_mut_slice.ensures.len in
     let count : length places ≡ net_count h = long ∙ c.in_ok-places.ensures.len ∙ c.nets.ensures.count in
-    subst (λ (x : Hyper). IsLedger h clusters x c.from_places.result) (sym (c.in_ok-build.ensures ∙ same))
+    subst (λ (x : Hyper). IsLedger h clusters x c.from_places.result) (sym (c.in_ok-build_with.ensures ∙ same))
     (subst (IsLedger h clusters coarse) (sym (c.from_places.ensures ∙ ap (map read_place) (take_at places (drop (length places) c.in_ok-places.places.items)
     c.in_ok-places.places.len long)))
     (ledger_is h clusters (cluster_count clusters) places count
