@@ -112,7 +112,7 @@ pub(crate) fn run_in<H: Threads + Sync>(
     let limit = limit_of(flat.total_weight(), job.k, job.eps);
     let placed = place(alloc, job, &flat, limit)?;
     let greedy = cost_of(&flat, placed.slice(), job.k);
-    let h = Hypergraph::build(alloc, flat)?;
+    let h = Hypergraph::build_with(rt, alloc, flat, job.workers as usize)?;
     let reached = reach(rt, alloc, mode, job, limit, h, placed, refiners)?;
     let cost = reached.best.cost(&reached.h);
     Ok(Made {
