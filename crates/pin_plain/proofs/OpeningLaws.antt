@@ -2,7 +2,7 @@
 use Rattle.std.proofs.Common.{◌≡◌, ℕ, ◌+◌, ◌*◌, ◌/◌, ◌%◌, ◌^◌, ◌<◌, ◌≤◌, List, [], length, slice_index, All}
 use Rattle.std.proofs.Common.{sym, ap, ap₂, subst, ◌∙◌, arith}
 use Rattle.hg_base.specs.Packed.{field, fields_of, count_at}
-use Rattle.hg_defs.specs.Hypergraph.{Hyper, Net, net_count, net_of}
+use Rattle.hg_defs.specs.Hypergraph.{Hyper, Net, IsWithinLimits, net_count, net_of}
 use Rattle.hg_defs.specs.Cost.{connectivity, price, net_cost}
 use Rattle.hg_defs.specs.declared.objective.Objective.{Objective}
 use Rattle.hg_defs.specs.Pins.{present, pins_in}
@@ -34,12 +34,18 @@ touched_is h k p words e bits start parted net width counted =
     inside = subst (λ n. All (λ u. u < n) (net_of h e).pins) (sym parted.partition.vertices)
         (parted.sound.nets e (record { weight = 0; pins = [] }) net).pins
 
+-- a net has no more pins than there are in all
+pub few_pins : (h : Hyper) (e : ℕ) → IsWithinLimits h → e < net_count h → length (net_of h e).pins ≤ 2 ^ 25
+few_pins h e bounds l =
+    let pins = total_at-le (λ (x : Net). length x.pins) h.nets e (record { weight = 0; pins = [] }) l in
+    let all = bounds.pins in
+    omega arith
+
 -- a net touches no more blocks than it has pins
 pub few_blocks : (h : Hyper) (k : ℕ) (p : List ℕ) (e : ℕ) → IsParted h k p → e < net_count h → connectivity p (net_of h e).pins ≤ 2 ^ 25
 few_blocks h k p e parted l =
     let few = connectivity-le p (net_of h e).pins in
-    let pins = total_at-le (λ (x : Net). length x.pins) h.nets e (record { weight = 0; pins = [] }) l in
-    let all = parted.bounds.pins in
+    let pins = few_pins h e parted.bounds l in
     omega arith
 
 -- what a net pays is what its number of blocks says

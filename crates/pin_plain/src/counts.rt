@@ -1,7 +1,7 @@
 //! Pin counts packed into words: one count raised or lowered, and the pins of one net counted or moved.
 
 ghost use Rattle.std.specs.Prelude.{◌≡◌, ◌≢◌, ℕ, ◌+◌, ◌*◌, ◌/◌, ◌%◌, ◌^◌, ◌<◌, ◌≤◌, All, length};
-ghost use Rattle.std.specs.Prelude.{slice_index, replicate, IfOk, if◌then◌else◌, nat_eq};
+ghost use Rattle.std.specs.Prelude.{slice_index, IfOk, if◌then◌else◌, nat_eq};
 ghost use Rattle.hg_base.specs.Packed.{count_at, IsWidth, fields_of};
 ghost use Rattle.hg_defs.specs.Hypergraph.{vertex_count, net_count, Suits};
 ghost use Rattle.hg_defs.specs.Partition.{block_of};
@@ -79,12 +79,14 @@ pub fn move_pin(
     k: u32,
     blocks: &[u32],
     starts: &[u32],
+    widths: &[u8],
     words: &mut [u64],
     v: u32,
     to: u32,
 )
     requires parted { IsParted h.now k blocks.now }
     requires laid { HasLayout h.now k starts.now words.old }
+    requires wide { HasWidths h.now widths.now }
     requires counted { HoldsCounts h.now k words.old (counts_of h.now blocks.now) }
     requires spreads { HaveSpreads h.now k blocks.now (net_count h.now) words.old }
     requires vertex { v < vertex_count h.now }
@@ -97,7 +99,7 @@ pub fn move_pin(
     let from = blocks[v as usize];
     for e in h.nets_of(v) {
         let start = starts[*e as usize];
-        let bits = bits_of(h.pins(*e).len() as u32);
+        let bits = u32::from(widths[*e as usize]);
         let left = u64::from(count(words, start, bits, from) == 1);
         let joined = u64::from(count(words, start, bits, to) == 0);
         lower(words, start, bits, from);

@@ -22,7 +22,7 @@ use crate::lent::Lent;
 use crate::opening::cost_by_spreads;
 use crate::tallies::{Nets, tally, tally_with};
 pub use best::BestMove;
-use hg_base::{Blocks, Items, NoMemory, bits_of};
+use hg_base::{Blocks, Items, NoMemory};
 use incidence::Hypergraph;
 pub use ready::Ready;
 use std::alloc::Global;
@@ -286,6 +286,7 @@ impl Partition {
             self.k,
             self.blocks.slice(),
             self.starts.as_slice(),
+            self.widths.as_slice(),
             self.words.as_mut_slice(),
             v,
             to,

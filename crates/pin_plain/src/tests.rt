@@ -424,6 +424,70 @@ fn projection(rt: HostRuntime) -> Result<(), Fail> {
     Ok(())
 }
 
+/// As many nets as vertices, each of weight 1, and of two vertices that follow on each other.
+fn ring(alloc: Global, vertices: u32) -> Result<Hypergraph, NoMemory>
+    requires { vertices ≤ 2 ^ 20 }
+    ensures { IfOk result (λ h. vertex_count h ≡ vertices) }
+{
+    let mut flat = FlatHyper::start(alloc, vertices)?;
+    for v in 0..vertices {
+        flat.push_net(1, &[v, (v + 1) % vertices])?;
+    }
+    Hypergraph::build(alloc, flat)
+}
+
+/// The vertices by turns in three places.
+fn by_turns(alloc: Global, vertices: u32) -> Result<Vec<u32>, NoMemory>
+    ensures below { IfOk result (λ places. All (λ v. v < 3) places.items) }
+    ensures count { IfOk result (λ places. length places.items ≡ vertices) }
+{
+    let mut places = Vec::with_capacity(alloc, vertices as usize)?;
+    for v in 0..vertices {
+        places.push(v % 3)?;
+    }
+    Ok(places)
+}
+
+/// Whether so many workers make the words that one alone makes, and two nets of three are cut.
+fn counts_alike<R: Threads + Sync>(
+    rt: &R,
+    alloc: Global,
+    p: &Partition,
+    fine: &Hypergraph,
+    map: &[u32],
+    workers: u32,
+) -> Result<bool, Fail>
+    requires vertices { length map.now ≡ vertex_count fine.now }
+    requires places { All (λ v. v < vertex_count p.now.hyper) map.now }
+    requires blocks { p.now.k ≡ 2 }
+    requires workers { 1 ≤ workers }
+{
+    if !fine.suits(2) || !fine.fixed_within(2) {
+        return Ok(false);
+    }
+    let (one, cost) = p.project(alloc, fine, map)?.into_ready(fine);
+    let (many, same) = p
+        .project_with(rt, alloc, fine, map, workers)?
+        .into_ready(fine);
+    Ok(cost == 22_000 && same == 22_000 && one.words() == many.words())
+}
+
+#[test]
+fn projects_in_threads(rt: HostRuntime) -> Result<(), Fail> {
+    let fine = ring(rt.alloc(), 33_000)?;
+    let map = by_turns(rt.alloc(), 33_000)?;
+    let coarse = one_net(rt.alloc(), 3)?;
+    let p = parted(rt.alloc(), &coarse, 2, 3, &[0, 1, 1])?;
+    // No thread beside this one, then up to three, as many as there are nets for.
+    for workers in [1, 2, 3, 4, 9] {
+        assert!(rt;
+            counts_alike(&rt, rt.alloc(), &p, &fine, map.as_slice(), workers)?,
+            "{workers} workers"
+        );
+    }
+    Ok(())
+}
+
 /// The blocks that a round begins with.
 const OPENING: &[u32] = &[0, 0, 1, 1, 0, 0, 1];
 
