@@ -77,7 +77,7 @@ fn sync_down<R: Threads + Sync>(
         let level = start - 1 - above;
         let fine = stack.level(level);
         let _vertices = fine.vertices();
-        p = p.project(alloc, fine, stack.map(level))?;
+        p = p.project_with(rt, alloc, fine, stack.map(level), workers)?;
         reached = sync_level(rt, alloc, fine, &mut p, reached, level, workers, log)?;
     }
     Ok(p)

@@ -87,6 +87,7 @@ fn run_descent<H: Threads + Sync>(
     let (stack, stop) = coarsen(rt, alloc, h, job.k, job.workers, job.seed, &OpenGate)?;
     let start = begin(rt, alloc, &stack, job.k, limit, job.seed)?;
     let (last, mut trace) = uncoarsen(
+        rt,
         alloc,
         &stack,
         stop,

@@ -15,13 +15,15 @@ use pin_plain::Partition;
 use refiner::{Log, Refiner, Task};
 use round_log::{Chosen, Stop, Trace};
 use std::alloc::Global;
+use std::thread::Threads;
 
 /// Refines a partition of a level, and its projections to all levels below: on each level each
 /// refiner makes a pass, one after the other. Answers the partition of the file, and logs the rounds.
 ///
 /// There are 2 to 256 blocks and 1 to 64 workers. The refiners are of different kinds. Where there is
 /// no memory, the log has whole rounds alone.
-pub fn refine_down(
+pub fn refine_down<R: Threads + Sync>(
+    rt: &R,
     alloc: Global,
     stack: &LevelStack,
     start: Start,
@@ -65,7 +67,7 @@ pub fn refine_down(
             workers,
             seed,
         };
-        let projected = part.project(alloc, h, stack.map(level))?;
+        let projected = part.project_with(rt, alloc, h, stack.map(level), workers)?;
         part = refine_level(alloc, h, &task, projected, refiners, log)?;
     }
     Ok(part)
@@ -87,7 +89,8 @@ fn maps_of(alloc: Global, stack: &LevelStack) -> Result<MapStack, NoMemory>
 ///
 /// There are 2 to 256 blocks and 1 to 64 workers. The refiners are of different kinds. Each tallies
 /// the rounds of its kind.
-pub fn uncoarsen(
+pub fn uncoarsen<R: Threads + Sync>(
+    rt: &R,
     alloc: Global,
     stack: &LevelStack,
     stop: Stop,
@@ -125,7 +128,7 @@ pub fn uncoarsen(
     let level = start.level;
     let mut log = Log::new(alloc);
     let part = refine_down(
-        alloc, stack, start, k, limit, workers, seed, refiners, &mut log,
+        rt, alloc, stack, start, k, limit, workers, seed, refiners, &mut log,
     )?;
     let maps = maps_of(alloc, stack)?;
     let last = Blocks::from_vec(part.blocks().to_vec(alloc)?);

@@ -80,7 +80,7 @@ pub fn cycle<R: Threads + Sync, G: Gate>(
     let _blocks = p.blocks();
     let (stack, stop, start) = climb(rt, alloc, h, k, p.into_blocks(), workers, seed, gate)?;
     let (mut last, mut trace) = uncoarsen(
-        alloc, &stack, stop, start, k, limit, workers, seed, refiners,
+        rt, alloc, &stack, stop, start, k, limit, workers, seed, refiners,
     )?;
     let h = stack.base();
     last.settle_with(rt, alloc, &h, workers, &mut trace.rounds)?;

@@ -21,8 +21,8 @@ loop-above-init g c =
           (c.level-coarse.ensures ∙ sym (ap (λ (x : Parted). x.hyper) made.partition ∙ c.requires.belongs));
     }
 
-pub project-requires-clause-places : goal.project-requires-clause-places
-project-requires-clause-places g c =
+pub project_with-requires-clause-places : goal.project_with-requires-clause-places
+project_with-requires-clause-places g c =
     let base = c.args.stack.now.base in
     let maps = c.args.stack.now.maps in
     let i = c.args.start - 1 - c.loop-above.above in
