@@ -203,7 +203,18 @@ fn calls_the_box_on_the_level(rt: HostRuntime) -> Result<(), Fail> {
             calls: Arc::try_clone(&calls)?,
         },
     )?];
-    let (part, trace) = uncoarsen(&rt, alloc, &stack, Stop::Small, start, 2, 2, 3, 1, &mut refiners)?;
+    let (part, trace) = uncoarsen(
+        &rt,
+        alloc,
+        &stack,
+        Stop::Small,
+        start,
+        2,
+        2,
+        3,
+        1,
+        &mut refiners,
+    )?;
     assert_eq!(rt; calls.load(SeqCst), 1);
     assert_eq!(rt; part.cost(stack.level(0)), 0);
     assert_eq!(rt;
