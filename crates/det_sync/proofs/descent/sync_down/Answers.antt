@@ -22,7 +22,7 @@ loop-above-init g c =
     }
 
 pub project_with-requires-clause-places : goal.project_with-requires-clause-places
-project_with-requires-clause-places g c =
+project_with-requires-clause-places g c κs within =
     let base = c.args.stack.now.base in
     let maps = c.args.stack.now.maps in
     let i = c.args.start - 1 - c.loop-above.above in

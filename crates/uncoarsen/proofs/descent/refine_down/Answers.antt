@@ -16,22 +16,22 @@ loop-above-init g c =
     c.requires.start _ _ _ c.refine_level.ensures.may_run c.refine_level.ensures.kinds c.in_ok-part.ensures.level)
 
 pub project_with-requires-clause-places : goal.project_with-requires-clause-places
-project_with-requires-clause-places g c =
+project_with-requires-clause-places g c κs within =
     descending_places _ _ _ c.args.stack.now c.args.start.level c.args.start.blocks c.args.k c.args.limit c.args.workers c.args.seed c.args.log.now
     c.args.refiners.now c.requires.few c.requires.kinds c.loop-above.above c.loop-above-test.true c.requires.on_level c.map.result.now
     c.map.ensures.leads c.map.ensures.value c.loop-above.refiners c.loop-above.log c.loop-above.part c.loop-above.invariant
 
 pub project_with-requires-clause-suits : goal.project_with-requires-clause-suits
-project_with-requires-clause-suits g c =
+project_with-requires-clause-suits g c κs within =
     let i = c.args.start.level - 1 - c.loop-above.above in
-    let within = c.requires.on_level in
+    let level = c.requires.on_level in
     subst (Suits c.level-h-in-loop-above.result.now) (sym (ap (λ (x : Parted). x.k) c.loop-above.invariant.down.part_is))
     (subst (λ (h : Hyper). Suits h c.args.k) (sym c.level-h-in-loop-above.ensures) (c.requires.levels i (omega arith)).suits)
 
 pub project_with-requires-clause-fixed : goal.project_with-requires-clause-fixed
-project_with-requires-clause-fixed g c =
+project_with-requires-clause-fixed g c κs within =
     let i = c.args.start.level - 1 - c.loop-above.above in
-    let within = c.requires.on_level in
+    let level = c.requires.on_level in
     subst (IsFixedWithin c.level-h-in-loop-above.result.now) (sym (ap (λ (x : Parted). x.k) c.loop-above.invariant.down.part_is))
     (subst (λ (h : Hyper). IsFixedWithin h c.args.k) (sym c.level-h-in-loop-above.ensures) (c.requires.levels i (omega arith)).fixed)
 
