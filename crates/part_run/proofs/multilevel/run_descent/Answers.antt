@@ -16,7 +16,7 @@ begin-requires-clause-levels g c κs within =
     c.requires.ready.fixed
 
 pub uncoarsen-requires-clause-levels : goal.uncoarsen-requires-clause-levels
-uncoarsen-requires-clause-levels g c =
+uncoarsen-requires-clause-levels g c κs within =
     let j = c.args.job.now in
     let s = c.in_ok-stack.stack in
     partable_over j.k s c.args.h c.in_ok-stack.ensures.base c.requires.ready.hypergraph c.in_ok-stack.ensures.levels c.requires.suits

@@ -6,7 +6,7 @@ use Rattle.vcycle.proofs.ClimbLemmas.{climbed_sound, settles_told, cycle_made, c
 use Rattle.vcycle.proofs.cycling.cycle.Goals as goal
 
 pub uncoarsen-requires-clause-start : goal.uncoarsen-requires-clause-start
-uncoarsen-requires-clause-start g c =
+uncoarsen-requires-clause-start g c κs within =
     let s = c.in_ok-stack.stack in
     let start = c.in_ok-stack.start in
     let up = subst (λ (x : List ℕ). ClimbsInside c.args.h c.args.k x s c.in_ok-stack.stop start.level start.blocks) c.into_blocks.ensures
