@@ -12,6 +12,7 @@ ghost use Rattle.det_sync.specs.Descent.{AreDetLevels, IsDetDescent, IsFirstPlac
 
 use crate::rounds::sync_level;
 use hg_base::{Blocks, Items, MapStack, NoMemory};
+use incidence::Hypergraph;
 use initial_place::{PlaceEnd, named_best};
 use level_stack::LevelStack;
 use pin_plain::Partition;
@@ -48,54 +49,49 @@ fn first_placed<R: Threads + Sync>(
 }
 
 /// Takes a partition of the level of a number down to the file: each level has its synchronous rounds,
-/// and between two levels the partition is projected, which leaves its cost. The rounds are appended to
-/// the log.
+/// and between two levels the partition is projected, which leaves its cost. A level is
+/// dropped when it is left. Answers the file's hypergraph, the clusterings, and the partition of the
+/// file; the rounds are appended to the log.
 fn sync_down<R: Threads + Sync>(
     rt: &R,
     alloc: Global,
-    stack: &LevelStack,
+    stack: LevelStack,
     start: u32,
     mut p: Partition,
     workers: u32,
     log: &mut RoundList,
-) -> Result<Partition, NoMemory>
-    requires level { start ≤ length stack.now.maps }
-    requires belongs { p.hyper ≡ level stack.now.base stack.now.maps start }
+) -> Result<(Hypergraph, MapStack, Partition), NoMemory>
+    requires level { start ≤ length stack.maps }
+    requires belongs { p.hyper ≡ level stack.base stack.maps start }
     requires fits { Fits p.hyper p.k p.limit p.blocks }
-    requires suits { (i : ℕ) → i ≤ length stack.now.maps → Suits (level stack.now.base stack.now.maps i) p.k }
-    requires fixed { (i : ℕ) → i ≤ length stack.now.maps → IsFixedWithin (level stack.now.base stack.now.maps i) p.k }
+    requires suits { (i : ℕ) → i ≤ length stack.maps → Suits (level stack.base stack.maps i) p.k }
+    requires fixed { (i : ℕ) → i ≤ length stack.maps → IsFixedWithin (level stack.base stack.maps i) p.k }
     requires some { 1 ≤ workers }
     requires few { workers ≤ 64 }
-    ensures partition { IfOk result (λ q. q ≡ record p { hyper = stack.now.base; blocks = q.blocks }) }
-    ensures rounds { IfOk result (λ q. LogsDescent stack.now.base stack.now.maps p.k p.limit workers start p.blocks
-        q.blocks log.old log.new) }
+    ensures base { IfOk result (λ r. r.0 ≡ stack.base) }
+    ensures maps { IfOk result (λ r. r.1 ≡ stack.maps) }
+    ensures partition { IfOk result (λ r. r.2 ≡ record p { hyper = stack.base; blocks = r.2.blocks }) }
+    ensures rounds { IfOk result (λ r. LogsDescent stack.base stack.maps p.k p.limit workers start p.blocks
+        r.2.blocks log.old log.new) }
 {
-    let coarse = stack.level(start);
+    let mut levels = stack.down_from(start);
+    let coarse = levels.level();
     let mut reached = p.cost(coarse);
     reached = sync_level(rt, alloc, coarse, &mut p, reached, start, workers, log)?;
     for above in 0..start {
         let level = start - 1 - above;
-        let fine = stack.level(level);
+        levels.descend();
+        let fine = levels.level();
         let _vertices = fine.vertices();
-        p = p.project_with(rt, alloc, fine, stack.map(level), workers)?;
+        p = p.project_with(rt, alloc, fine, levels.map(), workers)?;
         reached = sync_level(rt, alloc, fine, &mut p, reached, level, workers, log)?;
     }
-    Ok(p)
+    let (base, maps) = levels.into_base();
+    Ok((base, maps, p))
 }
 
-/// Copies of the clusterings of a stack.
-fn maps_of(alloc: Global, stack: &LevelStack) -> Result<MapStack, NoMemory>
-    ensures { IfOk result (λ maps. maps ≡ stack.now.maps) }
-{
-    let mut maps = MapStack::new(alloc);
-    for level in 0..stack.depth() - 1 {
-        maps.push(Items::from_vec(Vec::from_slice(alloc, stack.map(level))?))?;
-    }
-    Ok(maps)
-}
-
-/// The descent of the deterministic mode, with 1 to 64 workers: the partition of the file before it is
-/// compared with the greedy one, and the trace so far.
+/// The descent of the deterministic mode, with 1 to 64 workers: the file's hypergraph, its partition
+/// before it is compared with the greedy one, and the trace so far.
 ///
 /// The stack and the stop are those of [`det_levels`](crate::det_levels) for this `k`, from 2 to 256,
 /// each level suits it, and the file is fixed to these blocks alone. The descent begins with the best
@@ -104,44 +100,44 @@ fn maps_of(alloc: Global, stack: &LevelStack) -> Result<MapStack, NoMemory>
 pub fn det_descend<R: Threads + Sync>(
     rt: &R,
     alloc: Global,
-    stack: &LevelStack,
+    stack: LevelStack,
     stop: Stop,
     k: u32,
     limit: u64,
     seed: u64,
     workers: u32,
-) -> Result<(Partition, Trace), PlaceEnd>
+) -> Result<(Hypergraph, Partition, Trace), PlaceEnd>
     requires blocks { 2 ≤ k }
     requires few_blocks { k ≤ 256 }
-    requires levels { AreDetLevels stack.now.base k stack.now.maps stop }
-    requires suits { (i : ℕ) → i ≤ length stack.now.maps → Suits (level stack.now.base stack.now.maps i) k }
-    requires fixed { IsFixedWithin stack.now.base k }
+    requires levels { AreDetLevels stack.base k stack.maps stop }
+    requires suits { (i : ℕ) → i ≤ length stack.maps → Suits (level stack.base stack.maps i) k }
+    requires fixed { IsFixedWithin stack.base k }
     requires some { 1 ≤ workers }
     requires few { workers ≤ 64 }
-    ensures partition { IfOk result (λ pair. pair.0 ≡ record {
-      hyper = stack.now.base;
+    ensures hypergraph { IfOk result (λ r. r.0 ≡ stack.base) }
+    ensures partition { IfOk result (λ r. r.1 ≡ record {
+      hyper = stack.base;
       k = k;
       limit = limit;
-      blocks = pair.1.last;
+      blocks = r.2.last;
     }) }
-    ensures trace { IfOk result (λ pair. IsDetDescent stack.now.base k limit seed workers stack.now.maps stop pair.1) }
-    ensures function { IfOk result (λ pair. det_last stack.now.base k limit seed ≡ Some pair.1.last) }
-    ensures sound { IfOk result (λ pair. IsSound stack.now.base k limit pair.1.last) }
-    ensures none { result ≡ Err PlaceEnd.NoneFits → (i : ℕ) → i ≤ length stack.now.maps → NoneFitsAt stack.now.base
-        stack.now.maps k limit seed i }
+    ensures trace { IfOk result (λ r. IsDetDescent stack.base k limit seed workers stack.maps stop r.2) }
+    ensures function { IfOk result (λ r. det_last stack.base k limit seed ≡ Some r.2.last) }
+    ensures sound { IfOk result (λ r. IsSound stack.base k limit r.2.last) }
+    ensures none { result ≡ Err PlaceEnd.NoneFits → (i : ℕ) → i ≤ length stack.maps → NoneFitsAt stack.base
+        stack.maps k limit seed i }
 {
     let file = stack.level(0);
     let _vertices = file.vertices();
-    let (start, first) = first_placed(rt, alloc, stack, k, limit, seed)?;
+    let (start, first) = first_placed(rt, alloc, &stack, k, limit, seed)?;
     let blocks = first.copy()?;
     let level = stack.level(start);
     let placed = Partition::of(alloc, level, k, limit, blocks)?;
     let mut rounds = RoundList::new(alloc);
-    let p = sync_down(rt, alloc, stack, start, placed, workers, &mut rounds)?;
+    let (base, maps, p) = sync_down(rt, alloc, stack, start, placed, workers, &mut rounds)?;
     let reached = p.blocks();
     let copied = Vec::from_slice(alloc, reached)?;
     let last = Items::from_vec(copied);
-    let maps = maps_of(alloc, stack)?;
     let trace = Trace {
         maps,
         stop,
@@ -151,5 +147,5 @@ pub fn det_descend<R: Threads + Sync>(
         last,
         chosen: Chosen::Levels,
     };
-    Ok((p, trace))
+    Ok((base, p, trace))
 }

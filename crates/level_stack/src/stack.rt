@@ -6,6 +6,7 @@ ghost use Rattle.hg_defs.specs.Clustering.{cluster_count};
 ghost use Rattle.hg_defs.specs.Levels.{level, coarsest, map_of};
 ghost use Rattle.level_stack.specs.Stack.{ledger_of, LeadsUp};
 
+use crate::down::LevelsDown;
 use contract_nets::MergeLedger;
 use hg_base::{MapList, MapStack, NoMemory};
 use incidence::Hypergraph;
@@ -116,6 +117,21 @@ impl LevelStack {
             (level self.now.base self.now.maps (suc i)) result.now }
     {
         &self.ledgers[i as usize]
+    }
+
+    /// Begins a descent on the level of a number. The levels above it are dropped, and the ledgers.
+    pub fn down_from(self, i: u32) -> LevelsDown
+        requires { i ≤ length self.maps }
+        ensures { result ≡ record { base = self.base; maps = self.maps; number = i } }
+    {
+        let LevelStack {
+            base,
+            mut above,
+            maps,
+            ledgers: _,
+        } = self;
+        above.truncate(i as usize);
+        LevelsDown::begin(base, above, maps)
     }
 
     /// Gives the finest level and drops the others.

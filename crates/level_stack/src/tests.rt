@@ -104,6 +104,14 @@ fn three_levels(rt: HostRuntime) -> Result<(), Fail> {
     let top = stack.top();
     assert_eq!(rt; top.nets(), 1);
     assert_eq!(rt; (top.net_weight(0), top.vertex_weight(1)), (10, 5));
+    let mut levels = stack.down_from(1);
+    assert_eq!(rt; (levels.level().vertices(), levels.map().len()), (3, 3));
+    levels.descend();
+    assert_eq!(rt; (levels.level().vertices(), levels.map().len()), (7, 7));
+    let (base, maps) = levels.into_base();
+    assert_eq!(rt; (base.vertices(), base.nets(), maps.len()), (7, 4, 2));
+    let mut stack = LevelStack::start(rt.alloc(), base)?;
+    climb(&rt, rt.alloc(), &mut stack, &[0, 0, 0, 1, 1, 1, 1], 2)?;
     let base = stack.base();
     assert_eq!(rt; (base.vertices(), base.nets()), (7, 4));
     Ok(())

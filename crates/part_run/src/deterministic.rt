@@ -26,26 +26,27 @@ use uncoarsen::settle_best;
 fn synchronize<H: Threads + Sync>(
     rt: &H,
     alloc: Global,
-    stack: &LevelStack,
+    stack: LevelStack,
     stop: Stop,
     job: &Job,
     limit: u64,
-) -> Result<(Partition, Trace), NoMemory>
+) -> Result<(Hypergraph, Partition, Trace), NoMemory>
     requires job { IsJob job.now }
-    requires sound { IsHypergraph stack.now.base }
-    requires levels { AreDetLevels stack.now.base job.now.k stack.now.maps stop }
-    requires suits { (i : ℕ) → i ≤ length stack.now.maps → Suits (level stack.now.base stack.now.maps i) job.now.k }
-    requires fixed { IsFixedWithin stack.now.base job.now.k }
-    requires placed { placement.overfills stack.now.base job.now.k limit ≡ None }
-    ensures partition { IfOk result (λ pair. pair.0 ≡ record {
-      hyper = stack.now.base;
+    requires sound { IsHypergraph stack.base }
+    requires levels { AreDetLevels stack.base job.now.k stack.maps stop }
+    requires suits { (i : ℕ) → i ≤ length stack.maps → Suits (level stack.base stack.maps i) job.now.k }
+    requires fixed { IsFixedWithin stack.base job.now.k }
+    requires placed { placement.overfills stack.base job.now.k limit ≡ None }
+    ensures hypergraph { IfOk result (λ r. r.0 ≡ stack.base) }
+    ensures partition { IfOk result (λ r. r.1 ≡ record {
+      hyper = stack.base;
       k = job.now.k;
       limit = limit;
-      blocks = pair.1.last;
+      blocks = r.2.last;
     }) }
-    ensures trace { IfOk result (λ pair. IsDetDescent stack.now.base job.now.k limit job.now.seed job.now.workers
-        stack.now.maps stop pair.1) }
-    ensures sound { IfOk result (λ pair. IsSound stack.now.base job.now.k limit pair.1.last) }
+    ensures trace { IfOk result (λ r. IsDetDescent stack.base job.now.k limit job.now.seed job.now.workers
+        stack.maps stop r.2) }
+    ensures sound { IfOk result (λ r. IsSound stack.base job.now.k limit r.2.last) }
 {
     match det_descend(rt, alloc, stack, stop, job.k, limit, job.seed, job.workers) {
         Ok(reached) => Ok(reached),
@@ -72,8 +73,7 @@ pub(crate) fn run_determined<H: Threads + Sync>(
     ensures { IfOk result (IsReached Deterministic [] job.now h) }
 {
     let (stack, stop) = det_levels(rt, alloc, h, job.k)?;
-    let (last, mut trace) = synchronize(rt, alloc, &stack, stop, job, limit)?;
-    let h = stack.base();
+    let (h, last, mut trace) = synchronize(rt, alloc, stack, stop, job, limit)?;
     let best = settle_best(rt, alloc, &h, last, placed, job.workers, &mut trace)?;
     Ok(Reached {
         h,

@@ -86,10 +86,10 @@ fn run_descent<H: Threads + Sync>(
     let _vertices = h.vertices();
     let (stack, stop) = coarsen(rt, alloc, h, job.k, job.workers, job.seed, &OpenGate)?;
     let start = begin(rt, alloc, &stack, job.k, limit, job.seed)?;
-    let (last, mut trace) = uncoarsen(
+    let (h, last, mut trace) = uncoarsen(
         rt,
         alloc,
-        &stack,
+        stack,
         stop,
         start,
         job.k,
@@ -98,7 +98,6 @@ fn run_descent<H: Threads + Sync>(
         job.seed,
         refiners,
     )?;
-    let h = stack.base();
     let best = settle_best(rt, alloc, &h, last, placed, job.workers, &mut trace)?;
     Ok((h, best, trace))
 }

@@ -6,7 +6,7 @@ use Rattle.std.proofs.lemmas.List.Elements.{All-map}
 use Rattle.hg_defs.specs.Sums.{total}
 use Rattle.hg_defs.specs.Hypergraph.{Hyper, IsHypergraph, IsWithinLimits}
 use Rattle.hg_defs.specs.Cost.{cost}
-use Rattle.hg_defs.specs.Contraction.{contract, after}
+use Rattle.hg_defs.specs.Contraction.{contract, after, IsFull, IsApart}
 use Rattle.hg_defs.specs.ContractionLaws.{IsContractible}
 use Rattle.hg_defs.specs.Clustering.{cluster_count}
 use Rattle.hg_defs.specs.Levels.{level, map_of}
@@ -22,7 +22,8 @@ use Rattle.round_log.specs.Trace.{IsDescent, Refined}
 use Rattle.round_log.specs.TraceLaws.{IsSound}
 use Rattle.round_log.proofs.PassLaws.{rounds-save}
 use Rattle.round_log.proofs.DescentLaws.{Leaves}
-use Rattle.level_stack.specs.Stack.{Stack, LeadsUp, ledger_of}
+use Rattle.level_stack.specs.Stack.{Stack}
+use Rattle.level_stack.proofs.DownLaws.{StepsDown}
 use Rattle.refiner.specs.declared.pass.Tally.{Tally}
 use Rattle.uncoarsen.specs.Start.{level_of}
 use Rattle.uncoarsen.specs.Refined.{IsRefinedBy, rounds_of, tallies_with}
@@ -47,8 +48,8 @@ descends_first refined h maps (suc i) p here reached later q s below = (here, la
 
 -- ---- projections
 
-module _ (s : Stack) (k l i : ℕ) (low : i < length s.maps)
-    (leads : LeadsUp (level_of s i) (map_of s.maps i) (level_of s (suc i)) (ledger_of s i))
+module _ (s : Stack) (k l i : ℕ) (low : i < length s.maps) (full : IsFull (level_of s i) (map_of s.maps i) (cluster_count (map_of s.maps i)))
+    (apart : IsApart (level_of s i) (map_of s.maps i))
   where
     next : level_of s (suc i) ≡ contract (level_of s i) (map_of s.maps i) (cluster_count (map_of s.maps i))
     next = level_is_contraction s.base s.maps i low
@@ -59,7 +60,7 @@ module _ (s : Stack) (k l i : ℕ) (low : i < length s.maps)
         subst (λ (n : ℕ). All (λ (v : ℕ). v < n) (map_of s.maps i))
         (sym (ap (λ (h : Hyper). length h.weights) next
         ∙ vertices_of_contraction (level_of s i) (map_of s.maps i) (cluster_count (map_of s.maps i))))
-        leads.full.below
+        full.below
 
     -- a sound partition is projected to a sound one, which costs as much
     pub projected_sound : IsHypergraph (level_of s i) → (q : List ℕ) → IsSound (level_of s (suc i)) k l q
@@ -67,14 +68,14 @@ module _ (s : Stack) (k l i : ℕ) (low : i < length s.maps)
     projected_sound sound q o = (
       record {
         partition = partition_projected (level_of s i) (map_of s.maps i) (cluster_count (map_of s.maps i)) k q at on.partition;
-        obeys = fixes_projected (level_of s i) (map_of s.maps i) (cluster_count (map_of s.maps i)) q at leads.apart on.obeys;
+        obeys = fixes_projected (level_of s i) (map_of s.maps i) (cluster_count (map_of s.maps i)) q at apart on.obeys;
         fits = fitting_projected (level_of s i) (map_of s.maps i) (cluster_count (map_of s.maps i)) k l q at counted on.fits;
       },
       cost_kept (level_of s i) (map_of s.maps i) (cluster_count (map_of s.maps i)) q at ∙ ap (λ (g : Hyper). cost g q) (sym next),
     )
       where
         at : IsContractible (level_of s i) (map_of s.maps i) (cluster_count (map_of s.maps i))
-        at = record { hypergraph = sound; full = leads.full }
+        at = record { hypergraph = sound; full = full }
 
         on : IsSound (contract (level_of s i) (map_of s.maps i) (cluster_count (map_of s.maps i))) k l q
         on = subst (λ (g : Hyper). IsSound g k l q) next o
@@ -244,9 +245,8 @@ module _ {B : Type 0} (run : B → Type 0) (kind : B → Kind) (tally : B → Ta
       }
 
       -- the next level below those that are done
-      module _ (above : ℕ) (low : above < number) (within : number ≤ length s.maps) (clusters : List ℕ)
-          (leads : LeadsUp (level_of s (number - 1 - above)) clusters (level_of s (suc (number - 1 - above))) (ledger_of s (number - 1 - above)))
-          (is_map : clusters ≡ map_of s.maps (number - 1 - above)) (boxes : List B) (log : List LoggedRound) (part : Parted)
+      module _ (above : ℕ) (low : above < number) (within : number ≤ length s.maps) (g : Hyper) (clusters : List ℕ)
+          (step : StepsDown s.base s.maps (number - 1 - above) g clusters) (boxes : List B) (log : List LoggedRound) (part : Parted)
           (done : Descending run kind tally s number placed k l workers logged old (number - above) (above + 1) boxes log part)
         where
           abbrev i : ℕ
@@ -258,16 +258,19 @@ module _ {B : Type 0} (run : B → Type 0) (kind : B → Kind) (tally : B → Ta
           d : Descending run kind tally s number placed k l workers logged old (suc i) (above + 1) boxes log part
           d = descending_at (number - above) (suc i) (above + 1) boxes log part (omega arith) done
 
-          leads_up : LeadsUp (level_of s i) (map_of s.maps i) (level_of s (suc i)) (ledger_of s i)
-          leads_up = subst (λ (c : List ℕ). LeadsUp (level_of s i) c (level_of s (suc i)) (ledger_of s i)) is_map leads
+          full_up : IsFull (level_of s i) (map_of s.maps i) (cluster_count (map_of s.maps i))
+          full_up = subst (λ (c : List ℕ). IsFull (level_of s i) c (cluster_count c)) step.is_map step.full
+
+          apart_up : IsApart (level_of s i) (map_of s.maps i)
+          apart_up = subst (IsApart (level_of s i)) step.is_map step.apart
 
           -- the clusterings name vertices of the partition's level
           pub descending_places : All (λ (v : ℕ). v < length part.hyper.weights) clusters
           descending_places =
               subst (λ (h : Hyper). All (λ (v : ℕ). v < length h.weights) clusters) (sym (ap (λ (x : Parted). x.hyper) d.down.part_is))
-              (subst (All (λ (v : ℕ). v < length (level_of s (suc i)).weights)) (sym is_map) (map_below s k l i on_stack leads_up))
+              (subst (All (λ (v : ℕ). v < length (level_of s (suc i)).weights)) (sym step.is_map) (map_below s k l i on_stack full_up apart_up))
 
-          module _ (g : Hyper) (same : g ≡ level_of s i) (good : IsHypergraph g) (p : Parted)
+          module _ (good : IsHypergraph g) (p : Parted)
               (p_is : p ≡ record { hyper = g; k = part.k; limit = part.limit; blocks = after part.blocks clusters })
             where
               abbrev lower : List ℕ
@@ -280,15 +283,15 @@ module _ {B : Type 0} (run : B → Type 0) (kind : B → Kind) (tally : B → Ta
                   (ap (λ (x : Parted). x.k) d.down.part_is)
                   ∙ ap (λ (n : ℕ). let r : Parted = record { hyper = g; k = k; limit = n; blocks = after part.blocks clusters } in r)
                   (ap (λ (x : Parted). x.limit) d.down.part_is)
-                  ∙ ap (λ (c : List ℕ). let r : Parted = record { hyper = g; k = k; limit = l; blocks = after part.blocks c } in r) is_map
+                  ∙ ap (λ (c : List ℕ). let r : Parted = record { hyper = g; k = k; limit = l; blocks = after part.blocks c } in r) step.is_map
 
               lower_sound : IsSound (level_of s i) k l lower × (cost (level_of s i) lower ≡ cost (level_of s (suc i)) part.blocks)
-              lower_sound = projected_sound s k l i on_stack leads_up (subst IsHypergraph same good) part.blocks d.down.sound
+              lower_sound = projected_sound s k l i on_stack full_up apart_up (subst IsHypergraph step.same good) part.blocks d.down.sound
 
               pub descending_ready : IsSound g p.k p.limit p.blocks
               descending_ready =
                   subst (λ (x : Parted). IsSound g x.k x.limit x.blocks) (sym projected_is)
-                  (subst (λ (h : Hyper). IsSound h k l lower) (sym same) lower_sound.0)
+                  (subst (λ (h : Hyper). IsSound h k l lower) (sym step.same) lower_sound.0)
 
               pub descending_more : (boxes' : List B) (log' : List LoggedRound) (q : Parted) → All run boxes' → map kind boxes' ≡ map kind boxes
                   → RefinesLevel (map kind boxes) g (record { level = i; workers = workers; seed = seed }) p (map tally boxes) (map tally boxes') log log' q
@@ -300,7 +303,7 @@ module _ {B : Type 0} (run : B → Type 0) (kind : B → Kind) (tally : B → Ta
                     down = down_more (map kind old) s number placed k l workers (map tally old) logged i (above + 1) (map tally boxes) (map tally boxes') log
                         log' part q d.down lower_sound.1
                         (leaves_level (map kind old) g (level_of s i) k l i workers seed p lower (map tally boxes) (map tally boxes') log log' q small differ
-                        same projected_is lower_sound.0
+                        step.same projected_is lower_sound.0
                         (subst (λ (ks : List Kind). RefinesLevel ks g (record { level = i; workers = workers; seed = seed }) p (map tally boxes)
                         (map tally boxes') log log' q) d.kinds refines));
                   })

@@ -9,7 +9,8 @@ ghost use Rattle.uncoarsen.specs.Passing.{RefinesDown};
 
 use crate::passes::refine_level;
 use crate::start::Start;
-use hg_base::{Blocks, MapList, MapStack, NoMemory};
+use hg_base::{Blocks, MapStack, NoMemory};
+use incidence::Hypergraph;
 use level_stack::LevelStack;
 use pin_plain::Partition;
 use refiner::{Log, Refiner, Task};
@@ -18,14 +19,15 @@ use std::alloc::Global;
 use std::thread::Threads;
 
 /// Refines a partition of a level, and its projections to all levels below: on each level each
-/// refiner makes a pass, one after the other. Answers the partition of the file, and logs the rounds.
+/// refiner makes a pass, one after the other. A level is dropped when it is left. Answers the file's
+/// hypergraph, the clusterings, and the partition of the file, and logs the rounds.
 ///
 /// There are 2 to 256 blocks and 1 to 64 workers. The refiners are of different kinds. Where there is
 /// no memory, the log has whole rounds alone.
-pub fn refine_down<R: Threads + Sync>(
+fn refine_down<R: Threads + Sync>(
     rt: &R,
     alloc: Global,
-    stack: &LevelStack,
+    stack: LevelStack,
     start: Start,
     k: u32,
     limit: u64,
@@ -33,23 +35,26 @@ pub fn refine_down<R: Threads + Sync>(
     seed: u64,
     refiners: &mut [Box<dyn Refiner>],
     log: &mut Log,
-) -> Result<Partition, NoMemory>
+) -> Result<(Hypergraph, MapStack, Partition), NoMemory>
     requires some { 2 ≤ k }
     requires few { k ≤ 256 }
-    requires levels { ArePartable stack.now k }
-    requires on_level { start.level ≤ length stack.now.maps }
-    requires start { IsSound (level_of stack.now start.level) k limit start.blocks }
+    requires levels { ArePartable stack k }
+    requires on_level { start.level ≤ length stack.maps }
+    requires start { IsSound (level_of stack start.level) k limit start.blocks }
     requires workers { (1 ≤ workers) × (workers ≤ 64) }
     requires may_run { All (λ b. may_run b) refiners.old }
     requires kinds { AllPairs (λ a b. a ≢ b) (map (λ b. kind b) refiners.old) }
     requires tallied { All (λ b. ((tally b).rounds < 2 ^ 61) × ((tally b).gain < 2 ^ 61)) refiners.old }
     ensures may_run { All (λ b. may_run b) refiners.new }
     ensures kinds { map (λ b. kind b) refiners.new ≡ map (λ b. kind b) refiners.old }
-    ensures down { IfOk result (λ q. RefinesDown (map (λ b. kind b) refiners.old) stack.now start.level start.blocks k
-        limit workers (map (λ b. tally b) refiners.old) (map (λ b. tally b) refiners.new) log.old log.new q) }
+    ensures base { IfOk result (λ r. r.0 ≡ stack.base) }
+    ensures maps { IfOk result (λ r. r.1 ≡ stack.maps) }
+    ensures down { IfOk result (λ r. RefinesDown (map (λ b. kind b) refiners.old) stack start.level start.blocks k
+        limit workers (map (λ b. tally b) refiners.old) (map (λ b. tally b) refiners.new) log.old log.new r.2) }
 {
     let Start { level: top, blocks } = start;
-    let h = stack.level(top);
+    let mut levels = stack.down_from(top);
+    let h = levels.level();
     let _vertices = h.vertices();
     let task = Task {
         level: top,
@@ -60,39 +65,30 @@ pub fn refine_down<R: Threads + Sync>(
     let mut part = refine_level(alloc, h, &task, placed, refiners, log)?;
     for above in 0..top {
         let level = top - 1 - above;
-        let h = stack.level(level);
+        levels.descend();
+        let h = levels.level();
         let _vertices = h.vertices();
         let task = Task {
             level,
             workers,
             seed,
         };
-        let projected = part.project_with(rt, alloc, h, stack.map(level), workers)?;
-        part = refine_level(alloc, h, &task, projected, refiners, log)?;
+        part = part.project_with(rt, alloc, h, levels.map(), workers)?;
+        part = refine_level(alloc, h, &task, part, refiners, log)?;
     }
-    Ok(part)
+    let (base, maps) = levels.into_base();
+    Ok((base, maps, part))
 }
 
-/// The clusterings of a stack.
-fn maps_of(alloc: Global, stack: &LevelStack) -> Result<MapStack, NoMemory>
-    ensures { IfOk result (λ maps. maps ≡ stack.now.maps) }
-{
-    let mut maps = MapStack::new(alloc);
-    for i in 0..stack.depth() - 1 {
-        maps.push(MapList::from_vec(stack.map(i).to_vec(alloc)?))?;
-    }
-    Ok(maps)
-}
-
-/// Refines a first partition down to the file, as [`refine_down`] does. Answers the partition of the
-/// file, and the trace, which has all but the end: its choice is the levels', and no sweep follows.
+/// Refines a first partition down to the file, as [`refine_down`] does. Answers the file's
+/// hypergraph, its partition, and the trace, which has all but the end: its choice is the levels', and no sweep follows.
 ///
 /// There are 2 to 256 blocks and 1 to 64 workers. The refiners are of different kinds. Each tallies
 /// the rounds of its kind.
 pub fn uncoarsen<R: Threads + Sync>(
     rt: &R,
     alloc: Global,
-    stack: &LevelStack,
+    stack: LevelStack,
     stop: Stop,
     start: Start,
     k: u32,
@@ -100,37 +96,37 @@ pub fn uncoarsen<R: Threads + Sync>(
     workers: u32,
     seed: u64,
     refiners: &mut [Box<dyn Refiner>],
-) -> Result<(Partition, Trace), NoMemory>
+) -> Result<(Hypergraph, Partition, Trace), NoMemory>
     requires some { 2 ≤ k }
     requires few { k ≤ 256 }
-    requires levels { ArePartable stack.now k }
-    requires on_level { start.level ≤ length stack.now.maps }
-    requires start { IsSound (level_of stack.now start.level) k limit start.blocks }
+    requires levels { ArePartable stack k }
+    requires on_level { start.level ≤ length stack.maps }
+    requires start { IsSound (level_of stack start.level) k limit start.blocks }
     requires workers { (1 ≤ workers) × (workers ≤ 64) }
     requires may_run { All (λ b. may_run b) refiners.old }
     requires kinds { AllPairs (λ a b. a ≢ b) (map (λ b. kind b) refiners.old) }
     requires tallied { All (λ b. ((tally b).rounds < 2 ^ 61) × ((tally b).gain < 2 ^ 61)) refiners.old }
     ensures may_run { All (λ b. may_run b) refiners.new }
     ensures kinds { map (λ b. kind b) refiners.new ≡ map (λ b. kind b) refiners.old }
-    ensures partition { IfOk result (λ r. r.0 ≡ record {
-      hyper = stack.now.base;
+    ensures hypergraph { IfOk result (λ r. r.0 ≡ stack.base) }
+    ensures partition { IfOk result (λ r. r.1 ≡ record {
+      hyper = stack.base;
       k = k;
       limit = limit;
-      blocks = r.1.last;
+      blocks = r.2.last;
     }) }
-    ensures sound { IfOk result (λ r. IsSound stack.now.base k limit r.1.last) }
-    ensures trace { IfOk result (λ r. IsRefinedDown (map (λ b. kind b) refiners.old) stack.now stop start.level
-        start.blocks k limit workers r.1) }
-    ensures tallies { IfOk result (λ r. map (λ b. tally b) refiners.new ≡ tallies_with r.1.rounds
+    ensures sound { IfOk result (λ r. IsSound stack.base k limit r.2.last) }
+    ensures trace { IfOk result (λ r. IsRefinedDown (map (λ b. kind b) refiners.old) stack stop start.level
+        start.blocks k limit workers r.2) }
+    ensures tallies { IfOk result (λ r. map (λ b. tally b) refiners.new ≡ tallies_with r.2.rounds
         (map (λ b. kind b) refiners.old) (map (λ b. tally b) refiners.old)) }
 {
     let first = start.blocks.copy()?;
     let level = start.level;
     let mut log = Log::new(alloc);
-    let part = refine_down(
+    let (base, maps, part) = refine_down(
         rt, alloc, stack, start, k, limit, workers, seed, refiners, &mut log,
     )?;
-    let maps = maps_of(alloc, stack)?;
     let last = Blocks::from_vec(part.blocks().to_vec(alloc)?);
     let trace = Trace {
         maps,
@@ -141,5 +137,5 @@ pub fn uncoarsen<R: Threads + Sync>(
         last,
         chosen: Chosen::Levels,
     };
-    Ok((part, trace))
+    Ok((base, part, trace))
 }

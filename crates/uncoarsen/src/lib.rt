@@ -8,7 +8,7 @@ mod passes;
 mod settling;
 mod start;
 
-pub use descent::{refine_down, uncoarsen};
+pub use descent::uncoarsen;
 pub use settling::settle_best;
 pub use start::{Start, descend};
 

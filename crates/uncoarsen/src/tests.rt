@@ -203,10 +203,10 @@ fn calls_the_box_on_the_level(rt: HostRuntime) -> Result<(), Fail> {
             calls: Arc::try_clone(&calls)?,
         },
     )?];
-    let (part, trace) = uncoarsen(
+    let (file, part, trace) = uncoarsen(
         &rt,
         alloc,
-        &stack,
+        stack,
         Stop::Small,
         start,
         2,
@@ -216,7 +216,7 @@ fn calls_the_box_on_the_level(rt: HostRuntime) -> Result<(), Fail> {
         &mut refiners,
     )?;
     assert_eq!(rt; calls.load(SeqCst), 1);
-    assert_eq!(rt; part.cost(stack.level(0)), 0);
+    assert_eq!(rt; part.cost(&file), 0);
     assert_eq!(rt;
         (trace.maps.len(), trace.start, trace.rounds.len()),
         (0, 0, 0)

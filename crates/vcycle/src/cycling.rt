@@ -79,10 +79,9 @@ pub fn cycle<R: Threads + Sync, G: Gate>(
 {
     let _blocks = p.blocks();
     let (stack, stop, start) = climb(rt, alloc, h, k, p.into_blocks(), workers, seed, gate)?;
-    let (mut last, mut trace) = uncoarsen(
-        rt, alloc, &stack, stop, start, k, limit, workers, seed, refiners,
+    let (h, mut last, mut trace) = uncoarsen(
+        rt, alloc, stack, stop, start, k, limit, workers, seed, refiners,
     )?;
-    let h = stack.base();
     last.settle_with(rt, alloc, &h, workers, &mut trace.rounds)?;
     Ok((h, last, trace))
 }

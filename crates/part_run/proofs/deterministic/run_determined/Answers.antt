@@ -41,19 +41,19 @@ pub settle_best-requires-clause-fits : goal.settle_best-requires-clause-fits
 settle_best-requires-clause-fits g c κs within =
     let s = c.in_ok-stack.stack in
     let j = c.args.job.now in
-    let last = c.in_ok-last.last in
-    let sound = c.in_ok-last.ensures.sound in
-    fits_over s.base c.base-h.result j.k last.k c.args.limit last.limit last.blocks c.base-h.ensures
-    (ap (λ (x : Parted). x.k) c.in_ok-last.ensures.partition) (ap (λ (x : Parted). x.limit) c.in_ok-last.ensures.partition)
-    (subst (λ (bs : List ℕ). Fits s.base j.k c.args.limit bs) (sym (ap (λ (x : Parted). x.blocks) c.in_ok-last.ensures.partition)) sound.fits)
+    let last = c.in_ok-h.last in
+    let sound = c.in_ok-h.ensures.sound in
+    fits_over s.base c.in_ok-h.h j.k last.k c.args.limit last.limit last.blocks c.in_ok-h.ensures.hypergraph
+    (ap (λ (x : Parted). x.k) c.in_ok-h.ensures.partition) (ap (λ (x : Parted). x.limit) c.in_ok-h.ensures.partition)
+    (subst (λ (bs : List ℕ). Fits s.base j.k c.args.limit bs) (sym (ap (λ (x : Parted). x.blocks) c.in_ok-h.ensures.partition)) sound.fits)
 
 pub settle_best-requires-clause-greedy_fits : goal.settle_best-requires-clause-greedy_fits
 settle_best-requires-clause-greedy_fits g c κs within =
     let h = c.args.h in
     let j = c.args.job.now in
-    let last = c.in_ok-last.last in
-    fits_over h c.base-h.result j.k last.k (limit_of h j) last.limit c.args.placed (c.base-h.ensures ∙ c.in_ok-stack.ensures.base)
-    (ap (λ (x : Parted). x.k) c.in_ok-last.ensures.partition) (ap (λ (x : Parted). x.limit) c.in_ok-last.ensures.partition ∙ c.requires.limit)
+    let last = c.in_ok-h.last in
+    fits_over h c.in_ok-h.h j.k last.k (limit_of h j) last.limit c.args.placed (c.in_ok-h.ensures.hypergraph ∙ c.in_ok-stack.ensures.base)
+    (ap (λ (x : Parted). x.k) c.in_ok-h.ensures.partition) (ap (λ (x : Parted). x.limit) c.in_ok-h.ensures.partition ∙ c.requires.limit)
     (let placed : IsSound h j.k (limit_of h j) c.args.placed =
     rw c.requires.placed (greedy_sound h j.k (limit_of h j) c.requires.ready) in placed.fits)
 
@@ -62,20 +62,20 @@ returns g c =
     let h = c.args.h in
     let j = c.args.job.now in
     let s = c.in_ok-stack.stack in
-    let last = c.in_ok-last.last in
+    let last = c.in_ok-h.last in
     let best = c.in_ok-best.best in
     let base = c.in_ok-stack.ensures.base in
     let trace = c.settle_best.new.trace in
     let alone : IsDeterminedRun j h trace [] best.blocks =
-    determined j h c.requires.ready s c.in_ok-stack.stop c.base-h.result c.args.limit last.k last.limit c.in_ok-last.trace trace best.blocks
-    c.requires.job.working c.requires.limit base c.base-h.ensures (ap (λ (x : Parted). x.k) c.in_ok-last.ensures.partition)
-    (ap (λ (x : Parted). x.limit) c.in_ok-last.ensures.partition) c.in_ok-stack.ensures.levels c.in_ok-last.ensures.trace c.in_ok-best.ensures.trace in
+    determined j h c.requires.ready s c.in_ok-stack.stop c.in_ok-h.h c.args.limit last.k last.limit c.in_ok-h.trace trace best.blocks
+    c.requires.job.working c.requires.limit base c.in_ok-h.ensures.hypergraph (ap (λ (x : Parted). x.k) c.in_ok-h.ensures.partition)
+    (ap (λ (x : Parted). x.limit) c.in_ok-h.ensures.partition) c.in_ok-stack.ensures.levels c.in_ok-h.ensures.trace c.in_ok-best.ensures.trace in
     let led = subst (λ (cs : List Trace). IsDeterminedRun j h trace cs best.blocks) (sym c.new.ensures) alone in
     record {
-      hypergraph = c.base-h.ensures ∙ base;
+      hypergraph = c.in_ok-h.ensures.hypergraph ∙ base;
       partition =
           parted_told best h s.base j.k c.args.limit (limit_of h j) base c.requires.limit
-          (parted_from best last s.base j.k c.args.limit c.in_ok-last.trace.last c.in_ok-best.ensures.partition c.in_ok-last.ensures.partition);
+          (parted_from best last s.base j.k c.args.limit c.in_ok-h.trace.last c.in_ok-best.ensures.partition c.in_ok-h.ensures.partition);
       good = determined_good j h c.requires.ready trace _ best.blocks led;
       led = led;
     }

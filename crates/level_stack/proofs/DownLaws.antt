@@ -1,0 +1,68 @@
+-- Laws of descents over the levels of a stack.
+use Rattle.std.proofs.Common.{◌≡◌, ℕ, ◌+◌, ◌-◌, ◌<◌, ◌≤◌, List, length, take, ap, subst, ◌∙◌, arith}
+use Rattle.std.proofs.lemmas.List.{get_or-take, length-take}
+use Rattle.hg_defs.specs.Hypergraph.{Hyper}
+use Rattle.hg_defs.specs.Contraction.{IsFull, IsApart}
+use Rattle.hg_defs.specs.Clustering.{cluster_count}
+use Rattle.hg_defs.specs.Levels.{level, map_of}
+use Rattle.level_stack.specs.Stack.{Stack, IsStacked}
+use Rattle.level_stack.specs.Down.{Down, IsDown}
+
+-- the levels of a stack
+pub stacked_is_down : (s : Stack) (above : List Hyper) → IsStacked s above → IsDown s.base s.maps above
+stacked_is_down s above o = record {
+  within = let n = o.levels in omega arith;
+  at = λ i h l. let n = o.levels in o.at i h (omega arith);
+  full = λ i l. (o.leads i l).full;
+  apart = λ i l. (o.leads i l).apart;
+}
+
+-- the lowest of them
+pub IsDown-take : (base : Hyper) (maps : List (List ℕ)) (above : List Hyper) (n : ℕ) → IsDown base maps above → IsDown base maps (take n above)
+IsDown-take base maps above n d = record {
+  within = let short = length-take n above in let o = d.within in omega arith;
+  at = λ i h l. let short = length-take n above in get_or-take n above i h (omega arith) ∙ d.at i h (omega arith);
+  full = d.full;
+  apart = d.apart;
+}
+
+-- ---- a descent from the level of a number, one level after the other
+
+module _ (base : Hyper) (maps : List (List ℕ)) where
+  -- the level that it is on
+  pub level_there : (d : Down) (n : ℕ) (g : Hyper) → d ≡ record { base = base; maps = maps; number = n } → g ≡ level d.base d.maps d.number
+      → g ≡ level base maps n
+  level_there d n g on same = same ∙ ap (λ (x : Down). level x.base x.maps x.number) on
+
+  -- that level, and the clustering that leads up from it
+  pub record StepsDown (i : ℕ) (g : Hyper) (clusters : List ℕ) : Type 0 where
+    pub same : g ≡ level base maps i
+    pub is_map : clusters ≡ map_of maps i
+    pub full : IsFull (level base maps i) clusters (cluster_count clusters)
+    pub apart : IsApart (level base maps i) clusters
+
+  module _ (number above : ℕ) (old new : Down) (low : above < number) (on : old ≡ record { base = base; maps = maps; number = number - above })
+      (went : new ≡ record old { number = old.number - 1 })
+    where
+    went_to : (n : ℕ) → number - above - 1 ≡ n → new ≡ record { base = base; maps = maps; number = n }
+    went_to n same =
+        went
+        ∙ ap (λ (x : Down). let y : Down = record x { number = x.number - 1 } in y) on
+        ∙ ap (λ (m : ℕ). let y : Down = record { base = base; maps = maps; number = m } in y) same
+
+    -- it went a level down
+    pub went_down : new ≡ record { base = base; maps = maps; number = number - (above + 1) }
+    went_down = went_to (number - (above + 1)) (omega arith)
+
+    pub steps_down : (g : Hyper) (clusters : List ℕ) → g ≡ level new.base new.maps new.number → clusters ≡ map_of new.maps new.number
+        → IsFull (level new.base new.maps new.number) clusters (cluster_count clusters) → IsApart (level new.base new.maps new.number) clusters
+        → StepsDown (number - 1 - above) g clusters
+    steps_down g clusters same is_map full apart = record {
+      same = level_there new (number - 1 - above) g there same;
+      is_map = is_map ∙ ap (λ (x : Down). map_of x.maps x.number) there;
+      full = subst (λ (x : Down). IsFull (level x.base x.maps x.number) clusters (cluster_count clusters)) there full;
+      apart = subst (λ (x : Down). IsApart (level x.base x.maps x.number) clusters) there apart;
+    }
+      where
+        there : new ≡ record { base = base; maps = maps; number = number - 1 - above }
+        there = went_to (number - 1 - above) (omega arith)
