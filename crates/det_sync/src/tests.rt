@@ -124,7 +124,9 @@ fn descended<R: Threads + Sync + Abort>(
     assert_eq!(rt; (stack.depth(), stack.top().vertices()), (2, 150));
     assert!(rt; matches!(stop, Stop::Small));
     assert!(rt; all_suit(&stack, 8));
-    let (_, p, trace) = det_descend(rt, alloc, stack, stop, 8, 40, 1, workers).expect(rt, "one fits");
+    let (_, p, trace) = det_descend(rt, alloc, stack, stop, 8, 40, 1, workers).expect(
+        rt, "one fits",
+    );
     assert_eq!(rt; trace.start, 1);
     assert!(rt; p.fits());
     Ok(p)

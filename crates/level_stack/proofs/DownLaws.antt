@@ -44,25 +44,25 @@ module _ (base : Hyper) (maps : List (List ℕ)) where
   module _ (number above : ℕ) (old new : Down) (low : above < number) (on : old ≡ record { base = base; maps = maps; number = number - above })
       (went : new ≡ record old { number = old.number - 1 })
     where
-    went_to : (n : ℕ) → number - above - 1 ≡ n → new ≡ record { base = base; maps = maps; number = n }
-    went_to n same =
-        went
-        ∙ ap (λ (x : Down). let y : Down = record x { number = x.number - 1 } in y) on
-        ∙ ap (λ (m : ℕ). let y : Down = record { base = base; maps = maps; number = m } in y) same
+      went_to : (n : ℕ) → number - above - 1 ≡ n → new ≡ record { base = base; maps = maps; number = n }
+      went_to n same =
+          went
+          ∙ ap (λ (x : Down). let y : Down = record x { number = x.number - 1 } in y) on
+          ∙ ap (λ (m : ℕ). let y : Down = record { base = base; maps = maps; number = m } in y) same
 
-    -- it went a level down
-    pub went_down : new ≡ record { base = base; maps = maps; number = number - (above + 1) }
-    went_down = went_to (number - (above + 1)) (omega arith)
+      -- it went a level down
+      pub went_down : new ≡ record { base = base; maps = maps; number = number - (above + 1) }
+      went_down = went_to (number - (above + 1)) (omega arith)
 
-    pub steps_down : (g : Hyper) (clusters : List ℕ) → g ≡ level new.base new.maps new.number → clusters ≡ map_of new.maps new.number
-        → IsFull (level new.base new.maps new.number) clusters (cluster_count clusters) → IsApart (level new.base new.maps new.number) clusters
-        → StepsDown (number - 1 - above) g clusters
-    steps_down g clusters same is_map full apart = record {
-      same = level_there new (number - 1 - above) g there same;
-      is_map = is_map ∙ ap (λ (x : Down). map_of x.maps x.number) there;
-      full = subst (λ (x : Down). IsFull (level x.base x.maps x.number) clusters (cluster_count clusters)) there full;
-      apart = subst (λ (x : Down). IsApart (level x.base x.maps x.number) clusters) there apart;
-    }
-      where
-        there : new ≡ record { base = base; maps = maps; number = number - 1 - above }
-        there = went_to (number - 1 - above) (omega arith)
+      pub steps_down : (g : Hyper) (clusters : List ℕ) → g ≡ level new.base new.maps new.number → clusters ≡ map_of new.maps new.number
+          → IsFull (level new.base new.maps new.number) clusters (cluster_count clusters) → IsApart (level new.base new.maps new.number) clusters
+          → StepsDown (number - 1 - above) g clusters
+      steps_down g clusters same is_map full apart = record {
+        same = level_there new (number - 1 - above) g there same;
+        is_map = is_map ∙ ap (λ (x : Down). map_of x.maps x.number) there;
+        full = subst (λ (x : Down). IsFull (level x.base x.maps x.number) clusters (cluster_count clusters)) there full;
+        apart = subst (λ (x : Down). IsApart (level x.base x.maps x.number) clusters) there apart;
+      }
+        where
+          there : new ≡ record { base = base; maps = maps; number = number - 1 - above }
+          there = went_to (number - 1 - above) (omega arith)

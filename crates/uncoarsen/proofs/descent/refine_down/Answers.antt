@@ -10,16 +10,15 @@ use Rattle.uncoarsen.proofs.descent.refine_down.Goals as goal
 pub loop-above-init : goal.loop-above-init
 loop-above-init g c =
     let top = c.args.start.level in
-    let same : top ≡ top - 0 = omega arith in
-    (
+    let same : top ≡ top - 0 = omega arith in (
       c.down_from-levels.ensures ∙ ap (λ (n : ℕ). let d : Down = record { base = c.args.stack.base; maps = c.args.stack.maps; number = n } in d) same,
       descending_at _ _ _ c.args.stack top c.args.start.blocks c.args.k c.args.limit c.args.workers c.args.seed c.args.log.now c.args.refiners.now top
-      (top - 0) 1 _ _ _ same
-      (descending_begin _ _ _ c.args.stack top c.args.start.blocks c.args.k c.args.limit c.args.workers c.args.seed c.args.log.now
-      c.args.refiners.now c.requires.few c.requires.kinds c.level-h.result.now
-      (level_there c.args.stack.base c.args.stack.maps c.down_from-levels.result top c.level-h.result.now c.down_from-levels.ensures c.level-h.ensures)
-      c.in_ok-placed.placed c.in_ok-placed.ensures
-      c.requires.start _ _ _ c.refine_level.ensures.may_run c.refine_level.ensures.kinds c.in_ok-part.ensures.level),
+          (top - 0) 1 _ _ _ same
+          (descending_begin _ _ _ c.args.stack top c.args.start.blocks c.args.k c.args.limit c.args.workers c.args.seed c.args.log.now
+          c.args.refiners.now c.requires.few c.requires.kinds c.level-h.result.now
+          (level_there c.args.stack.base c.args.stack.maps c.down_from-levels.result top c.level-h.result.now c.down_from-levels.ensures c.level-h.ensures)
+          c.in_ok-placed.placed c.in_ok-placed.ensures
+          c.requires.start _ _ _ c.refine_level.ensures.may_run c.refine_level.ensures.kinds c.in_ok-part.ensures.level),
     )
 
 pub project_with-requires-clause-places : goal.project_with-requires-clause-places
@@ -75,16 +74,15 @@ refine_level-requires-in-loop-above-clause-tallied g c =
 pub loop-above-preserved : goal.loop-above-preserved
 loop-above-preserved g c =
     let level = c.requires.on_level in
-    let less = c.loop-above-test.true in
-    (
+    let less = c.loop-above-test.true in (
       went_down c.args.stack.base c.args.stack.maps c.args.start.level c.loop-above.above _ _ less c.loop-above.invariant.0 c.descend.ensures,
       descending_more _ _ _ c.args.stack c.args.start.level c.args.start.blocks c.args.k c.args.limit c.args.workers c.args.seed c.args.log.now
-      c.args.refiners.now c.requires.few c.requires.kinds c.loop-above.above less level _ _
-      (steps_down c.args.stack.base c.args.stack.maps c.args.start.level c.loop-above.above _ _ less c.loop-above.invariant.0 c.descend.ensures
-      _ _ c.level-h-in-loop-above.ensures c.map.ensures.value c.map.ensures.full c.map.ensures.apart)
-      c.loop-above.refiners c.loop-above.log c.loop-above.part c.loop-above.invariant.1 c.vertices-vertices-in-loop-above.ensures.sound
-      c.in_ok-part-2.part c.in_ok-part-2.ensures.value c.refine_level-in-loop-above.new.refiners c.refine_level-in-loop-above.new.log
-      c.in_ok-part-3.part c.refine_level-in-loop-above.ensures.may_run c.refine_level-in-loop-above.ensures.kinds c.in_ok-part-3.ensures.level,
+          c.args.refiners.now c.requires.few c.requires.kinds c.loop-above.above less level _ _
+          (steps_down c.args.stack.base c.args.stack.maps c.args.start.level c.loop-above.above _ _ less c.loop-above.invariant.0 c.descend.ensures
+          _ _ c.level-h-in-loop-above.ensures c.map.ensures.value c.map.ensures.full c.map.ensures.apart)
+          c.loop-above.refiners c.loop-above.log c.loop-above.part c.loop-above.invariant.1 c.vertices-vertices-in-loop-above.ensures.sound
+          c.in_ok-part-2.part c.in_ok-part-2.ensures.value c.refine_level-in-loop-above.new.refiners c.refine_level-in-loop-above.new.log
+          c.in_ok-part-3.part c.refine_level-in-loop-above.ensures.may_run c.refine_level-in-loop-above.ensures.kinds c.in_ok-part-3.ensures.level,
     )
 
 pub returns-clause-down : goal.returns-clause-down
