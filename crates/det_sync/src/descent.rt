@@ -49,9 +49,9 @@ fn first_placed<R: Threads + Sync>(
 }
 
 /// Takes a partition of the level of a number down to the file: each level has its synchronous rounds,
-/// and between two levels the partition is projected, which leaves its cost. A level is
-/// dropped when it is left. Answers the file's hypergraph, the clusterings, and the partition of the
-/// file; the rounds are appended to the log.
+/// and between two levels the partition is projected, which leaves its cost. A level is dropped when it
+/// is left. Answers the file's hypergraph, the clusterings, and the partition of the file; the rounds
+/// are appended to the log.
 fn sync_down<R: Threads + Sync>(
     rt: &R,
     alloc: Global,
@@ -96,7 +96,7 @@ fn sync_down<R: Threads + Sync>(
 /// The stack and the stop are those of [`det_levels`](crate::det_levels) for this `k`, from 2 to 256,
 /// each level suits it, and the file is fixed to these blocks alone. The descent begins with the best
 /// named placement of the coarsest level where one fits. Neither the partition nor the moves depend on
-/// how many workers there are.
+/// how many workers there are. Where none fits, or there is no memory, the stack is dropped.
 pub fn det_descend<R: Threads + Sync>(
     rt: &R,
     alloc: Global,

@@ -80,11 +80,14 @@ fn refine_down<R: Threads + Sync>(
     Ok((base, maps, part))
 }
 
-/// Refines a first partition down to the file, as [`refine_down`] does. Answers the file's
-/// hypergraph, its partition, and the trace, which has all but the end: its choice is the levels', and no sweep follows.
+/// Refines a first partition down to the file: on each level each refiner makes a pass, one after the
+/// other, and between two levels the partition is projected. A level is dropped when it is left.
+/// Answers the file's hypergraph, its partition, and the trace, which has all but the end: its choice is
+/// the levels', and no sweep follows.
 ///
 /// There are 2 to 256 blocks and 1 to 64 workers. The refiners are of different kinds. Each tallies
-/// the rounds of its kind.
+/// the rounds of its kind. Where there is no memory, the stack is dropped, and the refiners may have
+/// been changed.
 pub fn uncoarsen<R: Threads + Sync>(
     rt: &R,
     alloc: Global,
