@@ -42,18 +42,20 @@ pub take_last : (h : Hyper) (left room i : ℕ) (vertices list start : List ℕ)
     → ((vs : List ℕ) → list ++ taken h left (drop i vertices ++ vs) ≡ start ++ taken h room (vertices ++ vs)) → TakesAll h room vertices start list left
 take_last h left room i vertices list start l all vs = ap (λ xs. list ++ taken h left (xs ++ vs)) (sym (drop_all i vertices l)) ∙ all vs
 
+-- vertices that are taken after others
+pub taken_all : (h : Hyper) (room left : ℕ) (vs start end : List ℕ) → TakesAll h room vs start end left → end ≡ start ++ taken h room vs
+taken_all h room left vs start end all = sym (append-nil end) ∙ all [] ∙ ap (λ xs. start ++ taken h room xs) (append-nil vs)
+
 -- a side: near vertices, then next ones
-pub side_taken : (h : Hyper) (l : ℕ) (p : List ℕ) (a b room left rest : ℕ) (near next start mid end : List ℕ) → near ≡ filter (is_near h p a b) (vertices h)
-    → next ≡ filter (is_next h p a b) (vertices h) → room ≡ l - load h p b → TakesAll h room near start mid left → TakesAll h left next mid end rest
+pub side_taken : (h : Hyper) (l : ℕ) (p : List ℕ) (a b room left : ℕ) (near start mid end : List ℕ) → near ≡ filter (is_near h p a b) (vertices h)
+    → room ≡ l - load h p b → TakesAll h room near start mid left → end ≡ mid ++ taken h left (filter (is_next h p a b) (vertices h))
     → end ≡ start ++ side h l p a b
-side_taken h l p a b room left rest near next start mid end e f r first second =
-    let last : end ++ [] ≡ mid ++ taken h left (next ++ []) = second [] in
-    sym (append-nil end) ∙ last ∙ ap (λ xs. mid ++ taken h left xs) (append-nil next) ∙ first next
-    ∙ ap (λ n. start ++ taken h n (near ++ next)) r ∙ ap (λ xs. start ++ taken h (l - load h p b) (xs ++ next)) e
-    ∙ ap (λ xs. start ++ taken h (l - load h p b) (filter (is_near h p a b) (vertices h) ++ xs)) f
+side_taken h l p a b room left near start mid end e r first last =
+    let next = filter (is_next h p a b) (vertices h) in
+    last ∙ first next ∙ ap (λ n. start ++ taken h n (near ++ next)) r ∙ ap (λ xs. start ++ taken h (l - load h p b) (xs ++ next)) e
 
 -- where no vertex has room, none is taken
-taken_none : (h : Hyper) (least room : ℕ) (vs : List ℕ) → WeighsAtLeast h least → room < least → All (λ v. v < vertex_count h) vs → taken h room vs ≡ []
+pub taken_none : (h : Hyper) (least room : ℕ) (vs : List ℕ) → WeighsAtLeast h least → room < least → All (λ v. v < vertex_count h) vs → taken h room vs ≡ []
 taken_none h least room [] weighs short below = refl
 taken_none h least room (v ∷ vs) weighs short below =
     by (nat_le (weight_of h v) room) (lt-leb (weight_of h v) room (let w = weighs v (All-head (λ u. u < vertex_count h) v vs below) in omega arith))

@@ -8,6 +8,7 @@ pub mod ShortArcLaws
 pub mod NetLaws
 pub mod CutNetLaws
 pub mod FormLaws
+pub mod ScanLaws
 pub mod ReassignLaws
 pub mod EndLaws
 pub mod ApartLaws

@@ -1,6 +1,6 @@
 -- The lists that a region is formed of.
-use Rattle.std.specs.Prelude.{◌≡◌, ◌<◌, ◌≤◌, ℕ, List, ◌++◌, length, filter, slice_index, Bool, ◌&&◌, nat_eq, nat_le}
-use Rattle.std.specs.List.{range_with_len}
+use Rattle.std.specs.Prelude.{◌≡◌, ◌<◌, ◌≤◌, ℕ, List, ◌++◌, length, filter, slice_index, Bool, ◌&&◌, not, nat_eq, nat_le}
+use Rattle.std.specs.List.{range_with_len, list_any}
 use Rattle.std.specs.Set.{is_member}
 use Rattle.hg_defs.specs.Hypergraph.{Hyper, vertex_count, net_count, net_of, weight_of, is_free}
 use Rattle.hg_defs.specs.Incidence.{nets_of}
@@ -26,6 +26,10 @@ is_small h e = nat_le (length (net_of h e).pins) 1000
 -- the nets of at most 1,000 pins that hold a vertex
 abbrev pub small_nets : Hyper → ℕ → List ℕ
 small_nets h v = filter (is_small h) (nets_of h v)
+
+-- a free vertex of a block on one of the small nets, which isn't near itself
+abbrev pub is_reached : Hyper → List ℕ → ℕ → List ℕ → List ℕ → ℕ → Bool
+is_reached h p a near small v = is_free_in h p a v && (list_any (is_member nat_eq small) (nets_of h v) && not (is_member nat_eq near v))
 
 -- each vertex weighs as much at least
 abbrev pub WeighsAtLeast : Hyper → ℕ → Type 0

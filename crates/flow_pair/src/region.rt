@@ -2,18 +2,19 @@
 
 ghost use Rattle.std.specs.Prelude.{◌≡◌, ◌≢◌, ℕ, ◌-◌, ◌<◌, ◌≤◌, [], ◌∷◌, ◌++◌, length, filter, not, All, IfOk, OnOk};
 ghost use Rattle.std.specs.Prelude.{nat_eq, if◌then◌else◌};
-ghost use Rattle.std.specs.List.{flat_map};
+ghost use Rattle.std.specs.List.{flat_map, list_any};
 ghost use Rattle.std.specs.List.Sorted.{IsStrictlyIncreasing};
 ghost use Rattle.std.specs.Ordering.{nat_cmp};
 ghost use Rattle.std.specs.Set.{is_member};
-ghost use Rattle.hg_defs.specs.Hypergraph.{vertex_count, net_count, net_of};
+ghost use Rattle.hg_defs.specs.Hypergraph.{vertices, vertex_count, net_count, net_of};
 ghost use Rattle.hg_defs.specs.Partition.{load, Fits};
 ghost use Rattle.hg_defs.specs.Sorting.{set_of};
-ghost use Rattle.round_log.specs.Rounds.{side, region};
+ghost use Rattle.round_log.specs.Rounds.{is_near, is_next, taken, side, region};
 ghost use Rattle.flow_pair.specs.Sides.{touching_nets, is_free_in, free_pins, is_small, small_nets};
-ghost use Rattle.flow_pair.specs.Sides.{TakesAll, WeighsAtLeast};
+ghost use Rattle.flow_pair.specs.Sides as sides;
+ghost use Rattle.flow_pair.specs.Sides.{TakesAll, WeighsAtLeast, IsNoted};
 
-use crate::distinct::{distinct, distinct_of_many, push_if};
+use crate::distinct::{distinct, distinct_of_many, is_kept, note_places, push_if};
 use crate::pair::contains;
 use flow_net::NoMemory;
 use hg_base::{FREE, Verts};
@@ -23,6 +24,9 @@ use std::alloc::Global;
 
 /// The most pins of a net through which a region grows.
 const MOST_PINS: usize = 1000;
+
+/// So many vertices are asked in the time in which a net of a near vertex and its pins are listed.
+const VERTICES_A_NET: usize = 64;
 
 /// The least weight of a vertex, or the greatest number where there is none.
 pub(crate) fn least_weight(h: &Hypergraph) -> u64
@@ -107,6 +111,18 @@ fn add_small(h: &Hypergraph, nets: &[u32], list: &mut Vec<u32>) -> Result<(), No
     Ok(())
 }
 
+/// The nets of at most 1,000 pins that hold some of the vertices, a net as often as it holds one.
+fn all_small_nets_of(alloc: Global, h: &Hypergraph, vertices: &[u32]) -> Result<Vec<u32>, NoMemory>
+    requires { All (λ v. v < vertex_count h.now) vertices.now }
+    ensures { IfOk result (λ list. list.items ≡ flat_map (small_nets h.now) vertices.now) }
+{
+    let mut list = Vec::new(alloc);
+    for v in vertices {
+        add_small(h, h.nets_of(*v), &mut list)?;
+    }
+    Ok(list)
+}
+
 /// The nets of at most 1,000 pins that hold some of the vertices.
 fn small_nets_of(
     alloc: Global,
@@ -119,10 +135,7 @@ fn small_nets_of(
     ensures size { length spots.new ≡ length spots.old }
     ensures list { IfOk result (λ list. list.items ≡ set_of nat_cmp (flat_map (small_nets h.now) vertices.now)) }
 {
-    let mut list = Vec::new(alloc);
-    for v in vertices {
-        add_small(h, h.nets_of(*v), &mut list)?;
-    }
+    let list = all_small_nets_of(alloc, h, vertices)?;
     Ok(distinct_of_many(spots, list))
 }
 
@@ -168,6 +181,143 @@ fn take_all(
     Ok(left)
 }
 
+/// Takes the vertices of a block that are next to near ones, in rising number, where there is room for them: they are
+/// listed by the pins of the small nets of the near ones.
+fn take_listed(
+    alloc: Global,
+    spots: &mut [usize],
+    h: &Hypergraph,
+    p: &Partition,
+    from: u32,
+    to: u32,
+    near: &[u32],
+    room: u64,
+    list: &mut Vec<u32>,
+) -> Result<(), NoMemory>
+    requires belongs { p.now.hyper ≡ h.now }
+    requires near { near.now ≡ filter (is_near h.now p.now.blocks from to) (vertices h.now) }
+    requires spots { (vertex_count h.now ≤ length spots.old) × (net_count h.now ≤ length spots.old) }
+    ensures size { length spots.new ≡ length spots.old }
+    ensures next { OnOk result (list.new.items ≡ list.old.items ++ taken h.now room (filter (is_next h.now p.now.blocks
+        from to) (vertices h.now))) }
+{
+    let small = small_nets_of(alloc, spots, h, near)?;
+    let reached = free_on(alloc, spots, h, p.blocks(), from, small.as_slice())?;
+    let next = without(alloc, reached.as_slice(), near)?;
+    take_all(h, next.as_slice(), room, list)?;
+    Ok(())
+}
+
+/// Whether one of some nets is in a list, each of whose nets has a spot that tells where.
+fn has_noted(list: &[u32], spots: &[usize], nets: &[u32]) -> bool
+    requires noted { All (IsNoted spots.now list.now) list.now }
+    requires spots { All (λ e. e < length spots.now) nets.now }
+    ensures { result ≡ list_any (is_member nat_eq list.now) nets.now }
+{
+    for e in nets {
+        if is_kept(list, list.len(), spots[*e as usize], *e) {
+            return true;
+        }
+    }
+    false
+}
+
+/// Whether a free vertex of a block is on one of some nets, and isn't near itself.
+fn is_reached(
+    h: &Hypergraph,
+    blocks: &[u32],
+    from: u32,
+    near: &[u32],
+    small: &[u32],
+    spots: &[usize],
+    v: u32,
+) -> bool
+    requires all { length blocks.now ≡ vertex_count h.now }
+    requires vertex { v < vertex_count h.now }
+    requires near { IsStrictlyIncreasing near.now }
+    requires noted { All (IsNoted spots.now small.now) small.now }
+    requires spots { net_count h.now ≤ length spots.now }
+    ensures { result ≡ sides.is_reached h.now blocks.now from near.now small.now v }
+{
+    may_leave(h, blocks, from, v) && has_noted(small, spots, h.nets_of(v)) && !contains(near, v)
+}
+
+/// Takes the vertices that are reached from near ones, in rising number, while there is room for the lightest vertex.
+fn take_reached(
+    h: &Hypergraph,
+    blocks: &[u32],
+    from: u32,
+    near: &[u32],
+    small: &[u32],
+    spots: &[usize],
+    room: u64,
+    least: u64,
+    list: &mut Vec<u32>,
+) -> Result<(), NoMemory>
+    requires all { length blocks.now ≡ vertex_count h.now }
+    requires near { IsStrictlyIncreasing near.now }
+    requires noted { All (IsNoted spots.now small.now) small.now }
+    requires spots { net_count h.now ≤ length spots.now }
+    requires least { WeighsAtLeast h.now least }
+    ensures { OnOk result (list.new.items ≡ list.old.items ++ taken h.now room (filter (sides.is_reached h.now
+        blocks.now from near.now small.now) (vertices h.now))) }
+{
+    let mut left = room;
+    for v in 0..h.vertices() {
+        if left < least {
+            return Ok(());
+        }
+        if h.vertex_weight(v) > left {
+            continue;
+        }
+        if !is_reached(h, blocks, from, near, small, spots, v) {
+            continue;
+        }
+        left = take(h, v, left, list)?;
+    }
+    Ok(())
+}
+
+/// Takes the vertices of a block that are next to near ones, in rising number, where there is room for them: all
+/// vertices are asked whether they are, up to the one with which the room is used up.
+fn take_scanned(
+    alloc: Global,
+    spots: &mut [usize],
+    h: &Hypergraph,
+    p: &Partition,
+    from: u32,
+    to: u32,
+    near: &[u32],
+    room: u64,
+    least: u64,
+    list: &mut Vec<u32>,
+) -> Result<(), NoMemory>
+    requires belongs { p.now.hyper ≡ h.now }
+    requires near { near.now ≡ filter (is_near h.now p.now.blocks from to) (vertices h.now) }
+    requires least { WeighsAtLeast h.now least }
+    requires spots { (vertex_count h.now ≤ length spots.old) × (net_count h.now ≤ length spots.old) }
+    ensures size { length spots.new ≡ length spots.old }
+    ensures next { OnOk result (list.new.items ≡ list.old.items ++ taken h.now room (filter (is_next h.now p.now.blocks
+        from to) (vertices h.now))) }
+{
+    let small = all_small_nets_of(alloc, h, near)?;
+    note_places(small.as_slice(), spots);
+    let small = small.as_slice();
+    take_reached(h, p.blocks(), from, near, small, spots, room, least, list)?;
+    Ok(())
+}
+
+/// Whether to ask all vertices takes no longer than to list the pins of the nets of the near ones.
+fn scan_pays(h: &Hypergraph, near: &[u32]) -> bool
+    requires { All (λ v. v < vertex_count h.now) near.now }
+{
+    let mut nets = 0usize;
+    for v in near {
+        nets = nets.saturating_add(h.nets_of(*v).len());
+    }
+    nets.saturating_mul(VERTICES_A_NET) >= h.vertices() as usize
+}
+
 /// Appends what one block may send to the other one: free vertices on the nets that touch both, and
 /// then those on small nets that hold one of these. Where there is no room for the lightest vertex, no
 /// more of them are looked for.
@@ -201,10 +351,12 @@ fn take_side(
     if left < least {
         return Ok(());
     }
-    let small = small_nets_of(alloc, spots, h, near.as_slice())?;
-    let reached = free_on(alloc, spots, h, blocks, from, small.as_slice())?;
-    let next = without(alloc, reached.as_slice(), near.as_slice())?;
-    take_all(h, next.as_slice(), left, list)?;
+    let near = near.as_slice();
+    if scan_pays(h, near) {
+        take_scanned(alloc, spots, h, p, from, to, near, left, least, list)?;
+    } else {
+        take_listed(alloc, spots, h, p, from, to, near, left, list)?;
+    }
     Ok(())
 }
 

@@ -1,4 +1,4 @@
-use Rattle.std.proofs.Common.{◌≡◌, ◌<◌, ◌∙◌, List, length, All, Result, Ok, Err, IfOk, OnOk, sym, ap, subst, arith}
+use Rattle.std.proofs.Common.{◌<◌, ◌∙◌, length, All, Result, Ok, Err, IfOk, OnOk, sym, ap, subst, arith}
 use Rattle.hg_defs.specs.declared.moves.Move.{Move}
 use Rattle.hg_defs.specs.Hypergraph.{vertex_count, IsHypergraph}
 use Rattle.hg_defs.specs.Cost.{cost}

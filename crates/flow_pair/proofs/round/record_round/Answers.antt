@@ -1,4 +1,4 @@
-use Rattle.std.proofs.Common.{◌≡◌, ◌<◌, ◌∙◌, All, Result, Ok, Err, IfOk, OnOk, sym, ap, ap₂, subst, arith}
+use Rattle.std.proofs.Common.{◌<◌, ◌∙◌, All, Result, Ok, Err, IfOk, OnOk, sym, ap, ap₂, subst, arith}
 use Rattle.std.specs.List.Sorted.{IsStrictlyIncreasing}
 use Rattle.hg_defs.specs.Hypergraph.{Hyper, vertex_count, IsHypergraph}
 use Rattle.hg_defs.specs.Partition.{IsPartition}
