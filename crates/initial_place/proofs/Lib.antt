@@ -1,4 +1,3 @@
 pub mod LeadLaws
 pub mod DrawLaws
-pub mod InnerLaws
 pub mod WorseLaws

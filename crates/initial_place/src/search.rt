@@ -1,36 +1,17 @@
 //! The search for a placement that is cheaper than the named ones.
 //!
-//! It tries candidates: a growing, recursive bisections, and perturbations of the best one. What it
-//! keeps beside a candidate only leads it, so nothing is said of it but the sizes of its arrays. A
-//! candidate is taken by exact tests alone.
+//! It tries candidates: a growing, recursive bisections, and perturbations of the best one. A candidate
+//! is taken by exact tests alone.
 
-ghost use Rattle.std.specs.Prelude.{◌≡◌, ◌+◌, ◌*◌, ◌<◌, ◌≤◌, ◌^◌, IfOk};
-ghost use Rattle.hg_defs.specs.Hypergraph.{vertex_count, IsFixedWithin, Suits};
-ghost use Rattle.hg_defs.specs.Partition.{IsPartition};
+ghost use Rattle.std.specs.Prelude.{◌≡◌, ◌≢◌, ◌<◌, ◌≤◌, IfOk, IsTrue, length};
+ghost use Rattle.hg_defs.specs.Hypergraph.{vertex_count, fix_of, IsFixedWithin, Suits};
+ghost use Rattle.hg_defs.specs.Partition.{IsPartition, Obeys, block_of};
 ghost use Rattle.initial_place.specs.NoWorse.{IsNoWorse};
-ghost use Rattle.initial_place.specs.Shapes.{Range, Shape, IsShapeOf};
 
-mod agenda;
-mod candidate;
-mod cells;
-mod division;
-mod draws;
-mod edges;
-mod frame;
-mod growing;
-mod halving;
-mod listed;
-mod moves;
-mod rest;
-mod sides;
-mod tables;
-mod tally;
-
-use candidate::{candidate, cheaper, frame_of, labels_of, thrown};
-use frame::Frame;
-use hg_base::{Blocks, NoMemory};
+use hg_base::{Blocks, FREE, NoMemory, cost_of};
 use incidence::Hypergraph;
-use rest::Rest;
+use pin_plain::Partition;
+use place_search::Candidates;
 use std::alloc::Global;
 use std::thread::{Threads, map_indices};
 
@@ -76,11 +57,67 @@ pub(crate) fn searched<R: Threads + Sync>(
     if vertices == 0 || u64::from(vertices) * u64::from(k) > MOST_CELLS {
         return Ok(best);
     }
-    let frame = frame_of(alloc, h, k)?;
-    let rest = Rest::of(alloc, h)?;
+    let candidates = Candidates::of(alloc, h, k)?;
     let tries = effort(h, k);
-    let best = best_of_tries(rt, alloc, h, k, &frame, &rest, limit, seed, tries, best)?;
-    best_of_throws(rt, alloc, h, k, &frame, &rest, limit, seed, tries, best)
+    let best = best_of_tries(rt, alloc, h, k, &candidates, limit, seed, tries, best)?;
+    best_of_throws(rt, alloc, h, k, &candidates, limit, seed, tries, best)
+}
+
+/// Whether there is one block below `k` for each vertex.
+fn is_partition(h: &Hypergraph, k: u32, blocks: &[u32]) -> bool
+    ensures { IsTrue result → IsPartition h.now k blocks.now }
+{
+    blocks.len() == h.vertices() as usize && blocks.iter().all(|b| *b < k)
+}
+
+/// Whether each vertex that is fixed is in the block of its fix.
+fn obeys(h: &Hypergraph, blocks: &[u32]) -> bool
+    requires { length blocks.now ≡ vertex_count h.now }
+    ensures { IsTrue result → Obeys h.now blocks.now }
+{
+    for v in 0..h.vertices() {
+        if !obeys_at(h, blocks, v) {
+            return false;
+        }
+    }
+    true
+}
+
+/// Whether a vertex is free, or in the block of its fix.
+fn obeys_at(h: &Hypergraph, blocks: &[u32], v: u32) -> bool
+    requires vertex { v < vertex_count h.now }
+    requires blocks { length blocks.now ≡ vertex_count h.now }
+    ensures { IsTrue result → fix_of h.now v ≢ FREE → block_of blocks.now v ≡ fix_of h.now v }
+{
+    let fix = h.fix(v);
+    fix == FREE || blocks[v as usize] == fix
+}
+
+/// A candidate where it is a partition that fits, obeys the fixes and is cheaper, and else the best
+/// one so far.
+fn cheaper(
+    alloc: Global,
+    h: &Hypergraph,
+    k: u32,
+    limit: u64,
+    best: Blocks,
+    candidate: Blocks,
+) -> Result<Blocks, NoMemory>
+    requires some { 2 ≤ k }
+    requires few { k ≤ 256 }
+    requires suits { Suits h.now k }
+    requires fixed { IsFixedWithin h.now k }
+    requires best { IsPartition h.now k best }
+    ensures { IfOk result (IsNoWorse h.now k limit best) }
+{
+    if !is_partition(h, k, candidate.slice()) || !obeys(h, candidate.slice()) {
+        return Ok(best);
+    }
+    let candidate = Partition::of(alloc, h, k, limit, candidate)?;
+    if candidate.fits() && candidate.cost(h) < cost_of(h.flat(), best.slice(), k) {
+        return Ok(candidate.into_blocks());
+    }
+    Ok(best)
 }
 
 /// The cheapest of a growing, some bisections and a given partition.
@@ -89,8 +126,7 @@ fn best_of_tries<R: Threads + Sync>(
     alloc: Global,
     h: &Hypergraph,
     k: u32,
-    frame: &Frame,
-    rest: &Rest,
+    candidates: &Candidates,
     limit: u64,
     seed: u64,
     tries: usize,
@@ -100,30 +136,21 @@ fn best_of_tries<R: Threads + Sync>(
     requires few { k ≤ 256 }
     requires suits { Suits h.now k }
     requires fixed { IsFixedWithin h.now k }
-    requires vertices { 0 < vertex_count h.now }
-    requires frame { frame.now ≡ record {
-      vertices = vertex_count h.now;
-      whole = vertex_count h.now;
-      all = k;
-      blocks = k;
-    } }
-    requires rest { rest.now ≡ vertex_count h.now }
+    requires candidates { candidates.now ≡ record { vertices = vertex_count h.now; blocks = k } }
     requires tries { tries ≤ 16 }
     requires best { IsPartition h.now k best }
     ensures { IfOk result (IsNoWorse h.now k limit best) }
 {
     let by_two = tries < FEW_TRIES;
-    let candidates = map_indices(
+    let tried = map_indices(
         rt,
         alloc,
         tries + 1,
         &|i: usize| -> Result<Blocks, NoMemory>
-            requires { (frame.now.vertices ≡ vertex_count h.now) × (frame.now.whole ≡ vertex_count h.now)
-                × (0 < vertex_count h.now) × (2 ≤ frame.now.blocks) × (frame.now.all ≡ frame.now.blocks)
-                × (rest.now ≡ vertex_count h.now) }
-        { candidate(rt, alloc, h, frame, rest, limit, seed, i as u64, by_two) },
+            requires { candidates.now.vertices ≡ vertex_count h.now }
+        { candidates.tried(rt, alloc, h, limit, seed, i as u64, by_two) },
     )?;
-    cheapest(alloc, h, k, limit, best, candidates)
+    cheapest(alloc, h, k, limit, best, tried)
 }
 
 /// The cheapest of some perturbations of a given partition, and itself.
@@ -132,8 +159,7 @@ fn best_of_throws<R: Threads + Sync>(
     alloc: Global,
     h: &Hypergraph,
     k: u32,
-    frame: &Frame,
-    rest: &Rest,
+    candidates: &Candidates,
     limit: u64,
     seed: u64,
     tries: usize,
@@ -143,27 +169,21 @@ fn best_of_throws<R: Threads + Sync>(
     requires few { k ≤ 256 }
     requires suits { Suits h.now k }
     requires fixed { IsFixedWithin h.now k }
-    requires vertices { 0 < vertex_count h.now }
-    requires frame { frame.now ≡ record {
-      vertices = vertex_count h.now;
-      whole = vertex_count h.now;
-      all = k;
-      blocks = k;
-    } }
-    requires rest { rest.now ≡ vertex_count h.now }
+    requires candidates { candidates.now ≡ record { vertices = vertex_count h.now; blocks = k } }
     requires best { IsPartition h.now k best }
     ensures { IfOk result (IsNoWorse h.now k limit best) }
 {
-    let start = labels_of(alloc, h, k, best.slice())?;
-    let candidates = map_indices(
+    let start = best.slice();
+    let thrown = map_indices(
         rt,
         alloc,
         tries,
-        &|i: usize| -> Result<Blocks, NoMemory> {
-            thrown(alloc, h, frame, rest, &start, limit, seed, i as u64)
-        },
+        &|i: usize| -> Result<Blocks, NoMemory>
+            requires { (candidates.now.vertices ≡ vertex_count h.now)
+                × IsPartition h.now candidates.now.blocks start.now }
+        { candidates.thrown(alloc, h, start, limit, seed, i as u64) },
     )?;
-    cheapest(alloc, h, k, limit, best, candidates)
+    cheapest(alloc, h, k, limit, best, thrown)
 }
 
 /// The cheapest of some candidates and a given partition, the first at a tie.

@@ -1,6 +1,0 @@
-use Rattle.std.proofs.Common.{◌≡◌}
-use Rattle.initial_place.proofs.search.halving.Halving.undo.Given as goal
-
-abbrev pub invariant-loop-place : goal.invariant-loop-place
-invariant-loop-place l =
-    (l.self-inside.sides ≡ l.initial.self-inside.sides) × (l.self-inside.agenda ≡ l.initial.self-inside.agenda)

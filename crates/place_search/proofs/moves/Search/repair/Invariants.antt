@@ -1,0 +1,8 @@
+use Rattle.std.proofs.Common.{◌≡◌}
+use Rattle.place_search.proofs.moves.Search.repair.Given as goal
+
+abbrev pub invariant-loop-v : goal.invariant-loop-v
+invariant-loop-v l = l.self ≡ l.fn.self
+
+abbrev pub invariant-loop : goal.invariant-loop
+invariant-loop l = l.self ≡ l.fn.self

@@ -1,0 +1,5 @@
+use Rattle.std.proofs.Common.{◌<◌}
+use Rattle.place_search.proofs.tables.Tables.best_move.Given as goal
+
+abbrev pub invariant-loop-b : goal.invariant-loop-b
+invariant-loop-b l = l.best < l.self-inside.blocks
