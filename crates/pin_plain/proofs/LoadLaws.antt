@@ -13,9 +13,12 @@ use Rattle.hg_defs.specs.Contraction.{contract, after}
 use Rattle.hg_defs.proofs.ContractionLaws.{cost_kept, loads_kept}
 use Rattle.std.proofs.lemmas.List.FromFn.{length-map-range_with_len}
 use Rattle.hg_defs.specs.Moves.{moved}
+use Rattle.hg_defs.specs.declared.moves.Move.{Move}
+use Rattle.hg_defs.specs.Replay.{replay}
+use Rattle.hg_defs.proofs.ReplayLaws.{length-replay, replay-blocks}
 use Rattle.hg_defs.proofs.SumLaws.{weight_in-take_more, weight_if-same, weight_if-other}
 use Rattle.hg_defs.proofs.MoveLaws.{load-moved_new, load-moved_old, load-moved_other}
-use Rattle.pin_plain.specs.Parted.{IsLoaded, IsTallied, KeepsCost, loads_after}
+use Rattle.pin_plain.specs.Parted.{IsParted, IsLoaded, IsTallied, KeepsCost, loads_after}
 use Rattle.pin_plain.specs.Counts.{HoldsCounts, HaveSpreads, counts_of}
 use Rattle.incidence.proofs.IndexLaws.{written_back}
 use Rattle.std.proofs.lemmas.List.Elements.{All-set, All-map}
@@ -113,7 +116,40 @@ weight_within h k p loads v to loaded long vertex from other =
     let known = loaded.each (block_of p v) from in
     omega arith
 
--- what a partition keeps, after a move whose loads and counts were written back through slices
+-- what a partition keeps, with other blocks whose loads and counts were written back through slices
+pub kept_anew :
+    (h : Hyper) (k : ℕ) (p q loads starts widths words : List ℕ) (n m : ℕ) (new_loads old_loads new_words old_words : List ℕ)
+    → IsTallied h k p loads starts widths words → IsParted h k q
+    → IsLoaded h k q new_loads → HoldsCounts h k new_words (counts_of h q) → HaveSpreads h k q (net_count h) new_words →
+    length new_words ≡ length words →
+    length new_loads ≡ n →
+    length new_words ≡ m
+    → IsTallied h k q (take n (new_loads ++ drop (length new_loads) old_loads)) starts widths (take m (new_words ++ drop (length new_words) old_words))
+kept_anew h k p q loads starts widths words n m new_loads old_loads new_words old_words kept parted loaded counted spreads long ln lm =
+    subst (λ ls. IsTallied h k q ls starts widths (take m (new_words ++ drop (length new_words) old_words))) (sym (written_back n new_loads old_loads ln))
+    (subst (λ ws. IsTallied h k q new_loads starts widths ws) (sym (written_back m new_words old_words lm))
+    (record {
+      parted = parted;
+      loaded = loaded;
+      laid = record { nets = kept.laid.nets; starts_at = kept.laid.starts_at; all = long ∙ kept.laid.all };
+      wide = kept.wide;
+      counted = counted;
+      spreads = spreads;
+    }))
+
+-- the same hypergraph parted into other blocks
+parted_anew : (h : Hyper) (k : ℕ) (p q : List ℕ) → IsParted h k p → IsPartition h k q → IsParted h k q
+parted_anew h k p q parted partition = record {
+  sound = parted.sound;
+  bounds = parted.bounds;
+  suits = parted.suits;
+  fixed = parted.fixed;
+  some = parted.some;
+  few = parted.few;
+  partition = partition;
+}
+
+-- after one move
 pub kept_shifted :
     (h : Hyper) (k : ℕ) (p q loads starts widths words : List ℕ) (v to n m : ℕ) (new_loads old_loads new_words old_words : List ℕ)
     → IsTallied h k p loads starts widths words → to < k → q ≡ moved p v to
@@ -123,28 +159,23 @@ pub kept_shifted :
     length new_words ≡ m
     → IsTallied h k q (take n (new_loads ++ drop (length new_loads) old_loads)) starts widths (take m (new_words ++ drop (length new_words) old_words))
 kept_shifted h k p q loads starts widths words v to n m new_loads old_loads new_words old_words kept low same loaded counted spreads long ln lm =
-    subst (λ ls. IsTallied h k q ls starts widths (take m (new_words ++ drop (length new_words) old_words))) (sym (written_back n new_loads old_loads ln))
-    (subst (λ ws. IsTallied h k q new_loads starts widths ws) (sym (written_back m new_words old_words lm))
-    (subst (λ r. IsTallied h k r new_loads starts widths new_words) (sym same)
-    (record {
-      parted = record {
-        sound = kept.parted.sound;
-        bounds = kept.parted.bounds;
-        suits = kept.parted.suits;
-        fixed = kept.parted.fixed;
-        some = kept.parted.some;
-        few = kept.parted.few;
-        partition = record {
-          vertices = length-set p v to ∙ kept.parted.partition.vertices;
-          blocks = All-set (λ b. b < k) p v to low kept.parted.partition.blocks;
-        };
-      };
-      loaded = loaded;
-      laid = record { nets = kept.laid.nets; starts_at = kept.laid.starts_at; all = long ∙ kept.laid.all };
-      wide = kept.wide;
-      counted = counted;
-      spreads = spreads;
-    })))
+    subst (λ r. IsTallied h k r (take n (new_loads ++ drop (length new_loads) old_loads)) starts widths (take m (new_words ++ drop (length new_words)
+    old_words))) (sym same)
+    (kept_anew h k p (moved p v to) loads starts widths words n m new_loads old_loads new_words old_words kept
+    (parted_anew h k p (moved p v to) kept.parted (record {
+      vertices = length-set p v to ∙ kept.parted.partition.vertices;
+      blocks = All-set (λ b. b < k) p v to low kept.parted.partition.blocks;
+    }))
+    loaded counted spreads long ln lm)
+
+-- after many moves
+pub replayed_parted : (h : Hyper) (k : ℕ) (p q : List ℕ) (moves : List Move) → IsParted h k p → All (λ m. m.to < k) moves → q ≡ replay p moves → IsParted h k q
+replayed_parted h k p q moves parted low same =
+    subst (IsParted h k) (sym same)
+    (parted_anew h k p (replay p moves) parted (record {
+      vertices = length-replay p moves ∙ parted.partition.vertices;
+      blocks = replay-blocks k p moves parted.partition.blocks low;
+    }))
 
 -- a difference of small numbers, as a signed word
 pub signed_difference : (a b : ℕ) → a < 2 ^ 55 → b < 2 ^ 55 → to_z w64 (of_z w64 (to_z w64 a -ℤ to_z w64 b)) ≡ pos a -ℤ pos b

@@ -1,5 +1,5 @@
 -- Laws of a run of nets that is tallied in a part of the words: one net more, and two runs that follow on each other.
-use Rattle.std.proofs.Common.{◌≡◌, ◌≢◌, ◌⊎◌, inl, inr, ℕ, ◌+◌, ◌-◌, ◌*◌, ◌/◌, ◌%◌, ◌^◌, ◌<◌, ◌≤◌, List, ◌++◌, length, slice_index, slice_set, replicate, All}
+use Rattle.std.proofs.Common.{◌≡◌, ◌≢◌, ◌⊎◌, inl, inr, ℕ, ◌+◌, ◌-◌, ◌*◌, ◌/◌, ◌%◌, ◌^◌, ◌<◌, ◌≤◌, List, ◌++◌, length, slice_index, slice_set, All}
 use Rattle.std.proofs.Common.{get_or, get_or-set_same, get_or-set_other, length-append, sym, ap, subst, ◌∙◌, arith}
 use Rattle.std.proofs.lemmas.Bool.{cases_lt}
 use Rattle.std.proofs.lemmas.List.{get_or_append_left, get_or-append-add}
@@ -9,9 +9,9 @@ use Rattle.hg_defs.specs.Hypergraph.{Hyper, IsWithinLimits, Suits, net_count, ne
 use Rattle.hg_defs.specs.Cost.{connectivity}
 use Rattle.hg_defs.specs.Pins.{pins_in}
 use Rattle.pin_plain.specs.Counts.{net_bits, net_words, net_place, net_start, all_words, counts_of, HoldsCounts, HaveSpreads}
-use Rattle.pin_plain.specs.Tallies.{AreBlank, AreTallied}
+use Rattle.pin_plain.specs.Opened.{SameOutside}
+use Rattle.pin_plain.specs.Tallies.{HaveRoom, AreTallied}
 use Rattle.pin_plain.proofs.CountLaws.{bits_width, fields_enough, word_below, net_place_next, net_place-le, all_words-le}
-use Rattle.pin_plain.proofs.TallyLaws.{zeros}
 
 -- a count in a word of 0
 pub zero_count : (words : List ℕ) (at bits b : ℕ) → slice_index words (at + b / fields_of bits) ≡ 0 → count_at words at bits b ≡ 0
@@ -29,20 +29,23 @@ module _ (h : Hyper) (k e : ℕ) where
       let enough = fields_enough (length (net_of h e).pins) k in
       word_below (net_bits h e) (net_words h k e) b (bits_width (length (net_of h e).pins)) (omega arith)
 
-  -- the net is counted, from words of 0, and its number of blocks is written before its counts
-  module _ (p : List ℕ) (place at bits : ℕ) (words mid pins : List ℕ) (here : place + at ≡ net_start h k e) (wide : bits ≡ net_bits h e)
-      (same : pins ≡ (net_of h e).pins) (blocks : All (λ b. b < k) p) (zeros : (i : ℕ) → net_place h k e ≤ place + i → slice_index words i ≡ 0)
+  -- the words of the net are cleared, its pins are counted, and its number of blocks is written before its counts
+  module _ (p : List ℕ) (place at bits : ℕ) (old words mid pins : List ℕ) (here : place + at ≡ net_start h k e) (wide : bits ≡ net_bits h e)
+      (same : pins ≡ (net_of h e).pins) (blocks : All (λ b. b < k) p)
+      (zeros : (i : ℕ) → at ≤ i → i < at + net_words h k e → slice_index words i ≡ 0) (cleared : SameOutside at (at + net_words h k e) old words)
       (counts : (b : ℕ) → count_at mid at bits b ≡ count_at words at bits b + pins_in p pins b)
       (others : (i : ℕ) → All (λ b. i ≢ at + b / fields_of bits) p → slice_index mid i ≡ slice_index words i) where
-    pub net_counted : (b : ℕ) → count_at mid at (net_bits h e) b ≡ counts_of h p e b
-    net_counted b =
-        let zero = zero_count words at bits b (zeros (at + b / fields_of bits) (omega arith)) in
+    pub net_counted : (b : ℕ) → b < net_words h k e * fields_of (net_bits h e) → count_at mid at (net_bits h e) b ≡ counts_of h p e b
+    net_counted b inside =
+        let word = subst (λ w. b / fields_of w < net_words h k e) (sym wide)
+        (word_below (net_bits h e) (net_words h k e) b (bits_width (length (net_of h e).pins)) inside) in
+        let zero = zero_count words at bits b (zeros (at + b / fields_of bits) (omega arith) (omega arith)) in
         let more = counts b in
         let told = ap (λ w. count_at mid at w b) wide in
         let pinned = ap (λ ps. pins_in p ps b) same in
         omega arith
 
-    pub net_others : (i : ℕ) → (i < at) ⊎ (at + net_words h k e ≤ i) → slice_index mid i ≡ slice_index words i
+    net_others : (i : ℕ) → (i < at) ⊎ (at + net_words h k e ≤ i) → slice_index mid i ≡ slice_index words i
     net_others i apart = others i (λ j d l q. none apart (get_or p j d / fields_of bits) (word j d l) q)
       where
         word : (j d : ℕ) → j < length p → get_or p j d / fields_of bits < net_words h k e
@@ -56,17 +59,12 @@ module _ (h : Hyper) (k e : ℕ) where
       abbrev new : List ℕ
       new = slice_set mid (at - 1) (64 + t)
 
-      new_others : (i : ℕ) → (place + i < net_place h k e) ⊎ (net_place h k (e + 1) ≤ place + i) → slice_index new i ≡ slice_index words i
-      new_others i (inl l) = get_or-set_other mid (at - 1) i (64 + t) 0 (omega arith) ∙ net_others i (inl (omega arith))
-      new_others i (inr l) =
-          let next = net_place_next h k e in
-          get_or-set_other mid (at - 1) i (64 + t) 0 (omega arith) ∙ net_others i (inr (omega arith))
+      -- the words of the nets before it are as they were
+      new_before : (i : ℕ) → place + i < net_place h k e → slice_index new i ≡ slice_index old i
+      new_before i l =
+          get_or-set_other mid (at - 1) i (64 + t) 0 (omega arith) ∙ net_others i (inl (omega arith)) ∙ cleared i (inl (omega arith))
 
-      -- the words of the nets behind it are 0 as before
-      pub rest_zeros : (i : ℕ) → net_place h k (e + 1) ≤ place + i → slice_index new i ≡ 0
-      rest_zeros i l = let next = net_place_next h k e in new_others i (inr l) ∙ zeros i (omega arith)
-
-      pub tallied_more : (from : ℕ) → AreTallied h k p from e place words → AreTallied h k p from (e + 1) place new
+      pub tallied_more : (from : ℕ) → AreTallied h k p from e place old → AreTallied h k p from (e + 1) place new
       tallied_more from done = record {
         counted = λ i spot b low l q inside. count_of i spot b low (cases_lt i e) l q inside;
         spreads = λ i spot low l q. spread_of i spot low (cases_lt i e) l q;
@@ -78,7 +76,7 @@ module _ (h : Hyper) (k e : ℕ) where
               let next = net_place_next h k i in
               let upto = net_place-le h k (i + 1) e (omega arith) in
               let word = word_below (net_bits h i) (net_words h k i) b (bits_width (length (net_of h i).pins)) wide_enough in
-              ap (λ w. field w (net_bits h i) (b % fields_of (net_bits h i))) (new_others (spot + b / fields_of (net_bits h i)) (inl (omega arith)))
+              ap (λ w. field w (net_bits h i) (b % fields_of (net_bits h i))) (new_before (spot + b / fields_of (net_bits h i)) (omega arith))
               ∙ done.counted i spot b low before q wide_enough
           count_of i spot b low (inr behind) l q wide_enough =
               let it : i ≡ e = omega arith in
@@ -87,14 +85,14 @@ module _ (h : Hyper) (k e : ℕ) where
               (subst (λ s. count_at new s (net_bits h e) b ≡ counts_of h p e b) (sym spot_is)
               (ap (λ w. field w (net_bits h e) (b % fields_of (net_bits h e)))
               (get_or-set_other mid (at - 1) (at + b / fields_of (net_bits h e)) (64 + t) 0 (omega arith))
-              ∙ net_counted b))
+              ∙ net_counted b (subst (λ j. b < net_words h k j * fields_of (net_bits h j)) it wide_enough)))
 
           spread_of : (i spot : ℕ) → from ≤ i → (i < e) ⊎ (e ≤ i) → i < e + 1 → place + spot ≡ net_place h k i →
               slice_index new spot ≡ 64 + connectivity p (net_of h i).pins
           spread_of i spot low (inl before) l q =
               let next = net_place_next h k i in
               let upto = net_place-le h k (i + 1) e (omega arith) in
-              new_others spot (inl (omega arith)) ∙ done.spreads i spot low before q
+              new_before spot (omega arith) ∙ done.spreads i spot low before q
           spread_of i spot low (inr behind) l q =
               let it : i ≡ e = omega arith in
               let spot_is : spot ≡ at - 1 = (let start = ap (net_place h k) it in omega arith) in
@@ -122,18 +120,17 @@ module _ (h : Hyper) (k from mid to place cut : ℕ) (xs ys zs : List ℕ) (whol
   long : length zs ≡ length xs + length ys
   long = ap length whole ∙ length-append xs ys
 
-  pub blank_others : mid ≤ to → AreBlank h k from to place zs → AreBlank h k mid to cut ys
-  blank_others m blank =
-      let ends = blank.ends in
-      let few = blank.few in
+  pub room_others : mid ≤ to → HaveRoom h k from to place zs → HaveRoom h k mid to cut ys
+  room_others m room =
+      let ends = room.ends in
+      let few = room.few in
       let size = long in
       record {
         ordered = m;
-        nets = blank.nets;
+        nets = room.nets;
         begins = omega arith;
         ends = omega arith;
         few = omega arith;
-        zeros = λ i. sym (get_or-append-add xs ys i 0) ∙ ap (λ ws. get_or ws (length xs + i) 0) (sym whole) ∙ blank.zeros (length xs + i);
       }
 
 -- two runs that follow on each other
@@ -178,31 +175,31 @@ tallied_both h k p from mid to place cut us vs first here low high = record {
         read_other at (omega arith) ∙ high.spreads e (at - length us) behind m (omega arith)
 
 -- where the counts of a net of a run start in its words
-pub spot_of : (h : Hyper) (k from to place : ℕ) (words : List ℕ) (e start : ℕ) → AreBlank h k from to place words → from ≤ e → e < to →
+pub spot_of : (h : Hyper) (k from to place : ℕ) (words : List ℕ) (e start : ℕ) → HaveRoom h k from to place words → from ≤ e → e < to →
     start ≡ net_start h k e →
     (place + (start - place) ≡ net_start h k e) × ((0 < start - place) × (start - place + net_words h k e ≤ length words))
-spot_of h k from to place words e start blank l m is =
-    let begins = blank.begins in
-    let ends = blank.ends in
+spot_of h k from to place words e start room l m is =
+    let begins = room.begins in
+    let ends = room.ends in
     let low = net_place-le h k from e l in
     let next = net_place_next h k e in
     let high = net_place-le h k (e + 1) to (omega arith) in
     (omega arith, (omega arith, omega arith))
 
 -- where the words of a run are cut, if its nets are cut before one of them
-pub cut_of : (h : Hyper) (k from mid to place : ℕ) (words : List ℕ) (start : ℕ) → AreBlank h k from to place words → from ≤ mid → mid ≤ to →
+pub cut_of : (h : Hyper) (k from mid to place : ℕ) (words : List ℕ) (start : ℕ) → HaveRoom h k from to place words → from ≤ mid → mid ≤ to →
     start ≡ net_start h k mid → (start - 1 ≡ net_place h k mid) × ((place ≤ start - 1) × (start - 1 - place ≤ length words))
-cut_of h k from mid to place words start blank l m is =
-    let begins = blank.begins in
-    let ends = blank.ends in
+cut_of h k from mid to place words start room l m is =
+    let begins = room.begins in
+    let ends = room.ends in
     let low = net_place-le h k from mid l in
     let high = net_place-le h k mid to m in
     (omega arith, (omega arith, omega arith))
 
--- all words, before anything is counted
-pub all_blank : (h : Hyper) (k : ℕ) (words : List ℕ) → 2 ≤ k → k ≤ 256 → IsWithinLimits h → Suits h k → length words ≡ all_words h k →
-    words ≡ replicate (length words) 0 → AreBlank h k 0 (net_count h) 0 words
-all_blank h k words some few bounds suits long is =
+-- all nets, in all words
+pub all_room : (h : Hyper) (k : ℕ) (words : List ℕ) → 2 ≤ k → k ≤ 256 → IsWithinLimits h → Suits h k → length words ≡ all_words h k →
+    HaveRoom h k 0 (net_count h) 0 words
+all_room h k words some few bounds suits long =
     let all = all_words-le h k some few bounds suits in
     record {
       ordered = omega arith;
@@ -210,5 +207,4 @@ all_blank h k words some few bounds suits long is =
       begins = omega arith;
       ends = omega arith;
       few = omega arith;
-      zeros = λ i. ap (λ ws. slice_index ws i) is ∙ zeros (length words) i;
     }

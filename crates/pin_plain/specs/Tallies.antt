@@ -5,14 +5,13 @@ use Rattle.hg_defs.specs.Cost.{connectivity}
 use Rattle.hg_base.specs.Packed.{fields_of, count_at}
 use Rattle.pin_plain.specs.Counts.{net_bits, net_words, net_place, net_start, counts_of}
 
--- the nets from one up to below another one have their words among these, of which the first has a place, and all are 0
-pub record AreBlank (h : Hyper) (k from to place : ℕ) (words : List ℕ) : Type 0 where
+-- the nets from one up to below another one have their words among these, of which the first has a place
+pub record HaveRoom (h : Hyper) (k from to place : ℕ) (words : List ℕ) : Type 0 where
   pub ordered : from ≤ to
   pub nets : to ≤ net_count h
   pub begins : place ≤ net_place h k from
   pub ends : net_place h k to ≤ place + length words
   pub few : place + length words < 2 ^ 32
-  pub zeros : (i : ℕ) → slice_index words i ≡ 0
 
 -- each of these nets has its pin counts there, and before them 64 and the number of blocks that it touches
 pub record AreTallied (h : Hyper) (k : ℕ) (p : List ℕ) (from to place : ℕ) (words : List ℕ) : Type 0 where

@@ -11,13 +11,14 @@ ghost use Rattle.pin_plain.specs.Opened.{IsOpened, SameOutside};
 use hg_base::{Objective, price};
 use incidence::Hypergraph;
 
-/// Writes 0 into the words before a place.
-fn write_zeros(words: &mut [u64], to: usize)
-    requires { to ≤ length words.old }
-    ensures zeros { (i : ℕ) → i < to → slice_index words.new i ≡ 0 }
-    ensures others { SameOutside 0 to words.old words.new }
+/// Writes 0 into the words from one place up to before another one.
+pub fn write_zeros(words: &mut [u64], from: usize, to: usize)
+    requires ordered { from ≤ to }
+    requires inside { to ≤ length words.old }
+    ensures zeros { (i : ℕ) → from ≤ i → i < to → slice_index words.new i ≡ 0 }
+    ensures others { SameOutside from to words.old words.new }
 {
-    for i in 0..to {
+    for i in from..to {
         words[i] = 0;
     }
 }
@@ -90,7 +91,7 @@ pub fn open_words(
     ensures { IsOpened h.now k blocks.now words.new }
 {
     let n = h.vertices() as usize;
-    write_zeros(words, n + 2);
+    write_zeros(words, 0, n + 2);
     write_names(words, n + 2, blocks);
     write_loads(words, 2 * n + 2, loads);
 }

@@ -1,7 +1,7 @@
 //! The plain partition.
 
 ghost use Rattle.std.specs.Prelude.{◌≡◌, ◌≢◌, ℕ, ◌+◌, ◌-◌, ◌<◌, ◌≤◌, ◌^◌, All, length, map, slice_index};
-ghost use Rattle.std.specs.Prelude.{slice_set, replicate, IsTrue, ◌↔◌, IfOk};
+ghost use Rattle.std.specs.Prelude.{slice_set, IsTrue, ◌↔◌, IfOk};
 ghost use Rattle.hg_defs.specs.Hypergraph.{vertex_count, net_count, net_of, Suits, IsFixedWithin};
 ghost use Rattle.hg_defs.specs.Partition.{IsPartition, block_of, load, Fits};
 ghost use Rattle.hg_defs.specs.Cost.{cost};
@@ -14,6 +14,7 @@ ghost use Rattle.pin_plain.specs.Parted.{IsParted, IsLoaded, IsTallied, loads_af
 mod best;
 mod marking;
 mod ready;
+mod replay;
 mod sweep;
 
 use crate::counts::{Layout, count, lay_out, move_pin};
@@ -57,12 +58,12 @@ impl Model for Partition {
         p.words.items };
 }
 
-/// Adds the weight of each vertex to the load of its block.
+/// Adds up the loads anew: the weight of each vertex goes to the load of its block.
 fn add_weights(h: &Hypergraph, blocks: &[u32], loads: &mut [u64])
-    requires partition { IsPartition h.now (length loads.old) blocks.now }
-    requires zeros { loads.old ≡ replicate (length loads.old) 0 }
+    requires { IsPartition h.now (length loads.old) blocks.now }
     ensures { IsLoaded h.now (length loads.old) blocks.now loads.new }
 {
+    loads.fill(0);
     for v in 0..h.vertices() {
         loads[blocks[v as usize] as usize] += h.vertex_weight(v);
     }
@@ -97,7 +98,7 @@ struct Laid {
     words: Vec<u64>,
 }
 
-/// Adds up the loads, and lays out the counts in words of 0.
+/// Adds up the loads, lays out the counts, and takes the words for them.
 fn lay(alloc: Global, h: &Hypergraph, k: u32, blocks: &[u32]) -> Result<Laid, NoMemory>
     requires some { 2 ≤ k }
     requires few { k ≤ 256 }
@@ -106,7 +107,7 @@ fn lay(alloc: Global, h: &Hypergraph, k: u32, blocks: &[u32]) -> Result<Laid, No
     ensures loads { IfOk result (λ l. IsLoaded h.now k blocks.now l.loads.items) }
     ensures starts { IfOk result (λ l. HasStarts h.now k l.layout.starts.items) }
     ensures widths { IfOk result (λ l. HasWidths h.now l.layout.widths.items) }
-    ensures words { IfOk result (λ l. l.words.items ≡ replicate (all_words h.now k) 0) }
+    ensures words { IfOk result (λ l. length l.words.items ≡ all_words h.now k) }
 {
     let mut loads = vec![in alloc; 0u64; k as usize]?;
     let layout = lay_out(alloc, h, k)?;

@@ -1,6 +1,6 @@
 //! The counts of all nets and the number of blocks that each touches, made by one thread, or by several.
 
-ghost use Rattle.std.specs.Prelude.{◌≡◌, ℕ, ◌+◌, ◌*◌, ◌/◌, ◌<◌, ◌≤◌, ◌^◌, All, length, replicate};
+ghost use Rattle.std.specs.Prelude.{◌≡◌, ℕ, ◌+◌, ◌*◌, ◌/◌, ◌<◌, ◌≤◌, ◌^◌, All, length};
 ghost use Rattle.std.specs.Thread.{IsSync};
 ghost use Rattle.hg_defs.specs.Sums.{sum_below};
 ghost use Rattle.hg_defs.specs.Hypergraph.{net_count, net_of};
@@ -10,10 +10,11 @@ ghost use Rattle.hg_base.specs.Packed.{IsWidth, fields_of, count_at};
 ghost use Rattle.pin_plain.specs.Counts.{net_bits, net_words, net_place, counts_of};
 ghost use Rattle.pin_plain.specs.Counts.{all_words, HasStarts, HoldsCounts, HaveSpreads};
 ghost use Rattle.pin_plain.specs.Parted.{IsParted};
-ghost use Rattle.pin_plain.specs.Tallies.{AreBlank, AreTallied};
+ghost use Rattle.pin_plain.specs.Tallies.{HaveRoom, AreTallied};
 
 use crate::counts::{count, count_net};
-use hg_base::{BlockSet, bits_of};
+use crate::opening::write_zeros;
+use hg_base::{BlockSet, bits_of, words_of};
 use incidence::Hypergraph;
 use std::thread::{Threads, join_mut};
 
@@ -77,16 +78,19 @@ fn touched(nets: &Nets<'_>, e: u32, words: &[u64], start: u32) -> u64
     }
 }
 
-/// Counts the pins of a run of nets, and writes 64 and the number of blocks that each touches before its
-/// counts. The words are 0, and the first of them has a place among the words of all nets.
+/// Counts the pins of a run of nets anew, and writes 64 and the number of blocks that each touches before its
+/// counts. The first of the words has a place among the words of all nets.
 fn tally_run(nets: &Nets<'_>, from: u32, to: u32, place: u32, words: &mut [u64])
-    requires { AreBlank nets.now.h.now nets.now.k from to place words.old }
+    requires { HaveRoom nets.now.h.now nets.now.k from to place words.old }
     ensures { AreTallied nets.now.h.now nets.now.k nets.now.blocks.now from to place words.new }
 {
     for e in from..to {
         let pins = nets.h.pins(e);
+        let size = pins.len() as u32;
         let start = nets.starts[e as usize] - place;
-        count_net(words, start, bits_of(pins.len() as u32), pins, nets.blocks);
+        let end = start + words_of(size, nets.k);
+        write_zeros(words, start as usize, end as usize);
+        count_net(words, start, bits_of(size), pins, nets.blocks);
         let touched = touched(nets, e, words, start);
         words[start as usize - 1] = 64 + touched;
     }
@@ -105,7 +109,7 @@ fn tally_shares<R: Threads + Sync>(
     words: &mut [u64],
 )
     requires some { 0 < share }
-    requires blank { AreBlank nets.now.h.now nets.now.k from to place words.old }
+    requires room { HaveRoom nets.now.h.now nets.now.k from to place words.old }
     ensures { AreTallied nets.now.h.now nets.now.k nets.now.blocks.now from to place words.new }
 {
     if to - from <= share {
@@ -133,28 +137,27 @@ fn beside<R: Threads + Sync>(
     others: &mut [u64],
 )
     requires some { (0 < share) × (from < mid) × (mid < to) }
-    requires first { AreBlank nets.now.h.now nets.now.k from mid place first.old }
-    requires others { AreBlank nets.now.h.now nets.now.k mid to cut others.old }
+    requires first { HaveRoom nets.now.h.now nets.now.k from mid place first.old }
+    requires others { HaveRoom nets.now.h.now nets.now.k mid to cut others.old }
     ensures first { AreTallied nets.now.h.now nets.now.k nets.now.blocks.now from mid place first.new }
     ensures others { AreTallied nets.now.h.now nets.now.k nets.now.blocks.now mid to cut others.new }
 {
     let mut front = ||
-        requires { AreBlank nets.now.h.now nets.now.k from mid place first.now }
+        requires { HaveRoom nets.now.h.now nets.now.k from mid place first.now }
         ensures { AreTallied nets.entry.now.h.now nets.entry.now.k nets.entry.now.blocks.now from mid place
             first.exit.now }
     { tally_run(nets, from, mid, place, first) };
     let mut back = ||
-        requires { IsSync R.row × (0 < share) × AreBlank nets.now.h.now nets.now.k mid to cut others.now }
+        requires { IsSync R.row × (0 < share) × HaveRoom nets.now.h.now nets.now.k mid to cut others.now }
         ensures { AreTallied nets.entry.now.h.now nets.entry.now.k nets.entry.now.blocks.now mid to cut
             others.exit.now }
     { tally_shares(rt, nets, share, mid, to, cut, others) };
     join_mut(rt, &mut front, &mut back);
 }
 
-/// Counts the pins of all nets, and the blocks that each net touches, from words of 0.
+/// Counts the pins of all nets, and the blocks that each net touches, whatever the words were.
 pub fn tally(nets: &Nets<'_>, words: &mut [u64])
-    requires all { length words.old ≡ all_words nets.now.h.now nets.now.k }
-    requires zeros { words.old ≡ replicate (length words.old) 0 }
+    requires { length words.old ≡ all_words nets.now.h.now nets.now.k }
     ensures counted { HoldsCounts nets.now.h.now nets.now.k words.new (counts_of nets.now.h.now nets.now.blocks.now) }
     ensures spreads { HaveSpreads nets.now.h.now nets.now.k nets.now.blocks.now (net_count nets.now.h.now) words.new }
 {
@@ -174,7 +177,6 @@ fn share_of(nets: u32, workers: u32) -> u32
 pub fn tally_with<R: Threads + Sync>(rt: &R, nets: &Nets<'_>, workers: u32, words: &mut [u64])
     requires some { 1 ≤ workers }
     requires all { length words.old ≡ all_words nets.now.h.now nets.now.k }
-    requires zeros { words.old ≡ replicate (length words.old) 0 }
     ensures counted { HoldsCounts nets.now.h.now nets.now.k words.new (counts_of nets.now.h.now nets.now.blocks.now) }
     ensures spreads { HaveSpreads nets.now.h.now nets.now.k nets.now.blocks.now (net_count nets.now.h.now) words.new }
 {

@@ -166,6 +166,30 @@ impl Partition {
         self.sweep_marked(alloc, h, marks.as_mut_slice(), log)
     }
 
+    /// Sweeps as [`Self::sweep`] does, by the same moves. Threads look for the vertices that gain nothing first,
+    /// and the sweep looks at the others alone.
+    pub fn sweep_with<R: Threads + Sync>(
+        &mut self,
+        rt: &R,
+        alloc: Global,
+        h: &Hypergraph,
+        workers: u32,
+        log: &mut Moves,
+    ) -> Result<bool, NoMemory>
+        requires belongs { self.old.hyper ≡ h.now }
+        requires some { 1 ≤ workers }
+        ensures after { OnOk result (self.new ≡ record self.old {
+          blocks = replay self.old.blocks (sweeps.sweep h.now self.old.k self.old.limit self.old.blocks);
+        }) }
+        ensures log { OnOk result (log.new ≡ log.old ++ sweeps.sweep h.now self.old.k self.old.limit self.old.blocks) }
+        ensures settled { IfOk result (λ moved. (moved ≡ false) ↔ IsSettled h.now self.old.k self.old.limit
+            self.old.blocks) }
+        ensures err { OnErr result ((self.new ≡ self.old) × (log.new ≡ log.old)) }
+    {
+        let mut marks = quiet_marks(rt, alloc, h, self, workers)?;
+        self.sweep_marked(alloc, h, marks.as_mut_slice(), log)
+    }
+
     /// Sweeps until the partition is settled, and appends a round for each sweep that moved something.
     /// Answers the number of these rounds.
     ///

@@ -1,8 +1,8 @@
-use Rattle.std.proofs.Common.{◌≡◌, ◌∙◌, ◌-◌, ◌/◌, ◌<◌, length, slice_index, get_or, ap, subst, sym, arith}
-use Rattle.hg_base.specs.Packed.{bits_of, fields_of}
+use Rattle.std.proofs.Common.{◌≡◌, ◌⊎◌, ◌∙◌, ◌+◌, ◌-◌, ◌/◌, ◌<◌, ◌≤◌, length, slice_index, get_or, ap, subst, sym, arith}
+use Rattle.hg_base.specs.Packed.{bits_of, fields_of, words_of}
 use Rattle.pin_plain.specs.Counts.{net_bits, net_words}
 use Rattle.pin_plain.proofs.OpeningLaws.{few_blocks}
-use Rattle.pin_plain.proofs.RunLaws.{block_word, spot_of, tallied_more, rest_zeros}
+use Rattle.pin_plain.proofs.RunLaws.{block_word, spot_of, tallied_more}
 use Rattle.pin_plain.proofs.tallies.tally_run.Goals as goal
 
 pub overflow_sub-start : goal.overflow_sub-start
@@ -10,11 +10,38 @@ overflow_sub-start c =
     let nets = c.args.nets.now in
     let e = c.loop-e.e in
     let start = slice_index nets.starts.now e in
-    let blank = c.requires in
-    let within = blank.nets in
-    let spot = spot_of nets.h.now nets.k c.args.from c.args.to c.args.place c.args.words.now e start blank (omega arith) (omega arith)
+    let room = c.requires in
+    let within = room.nets in
+    let spot = spot_of nets.h.now nets.k c.args.from c.args.to c.args.place c.args.words.now e start room (omega arith) (omega arith)
     (nets.placed.starts_at e (omega arith)) in
     let some = spot.1.0 in
+    omega arith
+
+pub overflow_add-end : goal.overflow_add-end
+overflow_add-end c =
+    let nets = c.args.nets.now in
+    let e = c.loop-e.e in
+    let start = slice_index nets.starts.now e in
+    let room = c.requires in
+    let within = room.nets in
+    let spot = spot_of nets.h.now nets.k c.args.from c.args.to c.args.place c.args.words.now e start room (omega arith) (omega arith)
+    (nets.placed.starts_at e (omega arith)) in
+    let high = spot.1.1 in
+    let size : c.words_of.result ≡ net_words nets.h.now nets.k e = c.words_of.ensures ∙ ap (λ ps. words_of (length ps) nets.k) c.pins-pins.ensures.value in
+    let few = room.few in
+    omega arith
+
+pub write_zeros-requires-clause-inside : goal.write_zeros-requires-clause-inside
+write_zeros-requires-clause-inside c =
+    let nets = c.args.nets.now in
+    let e = c.loop-e.e in
+    let start = slice_index nets.starts.now e in
+    let room = c.requires in
+    let within = room.nets in
+    let spot = spot_of nets.h.now nets.k c.args.from c.args.to c.args.place c.args.words.now e start room (omega arith) (omega arith)
+    (nets.placed.starts_at e (omega arith)) in
+    let high = spot.1.1 in
+    let size : c.words_of.result ≡ net_words nets.h.now nets.k e = c.words_of.ensures ∙ ap (λ ps. words_of (length ps) nets.k) c.pins-pins.ensures.value in
     omega arith
 
 pub count_net-requires-clause-inside : goal.count_net-requires-clause-inside
@@ -22,11 +49,11 @@ count_net-requires-clause-inside c i d l =
     let nets = c.args.nets.now in
     let e = c.loop-e.e in
     let start = slice_index nets.starts.now e in
-    let blank = c.requires in
-    let within = blank.nets in
-    let spot = spot_of nets.h.now nets.k c.args.from c.args.to c.args.place c.args.words.now e start blank (omega arith) (omega arith)
+    let room = c.requires in
+    let within = room.nets in
+    let spot = spot_of nets.h.now nets.k c.args.from c.args.to c.args.place c.args.words.now e start room (omega arith) (omega arith)
     (nets.placed.starts_at e (omega arith)) in
-    let room = spot.1.1 in
+    let high = spot.1.1 in
     let b = get_or nets.blocks.now i d in
     let bits : c.bits_of.result ≡ net_bits nets.h.now e = c.bits_of.ensures.value ∙ ap (λ ps. bits_of (length ps)) c.pins-pins.ensures.value in
     let word = subst (λ w. b / fields_of w < net_words nets.h.now nets.k e) (sym bits)
@@ -38,11 +65,11 @@ touched-touched-requires-clause-inside c =
     let nets = c.args.nets.now in
     let e = c.loop-e.e in
     let start = slice_index nets.starts.now e in
-    let blank = c.requires in
-    let within = blank.nets in
-    let spot = spot_of nets.h.now nets.k c.args.from c.args.to c.args.place c.args.words.now e start blank (omega arith) (omega arith)
+    let room = c.requires in
+    let within = room.nets in
+    let spot = spot_of nets.h.now nets.k c.args.from c.args.to c.args.place c.args.words.now e start room (omega arith) (omega arith)
     (nets.placed.starts_at e (omega arith)) in
-    let room = spot.1.1 in
+    let high = spot.1.1 in
     omega arith
 
 pub overflow_add-words : goal.overflow_add-words
@@ -58,9 +85,9 @@ overflow_sub-words c =
     let nets = c.args.nets.now in
     let e = c.loop-e.e in
     let start = slice_index nets.starts.now e in
-    let blank = c.requires in
-    let within = blank.nets in
-    let spot = spot_of nets.h.now nets.k c.args.from c.args.to c.args.place c.args.words.now e start blank (omega arith) (omega arith)
+    let room = c.requires in
+    let within = room.nets in
+    let spot = spot_of nets.h.now nets.k c.args.from c.args.to c.args.place c.args.words.now e start room (omega arith) (omega arith)
     (nets.placed.starts_at e (omega arith)) in
     let some = spot.1.0 in
     omega arith
@@ -70,12 +97,12 @@ bounds-words-start c =
     let nets = c.args.nets.now in
     let e = c.loop-e.e in
     let start = slice_index nets.starts.now e in
-    let blank = c.requires in
-    let within = blank.nets in
-    let spot = spot_of nets.h.now nets.k c.args.from c.args.to c.args.place c.args.words.now e start blank (omega arith) (omega arith)
+    let room = c.requires in
+    let within = room.nets in
+    let spot = spot_of nets.h.now nets.k c.args.from c.args.to c.args.place c.args.words.now e start room (omega arith) (omega arith)
     (nets.placed.starts_at e (omega arith)) in
     let some = spot.1.0 in
-    let room = spot.1.1 in
+    let high = spot.1.1 in
     omega arith
 
 pub loop-e-preserved : goal.loop-e-preserved
@@ -91,16 +118,15 @@ loop-e-preserved c =
     let mid = c.count_net.new.words in
     let pins = c.pins-pins.result.now in
     let t = c.touched-touched.result in
-    let blank = c.requires in
-    let within = blank.nets in
-    let spot = spot_of h k c.args.from c.args.to place c.args.words.now e start blank (omega arith) (omega arith) (nets.placed.starts_at e (omega arith)) in
+    let room = c.requires in
+    let within = room.nets in
+    let spot = spot_of h k c.args.from c.args.to place c.args.words.now e start room (omega arith) (omega arith) (nets.placed.starts_at e (omega arith)) in
     let some = spot.1.0 in
-    let room = spot.1.1 in
-    let bits : c.bits_of.result ≡ net_bits h e = c.bits_of.ensures.value ∙ ap (λ ps. bits_of (length ps)) c.pins-pins.ensures.value in
-    record {
-      done = tallied_more h k e p place (start - place) c.bits_of.result words mid pins spot.0 bits c.pins-pins.ensures.value nets.parted.partition.blocks
-          c.loop-e.invariant.rest c.count_net.ensures.counts c.count_net.ensures.others t c.touched-touched.ensures some (omega arith) c.args.from
-          c.loop-e.invariant.done;
-      rest = rest_zeros h k e p place (start - place) c.bits_of.result words mid pins spot.0 bits c.pins-pins.ensures.value nets.parted.partition.blocks
-          c.loop-e.invariant.rest c.count_net.ensures.counts c.count_net.ensures.others t c.touched-touched.ensures some (omega arith);
-    }
+    let high = spot.1.1 in
+    let pinned = c.pins-pins.ensures.value in
+    let bits : c.bits_of.result ≡ net_bits h e = c.bits_of.ensures.value ∙ ap (λ ps. bits_of (length ps)) pinned in
+    let size : c.words_of.result ≡ net_words h k e = c.words_of.ensures ∙ ap (λ ps. words_of (length ps) k) pinned in
+    tallied_more h k e p place (start - place) c.bits_of.result words c.write_zeros.new.words mid pins spot.0 bits pinned nets.parted.partition.blocks
+    (λ i l m. c.write_zeros.ensures.zeros i l (omega arith))
+    (λ i apart. c.write_zeros.ensures.others i (subst (λ n. (i < start - place) ⊎ (start - place + n ≤ i)) (sym size) apart))
+    c.count_net.ensures.counts c.count_net.ensures.others t c.touched-touched.ensures some (omega arith) c.args.from c.loop-e.invariant

@@ -1,11 +1,11 @@
 use Rattle.std.proofs.Common.{subst, sym}
-use Rattle.pin_plain.specs.Tallies.{AreBlank}
-use Rattle.pin_plain.proofs.RunLaws.{all_blank}
+use Rattle.pin_plain.specs.Tallies.{HaveRoom}
+use Rattle.pin_plain.proofs.RunLaws.{all_room}
 use Rattle.pin_plain.proofs.tallies.tally_with.Goals as goal
 
-pub tally_shares-requires-clause-blank : goal.tally_shares-requires-clause-blank
-tally_shares-requires-clause-blank g c κs within =
+pub tally_shares-requires-clause-room : goal.tally_shares-requires-clause-room
+tally_shares-requires-clause-room g c κs within =
     let nets = c.args.nets.now in
     let parted = nets.parted in
-    subst (λ n. AreBlank nets.h.now nets.k 0 n 0 c.args.words.now) (sym c.nets-count.ensures.count)
-    (all_blank nets.h.now nets.k c.args.words.now parted.some parted.few parted.bounds parted.suits c.requires.all c.requires.zeros)
+    subst (λ n. HaveRoom nets.h.now nets.k 0 n 0 c.args.words.now) (sym c.nets-count.ensures.count)
+    (all_room nets.h.now nets.k c.args.words.now parted.some parted.few parted.bounds parted.suits c.requires.all)
