@@ -82,6 +82,21 @@ impl FlatHyper {
         })
     }
 
+    /// Makes a copy, whose lists have no more room than they need.
+    pub fn copy(&self, alloc: Global) -> Result<Self, NoMemory>
+        ensures { IfOk result (λ h. h ≡ self.now) }
+    {
+        Ok(FlatHyper {
+            vertex_weights: self.vertex_weights.to_vec(alloc)?,
+            fixes: self.fixes.to_vec(alloc)?,
+            net_weights: self.net_weights.to_vec(alloc)?,
+            starts: self.starts.to_vec(alloc)?,
+            pins: self.pins.to_vec(alloc)?,
+            total: self.total,
+            objective: self.objective,
+        })
+    }
+
     /// Adds a net, whose pins are the set of the given vertices. Where there is no memory,
     /// the hypergraph stays as it was.
     ///

@@ -41,6 +41,9 @@ fn readers(rt: HostRuntime) -> Result<(), Fail> {
     h.set_fix(6, 2);
     assert_eq!(rt; (h.fix(6), h.fix(0)), (2, FREE));
     assert_eq!(rt; (h.fixed_within(2), h.fixed_within(3)), (false, true));
+    let copy = h.copy(rt.alloc())?;
+    assert_eq!(rt; (copy.nets(), copy.total_weight(), copy.fix(6)), (4, 6, 2));
+    assert_eq!(rt; copy.pins(1), [0, 4, 5, 6].as_slice());
     let most = FlatHyper::start(rt.alloc(), 1 << 22)?;
     assert_eq!(rt; (most.suits(16), most.suits(17)), (true, false));
     Ok(())

@@ -56,5 +56,7 @@ fn readers(rt: HostRuntime) -> Result<(), Fail> {
         (false, true, true)
     );
     assert_eq!(rt; h.flat().pins(0), [0, 1].as_slice());
+    let flat = h.into_flat();
+    assert_eq!(rt; (flat.vertices(), flat.nets()), (7, 4));
     Ok(())
 }
