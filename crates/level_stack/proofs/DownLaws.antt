@@ -1,30 +1,56 @@
 -- Laws of descents over the levels of a stack.
-use Rattle.std.proofs.Common.{◌≡◌, ℕ, ◌+◌, ◌-◌, ◌<◌, List, take, ap, subst, ◌∙◌, arith}
-use Rattle.std.proofs.lemmas.List.{get_or-take, length-take}
+use Rattle.std.proofs.Common.{◌≡◌, ℕ, ◌+◌, ◌-◌, ◌<◌, List, [], ◌∷◌, ◌++◌, take, get_or, sym, ap, subst, ◌∙◌, arith}
+use Rattle.std.proofs.lemmas.List.{get_or-take, length-take, length-append, get_or_append_left}
 use Rattle.hg_defs.specs.Hypergraph.{Hyper}
 use Rattle.hg_defs.specs.Contraction.{IsFull, IsApart}
 use Rattle.hg_defs.specs.Clustering.{cluster_count}
 use Rattle.hg_defs.specs.Levels.{level, map_of}
-use Rattle.level_stack.specs.Stack.{Stack, IsStacked}
+use Rattle.level_stack.specs.Stack.{Stack, IsStacked, first_of}
 use Rattle.level_stack.specs.Down.{Down, IsDown}
+use Rattle.level_stack.proofs.StackLaws.{first_pushed}
 
 -- the levels of a stack
-pub stacked_is_down : (s : Stack) (above : List Hyper) → IsStacked s above → IsDown s.base s.maps above
-stacked_is_down s above o = record {
+pub stacked_is_down : (s : Stack) (kept : List Hyper) → IsStacked s kept → IsDown s.base s.maps kept
+stacked_is_down s kept o = record {
   within = let n = o.levels in omega arith;
-  at = λ i h l. let n = o.levels in o.at i h (omega arith);
+  at = o.at;
   full = λ i l. (o.leads i l).full;
   apart = λ i l. (o.leads i l).apart;
 }
 
 -- the lowest of them
-pub IsDown-take : (base : Hyper) (maps : List (List ℕ)) (above : List Hyper) (n : ℕ) → IsDown base maps above → IsDown base maps (take n above)
-IsDown-take base maps above n d = record {
-  within = let short = length-take n above in let o = d.within in omega arith;
-  at = λ i h l. let short = length-take n above in get_or-take n above i h (omega arith) ∙ d.at i h (omega arith);
+IsDown-take : (base : Hyper) (maps : List (List ℕ)) (kept : List Hyper) (n : ℕ) → IsDown base maps kept → IsDown base maps (take n kept)
+IsDown-take base maps kept n d = record {
+  within = let short = length-take n kept in let o = d.within in omega arith;
+  at = λ i h l. let short = length-take n kept in get_or-take n kept i h (omega arith) ∙ d.at i h (omega arith);
   full = d.full;
   apart = d.apart;
 }
+
+-- all but the last ones
+IsDown-front : (base : Hyper) (maps : List (List ℕ)) (kept more : List Hyper) → IsDown base maps (kept ++ more) → IsDown base maps kept
+IsDown-front base maps kept more d = record {
+  within = let sum = length-append kept more in let o = d.within in omega arith;
+  at = λ i h l. let sum = length-append kept more in sym (get_or_append_left kept more h i l) ∙ d.at i h (omega arith);
+  full = d.full;
+  apart = d.apart;
+}
+
+module _ (maps : List (List ℕ)) (below : List Hyper) (last : Hyper) (down : IsDown (first_of below last) maps (below ++ last ∷ [])) (rest : List Hyper)
+    (on : Hyper) where
+  -- the level below the last one is the last now
+  pub is_down_left : below ≡ rest ++ on ∷ [] → IsDown (first_of rest on) maps (rest ++ on ∷ [])
+  is_down_left cut =
+      subst (λ h. IsDown h maps (rest ++ on ∷ [])) (ap (λ hs. get_or hs 0 last) cut ∙ first_pushed rest on last)
+      (subst (IsDown (first_of below last) maps) cut (IsDown-front (first_of below last) maps below (last ∷ []) down))
+
+  -- some level below the last one is the last now
+  pub is_down_taken : (n : ℕ) → take (n + 1) below ≡ rest ++ on ∷ [] → IsDown (first_of rest on) maps (rest ++ on ∷ [])
+  is_down_taken n cut =
+      subst (λ h. IsDown h maps (rest ++ on ∷ []))
+      (sym (get_or-take (n + 1) below 0 last (omega arith)) ∙ ap (λ hs. get_or hs 0 last) cut ∙ first_pushed rest on last)
+      (subst (IsDown (first_of below last) maps) cut
+      (IsDown-take (first_of below last) maps below (n + 1) (IsDown-front (first_of below last) maps below (last ∷ []) down)))
 
 -- ---- a descent from the level of a number, one level after the other
 

@@ -8,7 +8,12 @@ use Rattle.hg_defs.specs.Clustering.{cluster_count}
 use Rattle.hg_defs.specs.Levels.{level, coarsest, map_of}
 use Rattle.hg_defs.proofs.LevelLaws.{levels_stay, level_is_added}
 use Rattle.contract_nets.specs.declared.ledger.Merged.{Merged}
-use Rattle.level_stack.specs.Stack.{Stack, ledger_of, LeadsUp, IsStacked}
+use Rattle.level_stack.specs.Stack.{Stack, ledger_of, LeadsUp, IsStacked, first_of}
+
+-- the first level stays where one is put behind the last
+pub first_pushed : (below : List Hyper) (last more : Hyper) → first_of (below ++ last ∷ []) more ≡ first_of below last
+first_pushed [] last more = refl
+first_pushed (h ∷ below) last more = refl
 
 leads_same : (f g c d : Hyper) (m n : List ℕ) (l k : List Merged) → f ≡ g → m ≡ n → c ≡ d → l ≡ k → LeadsUp g n d k → LeadsUp f m c l
 leads_same f g c d m n l k a b e h u =
@@ -17,9 +22,9 @@ leads_same f g c d m n l k a b e h u =
     (subst (λ (x : Hyper). LeadsUp g n x l) (sym e)
     (subst (LeadsUp g n d) (sym h) u)))
 
-module _ (base : Hyper) (maps : List (List ℕ)) (ledgers : List (List Merged)) (above : List Hyper) (clusters : List ℕ) (coarse : Hyper)
+module _ (base : Hyper) (maps : List (List ℕ)) (ledgers : List (List Merged)) (kept : List Hyper) (clusters : List ℕ) (coarse : Hyper)
     (ledger : List Merged)
-    (old : IsStacked (record { base = base; maps = maps; ledgers = ledgers }) above) (room : length maps + 1 < 2 ^ 32 - 1)
+    (old : IsStacked (record { base = base; maps = maps; ledgers = ledgers }) kept) (room : length maps + 1 < 2 ^ 32 - 1)
     (made : coarse ≡ contract (coarsest base maps) clusters (cluster_count clusters)) (leads : LeadsUp (coarsest base maps) clusters coarse ledger) where
   long : length (maps ++ clusters ∷ []) ≡ suc (length maps)
   long = let n = length_push maps clusters in omega arith
@@ -27,24 +32,24 @@ module _ (base : Hyper) (maps : List (List ℕ)) (ledgers : List (List Merged)) 
   top : coarse ≡ level base (maps ++ clusters ∷ []) (suc (length maps))
   top = made ∙ sym (level_is_added base maps clusters) ∙ ap (level base (maps ++ clusters ∷ [])) long
 
-  pub IsStacked_push : IsStacked (record { base = base; maps = maps ++ clusters ∷ []; ledgers = ledgers ++ ledger ∷ [] }) (above ++ coarse ∷ [])
+  pub IsStacked_push : IsStacked (record { base = base; maps = maps ++ clusters ∷ []; ledgers = ledgers ++ ledger ∷ [] }) (kept ++ coarse ∷ [])
   IsStacked_push = record {
-    levels = (let a = length_push above coarse in let n = long in let o = old.levels in omega arith);
+    levels = (let a = length_push kept coarse in let n = long in let o = old.levels in omega arith);
     ledgers = (let a = length_push ledgers ledger in let n = long in let o = old.ledgers in omega arith);
     few = (let n = long in omega arith);
-    at = λ i h l. at i h (cases_lt i (length maps)) l;
+    at = λ i h l. at i h (cases_lt i (length kept)) l;
     leads = λ i l. leads_at i (cases_lt i (length maps)) l;
   }
     where
-      at : (i : ℕ) (h : Hyper) → (i < length maps) ⊎ (length maps ≤ i) → i < length (maps ++ clusters ∷ []) → get_or (above ++ coarse ∷ []) i h ≡ level base
-          (maps ++ clusters ∷ []) (suc i)
+      at : (i : ℕ) (h : Hyper) → (i < length kept) ⊎ (length kept ≤ i) → i < length (kept ++ coarse ∷ []) → get_or (kept ++ coarse ∷ []) i h ≡ level base
+          (maps ++ clusters ∷ []) i
       at i h (inl k) l =
           let o = old.levels in
-          get_or_append_left above (coarse ∷ []) h i (omega arith) ∙ old.at i h k ∙ sym (levels_stay base maps clusters (suc i) (omega arith))
+          get_or_append_left kept (coarse ∷ []) h i k ∙ old.at i h k ∙ sym (levels_stay base maps clusters i (omega arith))
       at i h (inr k) l =
-          let n = long in
-          let e : length maps ≡ i = omega arith in
-          get_or_push above coarse h i (old.levels ∙ e) ∙ top ∙ ap (λ (j : ℕ). level base (maps ++ clusters ∷ []) (suc j)) e
+          let o = old.levels in
+          let n = length_push kept coarse in
+          get_or_push kept coarse h i (omega arith) ∙ top ∙ ap (level base (maps ++ clusters ∷ [])) (let e : suc (length maps) ≡ i = omega arith in e)
 
       no_ledger : List Merged
       no_ledger = []

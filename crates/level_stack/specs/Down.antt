@@ -1,5 +1,5 @@
 -- A descent over the levels of a stack: the level that it is on, and what it has left before it.
-use Rattle.std.specs.Prelude.{◌≡◌, ℕ, suc, ◌<◌, ◌≤◌, List, length, slice_index_or}
+use Rattle.std.specs.Prelude.{◌≡◌, ℕ, ◌+◌, ◌<◌, ◌≤◌, List, length, slice_index_or}
 use Rattle.hg_defs.specs.Hypergraph.{Hyper}
 use Rattle.hg_defs.specs.Contraction.{IsFull, IsApart}
 use Rattle.hg_defs.specs.Clustering.{cluster_count}
@@ -11,9 +11,9 @@ pub record Down : Type 0 where
   pub maps : List (List ℕ)
   pub number : ℕ
 
--- the levels above the first one, up to that of the descent, are kept; each clustering leads up
-pub record IsDown (base : Hyper) (maps : List (List ℕ)) (above : List Hyper) : Type 0 where
-  pub within : length above ≤ length maps
-  pub at : (i : ℕ) (h : Hyper) → i < length above → slice_index_or above i h ≡ level base maps (suc i)
+-- the levels up to that of the descent are kept; each clustering leads up
+pub record IsDown (base : Hyper) (maps : List (List ℕ)) (kept : List Hyper) : Type 0 where
+  pub within : length kept ≤ length maps + 1
+  pub at : (i : ℕ) (h : Hyper) → i < length kept → slice_index_or kept i h ≡ level base maps i
   pub full : (i : ℕ) → i < length maps → IsFull (level base maps i) (map_of maps i) (cluster_count (map_of maps i))
   pub apart : (i : ℕ) → i < length maps → IsApart (level base maps i) (map_of maps i)

@@ -17,16 +17,20 @@ pub record Stack : Type 0 where
 abbrev pub ledger_of : Stack → ℕ → List Merged
 ledger_of s i = let no_ledger : List Merged = [] in slice_index_or s.ledgers i no_ledger
 
+-- the first of some levels, given those below the last one, and the last one
+abbrev pub first_of : List Hyper → Hyper → Hyper
+first_of below last = slice_index_or below 0 last
+
 -- a clustering and a ledger that lead from a level to the next
 pub record LeadsUp (fine : Hyper) (clusters : List ℕ) (coarse : Hyper) (ledger : List Merged) : Type 0 where
   pub full : IsFull fine clusters (cluster_count clusters)
   pub apart : IsApart fine clusters
   pub books : IsLedger fine clusters coarse ledger
 
--- the levels above the first one are kept, and each clustering and ledger leads to the next level
-pub record IsStacked (s : Stack) (above : List Hyper) : Type 0 where
-  pub levels : length above ≡ length s.maps
+-- all levels are kept, and each clustering and ledger leads to the next level
+pub record IsStacked (s : Stack) (kept : List Hyper) : Type 0 where
+  pub levels : length kept ≡ length s.maps + 1
   pub ledgers : length s.ledgers ≡ length s.maps
   pub few : length s.maps + 1 < 2 ^ 32
-  pub at : (i : ℕ) (h : Hyper) → i < length s.maps → slice_index_or above i h ≡ level s.base s.maps (suc i)
+  pub at : (i : ℕ) (h : Hyper) → i < length kept → slice_index_or kept i h ≡ level s.base s.maps i
   pub leads : (i : ℕ) → i < length s.maps → LeadsUp (level s.base s.maps i) (map_of s.maps i) (level s.base s.maps (suc i)) (ledger_of s i)

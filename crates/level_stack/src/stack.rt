@@ -6,32 +6,46 @@ ghost use Rattle.hg_defs.specs.Clustering.{cluster_count};
 ghost use Rattle.hg_defs.specs.Levels.{level, coarsest, map_of};
 ghost use Rattle.level_stack.specs.Stack.{ledger_of, LeadsUp};
 
-use crate::down::LevelsDown;
+use crate::down::{LevelsDown, index_last};
 use contract_nets::MergeLedger;
-use hg_base::{MapList, MapStack, NoMemory};
+use hg_base::{FlatHyper, MapList, MapStack, NoMemory};
 use incidence::Hypergraph;
 use std::alloc::Global;
 use std::marker::Model;
+use std::mem;
+use std::thread::Threads;
 
 /// The levels of a coarsening, the finest first, with the clusterings that lead from each level to
 /// the next and the ledgers of these contractions. Each level is the contraction of the one below.
+///
+/// The coarsest level knows the nets of each vertex. Those below it are kept as flat arrays alone,
+/// which takes about half the memory: nobody asks for the nets of their vertices before a descent
+/// comes to them.
 #[derive(Drop)]
 pub struct LevelStack {
-    base: Hypergraph,
-    above: Vec<Hypergraph>,
+    below: Vec<FlatHyper>,
+    top: Hypergraph,
     maps: MapStack,
     ledgers: Vec<MergeLedger>,
 }
 
 impl Model for LevelStack {
-    ghost use Rattle.level_stack.specs.Stack.{Stack, IsStacked};
+    ghost use Rattle.std.specs.Prelude.{[], ◌∷◌, ◌++◌};
+    ghost use Rattle.level_stack.specs.Stack.{Stack, IsStacked, first_of};
 
     ghost Value = { Stack };
 
-    ghost view = { λ s. record { base = s.base; maps = s.maps; ledgers = s.ledgers.items } };
+    ghost view = { λ s. record {
+      base = first_of s.below.items s.top;
+      maps = s.maps;
+      ledgers = s.ledgers.items;
+    } };
 
-    ghost invariant = { λ s. IsStacked (record { base = s.base; maps = s.maps; ledgers = s.ledgers.items })
-        s.above.items };
+    ghost invariant = { λ s. IsStacked (record {
+      base = first_of s.below.items s.top;
+      maps = s.maps;
+      ledgers = s.ledgers.items;
+    }) (s.below.items ++ s.top ∷ []) };
 }
 
 impl LevelStack {
@@ -40,16 +54,17 @@ impl LevelStack {
         ensures { IfOk result (λ s. s ≡ record { base = h; maps = []; ledgers = [] }) }
     {
         Ok(LevelStack {
-            base: h,
-            above: Vec::new(alloc),
+            below: Vec::new(alloc),
+            top: h,
             maps: MapStack::new(alloc),
             ledgers: Vec::new(alloc),
         })
     }
 
-    /// Adds a level: the contraction of the last one by a clustering, with its ledger. The
-    /// clustering is full, and each vertex that isn't free is alone in its cluster; there are fewer
-    /// than 2^32 - 1 levels. Where there is no memory, what was given is dropped and the stack stays.
+    /// Adds a level: the contraction of the last one by a clustering, with its ledger. The index of
+    /// the last one is dropped. The clustering is full, and each vertex that isn't free is alone in
+    /// its cluster; there are fewer than 2^32 - 1 levels. Where there is no memory, what was given is
+    /// dropped and the stack stays.
     pub fn push(
         &mut self,
         map: MapList,
@@ -65,10 +80,11 @@ impl LevelStack {
         }) }
         ensures err { OnErr result (self.new ≡ self.old) }
     {
-        self.above.reserve(1)?;
+        self.below.reserve(1)?;
         self.ledgers.reserve(1)?;
         self.maps.push(map)?;
-        self.above.push(coarse)?;
+        let last = mem::replace(&mut self.top, coarse);
+        self.below.push(last.into_flat())?;
         self.ledgers.push(ledger)?;
         Ok(())
     }
@@ -84,18 +100,19 @@ impl LevelStack {
     pub fn top(&self) -> &Hypergraph
         ensures { result.now ≡ coarsest self.now.base self.now.maps }
     {
-        self.level(self.depth() - 1)
+        &self.top
     }
 
     /// The level of a number, 0 being the finest.
-    pub fn level(&self, i: u32) -> &Hypergraph
+    pub fn level(&self, i: u32) -> &FlatHyper
         requires { i ≤ length self.now.maps }
         ensures { result.now ≡ level self.now.base self.now.maps i }
     {
-        if i == 0 {
-            &self.base
+        let i = i as usize;
+        if i < self.below.len() {
+            &self.below[i]
         } else {
-            &self.above[i as usize - 1]
+            self.top.flat()
         }
     }
 
@@ -120,30 +137,47 @@ impl LevelStack {
     }
 
     /// Begins a descent on the level of a number. The levels above it are dropped, and the ledgers.
-    pub fn down_from(self, i: u32) -> LevelsDown
-        requires { i ≤ length self.maps }
-        ensures { result ≡ record { base = self.base; maps = self.maps; number = i } }
+    /// Only then is its index made, by at most so many threads; the coarsest level has one. Where
+    /// there is no memory, all levels are dropped.
+    pub fn down_from<R: Threads + Sync>(
+        self,
+        rt: &R,
+        alloc: Global,
+        i: u32,
+        threads: usize,
+    ) -> Result<LevelsDown, NoMemory>
+        requires level { i ≤ length self.maps }
+        requires threads { 0 < threads }
+        ensures { IfOk result (λ down. down ≡ record { base = self.base; maps = self.maps; number = i }) }
     {
         let LevelStack {
-            base,
-            mut above,
+            mut below,
+            top,
             maps,
-            ledgers: _,
+            ledgers,
         } = self;
-        above.truncate(i as usize);
-        LevelsDown::begin(base, above, maps)
+        drop(ledgers);
+        let i = i as usize;
+        if i == below.len() {
+            return Ok(LevelsDown::begin(below, top, maps));
+        }
+        drop(top);
+        below.truncate(i + 1);
+        let (below, on) = index_last(rt, alloc, below, threads)?;
+        Ok(LevelsDown::begin(below, on, maps))
     }
 
     /// Gives the finest level and drops the others.
-    pub fn base(self) -> Hypergraph
+    pub fn base(self) -> FlatHyper
         ensures { result ≡ self.base }
     {
         let LevelStack {
-            base,
-            above: _,
+            mut below,
+            top,
             maps: _,
             ledgers: _,
         } = self;
-        base
+        below.truncate(1);
+        below.pop().unwrap_or(top.into_flat())
     }
 }

@@ -104,9 +104,9 @@ fn three_levels(rt: HostRuntime) -> Result<(), Fail> {
     let top = stack.top();
     assert_eq!(rt; top.nets(), 1);
     assert_eq!(rt; (top.net_weight(0), top.vertex_weight(1)), (10, 5));
-    let mut levels = stack.down_from(1);
+    let levels = stack.down_from(&rt, rt.alloc(), 1, 2)?;
     assert_eq!(rt; (levels.level().vertices(), levels.map().len()), (3, 3));
-    levels.descend();
+    let levels = levels.descend(&rt, rt.alloc(), 2)?;
     assert_eq!(rt; (levels.level().vertices(), levels.map().len()), (7, 7));
     let (base, maps) = levels.into_base();
     assert_eq!(rt; (base.vertices(), base.nets(), maps.len()), (7, 4, 2));
