@@ -1,8 +1,7 @@
 //! How a round is closed.
 
-ghost use Rattle.std.specs.Prelude.{◌≡◌, ℕ, ◌+◌, ◌<◌, ◌≤◌, length, map, drop, All};
+ghost use Rattle.std.specs.Prelude.{◌≡◌, ℕ, ◌+◌, ◌<◌, ◌≤◌, length, map, drop};
 ghost use Rattle.std.specs.Prelude.{slice_index_or, IfOk, IfErr, OnOk, [], IsPermutation};
-ghost use Rattle.hg_defs.specs.Hypergraph.{vertex_count};
 ghost use Rattle.hg_defs.specs.Replay.{replay};
 ghost use Rattle.move_core.specs.declared.account.Stage.TheVariants.{Idle};
 ghost use Rattle.move_table.specs.Steps.{IsResting};
@@ -20,10 +19,9 @@ use crate::steps::{Place, Words};
 use crate::view::{Terms, View};
 use atomic_table::Table;
 use hg_base::{Items, Move, NoMemory};
-use incidence::Hypergraph;
-use pin_plain::Partition;
 use std::alloc::Global;
 use std::snapshot::Snapshot;
+use std::thread::Threads;
 
 /// What the passes leave: the moves by their numbers, and the gains.
 #[derive(Drop)]
@@ -81,18 +79,6 @@ fn gather(alloc: Global, passes: &[Pass]) -> Result<Gathered, NoMemory>
     Ok(Gathered { moves, gains })
 }
 
-/// Makes the moves on a partition.
-fn make_moves(part: &mut Partition, hyper: &Hypergraph, moves: &[Move])
-    requires belongs { part.old.hyper ≡ hyper.now }
-    requires vertices { All (λ m. m.vertex < vertex_count hyper.now) moves.now }
-    requires blocks { All (λ m. m.to < part.old.k) moves.now }
-    ensures { part.new ≡ record part.old { blocks = replay part.old.blocks moves.now } }
-{
-    for m in moves {
-        part.shift(hyper, m.vertex, m.to);
-    }
-}
-
 /// The first pass takes all others over, the last one first.
 fn unite(words: &Words, passes: Passes) -> Place
     requires some { 0 < length passes }
@@ -133,10 +119,12 @@ fn end_words(table: Table<(), View, Terms, Balanced, Global>, passes: Passes)
 }
 
 impl<'h> Round<'h> {
-    /// Closes the round, of which all passes are given by rising number, none holding a grant. Where
-    /// there is no memory, the round and the passes come back.
-    pub fn close(
+    /// Closes the round, of which all passes are given by rising number, none holding a grant. Many
+    /// moves are made on the partition by threads, at most one for each pass. Where there is no memory,
+    /// the round and the passes come back.
+    pub fn close<R: Threads + Sync>(
         self,
+        rt: &R,
         alloc: Global,
         passes: Passes,
     ) -> Result<Closed, (Round<'h>, Passes, NoMemory)>
@@ -161,10 +149,10 @@ impl<'h> Round<'h> {
             opening_cost,
         } = self;
         end_words(table, passes);
-        let Terms { part, workers: _ } = terms;
+        let Terms { part, workers } = terms;
         let mut part = part.into_partition();
         let opening = Snapshot::of(&part);
-        make_moves(&mut part, hyper, moves.as_slice());
+        part.replay_with(rt, hyper, moves.as_slice(), workers);
         Ok(Closed {
             opening,
             opening_cost,

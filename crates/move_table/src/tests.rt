@@ -216,7 +216,13 @@ fn opened<'h>(
 }
 
 /// Closes a round of two passes, and tries it once more where there was no memory.
-fn closed(alloc: Global, round: Round, first: Pass, second: Pass) -> Result<Closed, Fail>
+fn closed(
+    rt: &(impl Threads + Sync),
+    alloc: Global,
+    round: Round,
+    first: Pass,
+    second: Pass,
+) -> Result<Closed, Fail>
     requires two { round.terms.workers ≡ 2 }
     requires first { IsPassOf round first × (first.view.account.stage ≡ Idle) × (first.view.number ≡ 0) }
     requires second { IsPassOf round second × (second.view.account.stage ≡ Idle) × (second.view.number ≡ 1) }
@@ -224,9 +230,9 @@ fn closed(alloc: Global, round: Round, first: Pass, second: Pass) -> Result<Clos
     let mut passes = Vec::with_capacity(alloc, 2)?;
     passes.push(first)?;
     passes.push(second)?;
-    match round.close(alloc, Items::from_vec(passes)) {
+    match round.close(rt, alloc, Items::from_vec(passes)) {
         Ok(closed) => Ok(closed),
-        Err((round, passes, NoMemory)) => match round.close(alloc, passes) {
+        Err((round, passes, NoMemory)) => match round.close(rt, alloc, passes) {
             Ok(closed) => Ok(closed),
             Err(_) => Err(Fail::new("no memory")),
         },
@@ -235,7 +241,7 @@ fn closed(alloc: Global, round: Round, first: Pass, second: Pass) -> Result<Clos
 
 /// Moves vertex 0 by one pass and then vertex 1 by another one.
 fn try_both(
-    rt: &impl Abort,
+    rt: &(impl Threads + Sync + Abort),
     alloc: Global,
     h: &Hypergraph,
     p: Partition,
@@ -248,7 +254,7 @@ fn try_both(
     let (round, mut first, mut second) = opened(rt, alloc, h, p)?;
     try_move(rt, &round, &mut first, 0, to[0], finds[0])?;
     try_move(rt, &round, &mut second, 1, to[1], finds[1])?;
-    closed(alloc, round, first, second)
+    closed(rt, alloc, round, first, second)
 }
 
 /// What the first pin of a net in its new block finds, and what the second one does.
@@ -293,7 +299,7 @@ fn has_left(closed: &Closed, from: [u32; 2], to: [u32; 2], gains: [i64; 2]) -> b
 
 /// Tries two moves on one net.
 fn try_row(
-    rt: &impl Abort,
+    rt: &(impl Threads + Sync + Abort),
     alloc: Global,
     objective: Objective,
     blocks: [u32; 2],
@@ -323,7 +329,12 @@ fn moves_in_turn(rt: HostRuntime) -> Result<(), Fail> {
 }
 
 /// Tries two moves on a net of all vertices of the first block.
-fn try_wide(rt: &impl Abort, alloc: Global, vertices: u32, pins: u64) -> Result<(), Fail> {
+fn try_wide(
+    rt: &(impl Threads + Sync + Abort),
+    alloc: Global,
+    vertices: u32,
+    pins: u64,
+) -> Result<(), Fail> {
     let all = numbers(alloc, vertices)?;
     let h = netted(
         rt,
@@ -403,7 +414,7 @@ fn end_second(rt: &impl Abort, round: &Round, pass: &mut Pass, moves: bool) -> R
 
 /// The first pass has a grant while the second one is refused; then each ends.
 fn try_refusal(
-    rt: &impl Abort,
+    rt: &(impl Threads + Sync + Abort),
     alloc: Global,
     h: &Hypergraph,
     p: Partition,
@@ -417,12 +428,12 @@ fn try_refusal(
     refuse(rt, &round, &mut second, 1, 1, 4)?;
     end_grant(&round, &mut first, grant, moves[0]);
     end_second(rt, &round, &mut second, moves[1])?;
-    closed(alloc, round, first, second)
+    closed(rt, alloc, round, first, second)
 }
 
 /// Tries a row of moves that are made or given up.
 fn try_ends(
-    rt: &impl Abort,
+    rt: &(impl Threads + Sync + Abort),
     alloc: Global,
     moves: [bool; 2],
     after: [u32; 5],
@@ -466,7 +477,7 @@ fn has_left_one(closed: &Closed, moved: bool) -> bool {
 
 /// Moves vertex 0 where there is room for its move, closes, and says whether it moved.
 fn try_memory(
-    rt: &impl Abort,
+    rt: &(impl Threads + Sync + Abort),
     alloc: Global,
     h: &Hypergraph,
     p: Partition,
@@ -477,7 +488,7 @@ fn try_memory(
     let (round, mut first, second) = opened(rt, alloc, h, p)?;
     let grant = take(rt, &round, &mut first, 0, 1, 0)?;
     let moved = end_grant(&round, &mut first, grant, true);
-    Ok((closed(alloc, round, first, second)?, moved))
+    Ok((closed(rt, alloc, round, first, second)?, moved))
 }
 
 /// With ample memory the move is made and the first close answers. Where room for the move is
@@ -589,7 +600,7 @@ fn raced<R: Threads + Sync>(
         return Err(Fail::new("no memory"));
     };
     race(rt, &round, passes.slice_mut(), refused);
-    let Ok(closed) = round.close(alloc, passes) else {
+    let Ok(closed) = round.close(rt, alloc, passes) else {
         return Err(Fail::new("no memory"));
     };
     Ok(closed)
