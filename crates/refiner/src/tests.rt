@@ -79,7 +79,12 @@ fn parted(
 }
 
 /// A round of two passes that is closed before they moved a vertex.
-fn idle_race(alloc: Global, h: &Hypergraph, p: Partition) -> Result<Closed, NoMemory>
+fn idle_race(
+    rt: &(impl Threads + Sync),
+    alloc: Global,
+    h: &Hypergraph,
+    p: Partition,
+) -> Result<Closed, NoMemory>
     requires belongs { p.hyper ≡ h.now }
     requires fits { Fits h.now p.k p.limit p.blocks }
     ensures { IfOk result (λ c. c.part.hyper ≡ h.now) }
@@ -87,7 +92,7 @@ fn idle_race(alloc: Global, h: &Hypergraph, p: Partition) -> Result<Closed, NoMe
     let Ok((round, passes)) = Round::open(alloc, h, p, 2) else {
         return Err(NoMemory);
     };
-    let Ok(closed) = round.close(alloc, passes) else {
+    let Ok(closed) = round.close(rt, alloc, passes) else {
         return Err(NoMemory);
     };
     Ok(closed)
@@ -114,7 +119,7 @@ fn rounds_in_order(rt: HostRuntime) -> Result<(), Fail> {
 fn race_without_moves(rt: HostRuntime) -> Result<(), Fail> {
     let alloc = rt.alloc();
     let h = one_net(alloc)?;
-    let closed = idle_race(alloc, &h, parted(&rt, alloc, &h, 2, &[0, 1])?)?;
+    let closed = idle_race(&rt, alloc, &h, parted(&rt, alloc, &h, 2, &[0, 1])?)?;
     let mut log = Log::new(alloc);
     let p = log.race(&rt, alloc, &h, Kind::Label, 1, closed)?;
     assert_eq!(rt; p.blocks(), [0, 1].as_slice());
@@ -168,6 +173,7 @@ fn carry(
 
 /// Closes a round of two passes.
 fn closed(
+    rt: &(impl Threads + Sync),
     alloc: Global,
     h: &Hypergraph,
     round: Round,
@@ -183,7 +189,7 @@ fn closed(
     let mut passes = Vec::with_capacity(alloc, 2)?;
     passes.push(first)?;
     passes.push(second)?;
-    let Ok(closed) = round.close(alloc, Items::from_vec(passes)) else {
+    let Ok(closed) = round.close(rt, alloc, Items::from_vec(passes)) else {
         return Err(Fail::new("no memory"));
     };
     Ok(closed)
@@ -191,7 +197,8 @@ fn closed(
 
 /// A race of two passes that take turns, each step behind the one before.
 fn race_in_turn(
-    rt: &impl Abort,
+    rt: &(impl Threads + Sync),
+    abort: &impl Abort,
     alloc: Global,
     h: &Hypergraph,
     p: Partition,
@@ -209,11 +216,11 @@ fn race_in_turn(
     let (Some(mut second), Some(mut first)) = (passes.pop(), passes.pop()) else {
         return Err(Fail::new("no pass"));
     };
-    carry(rt, h, &round, &mut first, turns[0][0])?;
-    carry(rt, h, &round, &mut second, turns[0][1])?;
-    carry(rt, h, &round, &mut first, turns[1][0])?;
-    carry(rt, h, &round, &mut second, turns[1][1])?;
-    closed(alloc, h, round, first, second)
+    carry(abort, h, &round, &mut first, turns[0][0])?;
+    carry(abort, h, &round, &mut second, turns[0][1])?;
+    carry(abort, h, &round, &mut first, turns[1][0])?;
+    carry(abort, h, &round, &mut second, turns[1][1])?;
+    closed(rt, alloc, h, round, first, second)
 }
 
 /// A race, and what is recorded of it: the moves as they were made, how many were kept, what each pass booked,
@@ -353,7 +360,7 @@ fn is_raced<R: Threads + Sync>(
         one_net(alloc)?
     };
     let p = parted(abort, alloc, &h, row.limit, row.opening)?;
-    let closed = race_in_turn(abort, alloc, &h, p, &row.turns)?;
+    let closed = race_in_turn(rt, abort, alloc, &h, p, &row.turns)?;
     let mut log = Log::new(alloc);
     log.add(one_round(alloc, Kind::Flow, 0)?)?;
     let p = log.race(rt, alloc, &h, kind, 3, closed)?;
