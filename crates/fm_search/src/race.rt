@@ -154,7 +154,7 @@ pub(crate) fn race<H: Threads + Sync, G: Gate>(
         return Err(NoMemory);
     }
     let passes = passes_of(alloc, workers, h, k, desks)?;
-    match round.close(alloc, passes) {
+    match round.close(rt, alloc, passes) {
         Ok(closed) => Ok(closed),
         Err(_) => Err(NoMemory),
     }

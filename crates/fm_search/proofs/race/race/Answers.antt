@@ -20,19 +20,17 @@ passes_of-requires-clause-sizes g c =
     (c.search_all.ensures.same ∙ ap (λ xs. length xs) c.as_mut_slice.ensures.value) (search rules)))
     (same_sizes c.in-Ok.round c.args.h.now c.k-k.result c.search_all.new.workers c.search_all.ensures.workers)
 
-pub close-requires : goal.close-requires
-close-requires g c = record {
-  passes =
-      passes_again c.in-Ok.round c.args.h.now c.k-k.result c.search_all.new.workers c.in_ok-passes.passes c.search_all.ensures.workers
-      (c.in_ok-passes.ensures.movers
-      ∙ ap (map (λ w. w.mover)) (written_back c.in_ok-workers.workers.items c.search_all.new.workers c.in_ok-workers.workers.len
-      (c.search_all.ensures.same ∙ ap (λ xs. length xs) c.as_mut_slice.ensures.value) (search rules)))
-      c.in_ok-passes.ensures.idle
-      (c.search_all.ensures.same
-      ∙ ap (λ xs. length xs) c.as_mut_slice.ensures.value
-      ∙ as_many c.in-Ok.round c.args.h.now c.k-k.result c.in_ok-workers.workers.items c.in-Ok.passes c.in_ok-workers.ensures.movers
-      ∙ c.in-Ok.ensures.passes.all);
-}
+pub close-requires-clause-passes : goal.close-requires-clause-passes
+close-requires-clause-passes g c κs within =
+    passes_again c.in-Ok.round c.args.h.now c.k-k.result c.search_all.new.workers c.in_ok-passes.passes c.search_all.ensures.workers
+    (c.in_ok-passes.ensures.movers
+    ∙ ap (map (λ w. w.mover)) (written_back c.in_ok-workers.workers.items c.search_all.new.workers c.in_ok-workers.workers.len
+    (c.search_all.ensures.same ∙ ap (λ xs. length xs) c.as_mut_slice.ensures.value) (search rules)))
+    c.in_ok-passes.ensures.idle
+    (c.search_all.ensures.same
+    ∙ ap (λ xs. length xs) c.as_mut_slice.ensures.value
+    ∙ as_many c.in-Ok.round c.args.h.now c.k-k.result c.in_ok-workers.workers.items c.in-Ok.passes c.in_ok-workers.ensures.movers
+    ∙ c.in-Ok.ensures.passes.all)
 
 pub returns-in-Ok-close-clause-gains : goal.returns-in-Ok-close-clause-gains
 returns-in-Ok-close-clause-gains g c =
