@@ -11,6 +11,3 @@ pub use end::PlaceEnd;
 pub use hg_base::NoMemory;
 pub use named::named_best;
 pub use placement::place;
-
-#[cfg(test)]
-mod tests;

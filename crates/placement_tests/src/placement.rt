@@ -1,9 +1,9 @@
 ghost use Rattle.std.specs.Prelude.{◌≡◌, ◌≤◌, ◌<◌, ◌^◌, IfOk, length, All};
 ghost use Rattle.hg_defs.specs.Hypergraph.{vertex_count};
 
-use super::*;
-use hg_base::{FlatHyper, cost_of};
+use hg_base::{FlatHyper, NoMemory, cost_of};
 use incidence::Hypergraph;
+use initial_place::{PlaceEnd, named_best, place};
 use std::alloc::Global;
 use std::test::Fail;
 

@@ -1,0 +1,5 @@
+//! Tests of the first partition.
+#![tactic(auto)]
+
+#[cfg(test)]
+mod placement;
