@@ -12,6 +12,3 @@ mod ratings;
 mod worker;
 
 pub use claim::cluster;
-
-#[cfg(test)]
-mod tests;

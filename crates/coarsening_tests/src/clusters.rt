@@ -1,7 +1,7 @@
 ghost use Rattle.std.specs.Prelude.{◌≡◌, IfOk};
 ghost use Rattle.hg_defs.specs.Hypergraph.{vertex_count};
 
-use crate::cluster;
+use cluster_claim::cluster;
 use crew::{Gate, OpenGate};
 use hg_base::{FlatHyper, NoMemory};
 use incidence::Hypergraph;

@@ -1,0 +1,5 @@
+//! Tests of coarsening: clusters, contraction, the stack of levels, and the passes that make it.
+#![tactic(auto)]
+
+#[cfg(test)]
+mod clusters;
