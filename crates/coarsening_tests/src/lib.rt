@@ -3,3 +3,5 @@
 
 #[cfg(test)]
 mod clusters;
+#[cfg(test)]
+mod contraction;

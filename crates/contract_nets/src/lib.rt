@@ -15,6 +15,3 @@ pub use contraction::{contract, count_clusters};
 pub use hg_base::NoMemory;
 pub use incidence::Hypergraph;
 pub use ledger::{MergeLedger, Merged};
-
-#[cfg(test)]
-mod tests;

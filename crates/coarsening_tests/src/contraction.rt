@@ -4,8 +4,9 @@ ghost use Rattle.hg_defs.specs.Partition.{IsPartition};
 ghost use Rattle.hg_defs.specs.Contraction.{IsFull};
 ghost use Rattle.hg_defs.specs.Clustering.{cluster_count};
 
-use super::*;
-use hg_base::{FREE, FlatHyper, Objective};
+use contract_nets::{Merged, contract};
+use hg_base::{FREE, FlatHyper, NoMemory, Objective};
+use incidence::Hypergraph;
 use std::alloc::Global;
 use std::process::Abort;
 use std::test::Fail;
