@@ -5,3 +5,5 @@
 mod clusters;
 #[cfg(test)]
 mod contraction;
+#[cfg(test)]
+mod levels;

@@ -9,6 +9,3 @@ pub use down::LevelsDown;
 pub use hg_base::{MapList, NoMemory};
 pub use incidence::Hypergraph;
 pub use stack::LevelStack;
-
-#[cfg(test)]
-mod tests;

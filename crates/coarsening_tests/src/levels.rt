@@ -4,9 +4,10 @@ ghost use Rattle.hg_defs.specs.Partition.{IsPartition};
 ghost use Rattle.hg_defs.specs.Contraction.{IsFull, IsApart};
 ghost use Rattle.hg_defs.specs.Clustering.{cluster_count};
 
-use super::*;
-use contract_nets::contract;
-use hg_base::{FREE, FlatHyper};
+use contract_nets::{Merged, contract};
+use hg_base::{FREE, FlatHyper, MapList, NoMemory};
+use incidence::Hypergraph;
+use level_stack::LevelStack;
 use std::alloc::Global;
 use std::process::Abort;
 use std::test::Fail;

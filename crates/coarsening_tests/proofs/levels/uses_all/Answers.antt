@@ -1,7 +1,7 @@
 -- The next number was found in the map.
 use Rattle.std.proofs.Common.{ℕ, get_or, Contains, below_more}
 use Rattle.std.proofs.lemmas.Bool.{eqb-true}
-use Rattle.level_stack.proofs.tests.uses_all.Goals as goal
+use Rattle.coarsening_tests.proofs.levels.uses_all.Goals as goal
 
 pub loop-i-preserved : goal.loop-i-preserved
 loop-i-preserved c =

@@ -1,6 +1,6 @@
 -- A partition into so many clusters, each with a vertex, is full.
 use Rattle.contract_nets.proofs.FullLaws.{full_from_used}
-use Rattle.level_stack.proofs.tests.is_full.Goals as goal
+use Rattle.coarsening_tests.proofs.levels.is_full.Goals as goal
 
 pub returns-then-is_partition : goal.returns-then-is_partition
 returns-then-is_partition c =
