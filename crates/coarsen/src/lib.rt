@@ -15,6 +15,3 @@ pub use incidence::Hypergraph;
 pub use level_stack::LevelStack;
 pub use pairing::pair_sweep;
 pub use round_log::Stop;
-
-#[cfg(test)]
-mod tests;

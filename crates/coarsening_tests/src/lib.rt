@@ -4,6 +4,8 @@
 #[cfg(test)]
 mod clusters;
 #[cfg(test)]
+mod coarsening;
+#[cfg(test)]
 mod contraction;
 #[cfg(test)]
 mod levels;

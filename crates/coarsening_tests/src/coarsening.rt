@@ -1,9 +1,12 @@
 ghost use Rattle.std.specs.Prelude.{◌≡◌, ◌<◌, ◌≤◌, ◌^◌, All, IfOk, length};
 ghost use Rattle.hg_defs.specs.Hypergraph.{vertex_count};
 
-use super::*;
+use coarsen::{coarsen, coarsen_inside, pair_sweep};
 use crew::OpenGate;
-use hg_base::FlatHyper;
+use hg_base::{FlatHyper, NoMemory};
+use incidence::Hypergraph;
+use level_stack::LevelStack;
+use round_log::Stop;
 use std::alloc::Global;
 use std::process::Abort;
 use std::test::Fail;
