@@ -9,6 +9,3 @@ mod prefix;
 
 pub use gains::recalculate;
 pub use prefix::{Kept, keep_best, roll_back};
-
-#[cfg(test)]
-mod tests;

@@ -3,10 +3,10 @@ ghost use Rattle.hg_defs.specs.Hypergraph.{vertex_count};
 ghost use Rattle.hg_defs.specs.Replay.{undone};
 ghost use Rattle.rollback_prefix.specs.Steps.{EndAt};
 
-use crate::{Kept, keep_best, recalculate, roll_back};
 use hg_base::{Blocks, FlatHyper, Move, NoMemory};
 use incidence::Hypergraph;
 use pin_plain::Partition;
+use rollback_prefix::{Kept, keep_best, recalculate, roll_back};
 use std::alloc::Global;
 use std::process::Abort;
 use std::test::Fail;

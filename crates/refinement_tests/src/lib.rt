@@ -1,0 +1,5 @@
+//! Tests of refinement by races: the rollback, the log, label propagation and localized searches.
+#![tactic(auto)]
+
+#[cfg(test)]
+mod rollback;
