@@ -12,6 +12,3 @@ mod refiner;
 pub use log::Log;
 pub use pass::{Tally, Task};
 pub use refiner::Refiner;
-
-#[cfg(test)]
-mod tests;

@@ -4,11 +4,11 @@ ghost use Rattle.hg_defs.specs.Hypergraph.{vertex_count};
 ghost use Rattle.move_table.specs.Calls.{IsPassOf, stage_of};
 ghost use Rattle.round_log.specs.declared.record.Kind.TheVariants.{Label, Search};
 
-use crate::Log;
 use hg_base::{Blocks, FREE, FlatHyper, Items, Move, NoMemory};
 use incidence::Hypergraph;
 use move_table::{Closed, Pass, Round};
 use pin_plain::Partition;
+use refiner::Log;
 use round_log::{Kind, LoggedRound, RoundList};
 use std::alloc::Global;
 use std::process::Abort;

@@ -1,7 +1,7 @@
 -- Two passes are all the passes of their round.
 use Rattle.std.proofs.Common.{rules}
 use Rattle.move_table.proofs.PassesLaws.{IsIdlePass, two_passes}
-use Rattle.refiner.proofs.tests.closed.Goals as goal
+use Rattle.refinement_tests.proofs.logs.closed.Goals as goal
 
 pub close-requires-clause-passes : goal.close-requires-clause-passes
 close-requires-clause-passes g c κs within =
