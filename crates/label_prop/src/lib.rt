@@ -17,6 +17,3 @@ mod worker;
 
 pub use label::LabelProp;
 pub use pass::label_pass;
-
-#[cfg(test)]
-mod tests;

@@ -2,6 +2,8 @@
 #![tactic(auto)]
 
 #[cfg(test)]
+mod labels;
+#[cfg(test)]
 mod logs;
 #[cfg(test)]
 mod rollback;

@@ -2,10 +2,10 @@ ghost use Rattle.std.specs.Prelude.{◌≡◌, ◌≤◌, IfOk};
 ghost use Rattle.hg_defs.specs.Hypergraph.{vertex_count};
 ghost use Rattle.hg_defs.specs.Partition.{Fits};
 
-use crate::{LabelProp, label_pass};
 use crew::{Gate, OpenGate};
 use hg_base::{Blocks, FlatHyper, NoMemory};
 use incidence::Hypergraph;
+use label_prop::{LabelProp, label_pass};
 use pin_plain::Partition;
 use refiner::{Log, Refiner, Tally, Task};
 use round_log::Kind;
