@@ -24,6 +24,3 @@ mod worker;
 
 pub use fm::FmSearch;
 pub use pass::search_pass;
-
-#[cfg(test)]
-mod tests;

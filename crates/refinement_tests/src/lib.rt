@@ -7,3 +7,5 @@ mod labels;
 mod logs;
 #[cfg(test)]
 mod rollback;
+#[cfg(test)]
+mod searches;

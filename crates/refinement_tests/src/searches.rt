@@ -1,8 +1,8 @@
 ghost use Rattle.std.specs.Prelude.{◌≡◌, IfOk};
 ghost use Rattle.hg_defs.specs.Partition.{Fits};
 
-use crate::{FmSearch, search_pass};
 use crew::{Gate, OpenGate};
+use fm_search::{FmSearch, search_pass};
 use hg_base::{Blocks, FlatHyper, NoMemory};
 use incidence::Hypergraph;
 use pin_plain::Partition;
