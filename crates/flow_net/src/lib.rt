@@ -14,6 +14,3 @@ pub use cut::Cut;
 pub use hg_base::{Flags, NoMemory};
 pub use maximum::Workspace;
 pub use network::{Arc, Network};
-
-#[cfg(test)]
-mod tests;

@@ -1,6 +1,7 @@
 ghost use Rattle.std.specs.Prelude.{◌≡◌, ◌≤◌, length, OnOk};
 
-use super::*;
+use flow_net::{Arc, Network, Workspace};
+use hg_base::NoMemory;
 use std::alloc::Global;
 use std::test::Fail;
 

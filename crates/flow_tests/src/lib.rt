@@ -1,0 +1,5 @@
+//! Tests of refinement by flows: networks, pairs of blocks, and rounds of disjoint pairs.
+#![tactic(auto)]
+
+#[cfg(test)]
+mod networks;
