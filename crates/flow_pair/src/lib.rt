@@ -23,6 +23,3 @@ pub use pass::flow_pass;
 pub use refine::FlowPair;
 pub use round::{assign_region, record_moves, record_round};
 pub use solve::{PairEnd, PairSolver, solve_pair};
-
-#[cfg(test)]
-mod tests;

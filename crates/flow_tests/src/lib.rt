@@ -3,3 +3,5 @@
 
 #[cfg(test)]
 mod networks;
+#[cfg(test)]
+mod pairs;

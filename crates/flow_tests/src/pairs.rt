@@ -3,8 +3,8 @@ ghost use Rattle.hg_defs.specs.Hypergraph.{vertex_count};
 ghost use Rattle.hg_defs.specs.Partition.{Fits};
 ghost use Rattle.flow_pair.specs.PairEnds.{IsPairEnd};
 
-use super::*;
-use hg_base::{Blocks, FREE, FlatHyper, Objective};
+use flow_pair::{FlowPair, PairEnd, region_network, solve_pair};
+use hg_base::{Blocks, FREE, FlatHyper, NoMemory, Objective};
 use incidence::Hypergraph;
 use pin_plain::Partition;
 use refiner::{Log, Refiner, Tally, Task};

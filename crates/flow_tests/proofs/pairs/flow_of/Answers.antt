@@ -3,7 +3,7 @@ use Rattle.std.specs.List.Sorted.{IsStrictlyIncreasing}
 use Rattle.hg_defs.specs.Hypergraph.{IsHypergraph, vertex_count}
 use Rattle.flow_pair.specs.PairNetwork.{AreOfPair}
 use Rattle.flow_pair.proofs.EndLaws.{end_rises, end_vertices, end_pair}
-use Rattle.flow_pair.proofs.tests.flow_of.Goals as goal
+use Rattle.flow_tests.proofs.pairs.flow_of.Goals as goal
 
 pub region_network-requires-clause-rising : goal.region_network-requires-clause-rising
 region_network-requires-clause-rising c =
