@@ -11,6 +11,3 @@ mod worker;
 
 pub use pass::wave_pass;
 pub use refine::FlowRound;
-
-#[cfg(test)]
-mod tests;

@@ -5,3 +5,5 @@
 mod networks;
 #[cfg(test)]
 mod pairs;
+#[cfg(test)]
+mod rounds;

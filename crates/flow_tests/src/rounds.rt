@@ -1,10 +1,9 @@
 ghost use Rattle.std.specs.Prelude.{◌≡◌, IfOk};
 ghost use Rattle.hg_defs.specs.Partition.{Fits};
 
-use super::*;
 use crew::{Gate, OpenGate};
-use flow_pair::NoMemory;
-use hg_base::{Blocks, FlatHyper, Objective};
+use flow_round::{FlowRound, wave_pass};
+use hg_base::{Blocks, FlatHyper, NoMemory, Objective};
 use incidence::Hypergraph;
 use pin_plain::Partition;
 use refiner::{Log, Refiner, Tally, Task};
