@@ -11,6 +11,3 @@ mod start;
 pub use descent::uncoarsen;
 pub use settling::settle_best;
 pub use start::{Start, descend};
-
-#[cfg(test)]
-mod tests;

@@ -1,7 +1,6 @@
 ghost use Rattle.std.specs.Prelude.{◌≡◌, IfOk};
 ghost use Rattle.hg_defs.specs.Hypergraph.{vertex_count};
 
-use super::*;
 use hg_base::{Blocks, FlatHyper, MapStack, NoMemory, greedy};
 use incidence::Hypergraph;
 use initial_place::PlaceEnd;
@@ -16,6 +15,7 @@ use std::sync::atomic::AtomicU64;
 use std::sync::atomic::Ordering::SeqCst;
 use std::test::Fail;
 use std::thread::Threads;
+use uncoarsen::{descend, settle_best, uncoarsen};
 
 /// Four vertices of these weights and one net that holds the first two.
 fn weighted(

@@ -1,0 +1,5 @@
+//! Tests of whole descents: where they begin and end, cycles, and the deterministic mode.
+#![tactic(auto)]
+
+#[cfg(test)]
+mod descents;
