@@ -5,6 +5,3 @@ mod cycling;
 pub mod laws;
 
 pub use cycling::{cycle, cycles};
-
-#[cfg(test)]
-mod tests;

@@ -2,7 +2,7 @@ use Rattle.std.proofs.Common.{◌≡◌, [], refl, sym, inl}
 use Rattle.std.proofs.lemmas.List.{append-nil}
 use Rattle.std.proofs.lemmas.List.Elements.{All-nil}
 use Rattle.round_log.specs.declared.record.LoggedRound.{LoggedRound}
-use Rattle.vcycle.proofs.tests.RestsRefiner.refine.Goals as goal
+use Rattle.descent_tests.proofs.cycles.RestsRefiner.refine.Goals as goal
 
 pub returns-then-settled-clause-pass : goal.returns-then-settled-clause-pass
 returns-then-settled-clause-pass c = record {

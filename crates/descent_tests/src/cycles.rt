@@ -3,7 +3,6 @@ ghost use Rattle.hg_defs.specs.Hypergraph.{vertex_count};
 ghost use Rattle.hg_defs.specs.Partition.{Obeys};
 ghost use Rattle.round_log.specs.TraceLaws.{IsSound};
 
-use super::*;
 use crew::OpenGate;
 use hg_base::{Blocks, FREE, FlatHyper, NoMemory};
 use incidence::Hypergraph;
@@ -16,6 +15,7 @@ use std::sync::Arc;
 use std::sync::atomic::AtomicU64;
 use std::sync::atomic::Ordering::SeqCst;
 use std::test::Fail;
+use vcycle::{cycle, cycles};
 
 /// Thirty-three pairs of vertices, each with a net of its own.
 fn pairs(alloc: Global) -> Result<Hypergraph, NoMemory>
