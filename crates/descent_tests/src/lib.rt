@@ -5,3 +5,5 @@
 mod cycles;
 #[cfg(test)]
 mod descents;
+#[cfg(test)]
+mod deterministic;

@@ -16,6 +16,3 @@ pub use levels::det_levels;
 pub use pin_plain::Partition;
 pub use round_log::{RoundList, Stop, Trace};
 pub use rounds::sync_round;
-
-#[cfg(test)]
-mod tests;

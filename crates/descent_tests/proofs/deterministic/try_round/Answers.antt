@@ -3,7 +3,7 @@ use Rattle.std.proofs.Common.{rules, IsTrue, ap, subst}
 use Rattle.hg_defs.specs.Hypergraph.{Hyper}
 use Rattle.hg_defs.specs.Partition.{Fits}
 use Rattle.pin_plain.specs.Parted.{Parted}
-use Rattle.det_sync.proofs.tests.try_round.Goals as goal
+use Rattle.descent_tests.proofs.deterministic.try_round.Goals as goal
 
 pub sync_round-requires-clause-fits : goal.sync_round-requires-clause-fits
 sync_round-requires-clause-fits g c κs within =

@@ -2,8 +2,12 @@ ghost use Rattle.std.specs.Prelude.{◌≡◌, ◌≤◌, ℕ, length, IsTrue, I
 ghost use Rattle.hg_defs.specs.Hypergraph.{vertex_count, Suits};
 ghost use Rattle.hg_defs.specs.Levels.{level};
 
-use super::*;
-use hg_base::{Blocks, FlatHyper};
+use det_sync::{det_descend, det_levels, sync_round};
+use hg_base::{Blocks, FlatHyper, NoMemory};
+use incidence::Hypergraph;
+use level_stack::LevelStack;
+use pin_plain::Partition;
+use round_log::{RoundList, Stop};
 use std::alloc::Global;
 use std::process::Abort;
 use std::test::Fail;
