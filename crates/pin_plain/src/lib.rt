@@ -14,6 +14,3 @@ mod tallies;
 
 pub use hg_base::NoMemory;
 pub use partition::{BestMove, Partition, Ready};
-
-#[cfg(test)]
-mod tests;

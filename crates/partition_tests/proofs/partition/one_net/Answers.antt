@@ -2,7 +2,7 @@ use Rattle.std.proofs.Common.{◌≡◌, ◌<◌, ◌*◌, ℕ, All, List, lengt
 use Rattle.std.proofs.lemmas.List.{length-replicate}
 use Rattle.hg_defs.specs.Sums.{total}
 use Rattle.hg_defs.specs.Hypergraph.{Hyper, Net, vertex_count, pin_count}
-use Rattle.pin_plain.proofs.tests.one_net.Goals as goal
+use Rattle.partition_tests.proofs.partition.one_net.Goals as goal
 
 pub push_net-requires-clause-vertices : goal.push_net-requires-clause-vertices
 push_net-requires-clause-vertices c =

@@ -1,9 +1,9 @@
 ghost use Rattle.std.specs.Prelude.{◌≡◌, ◌≤◌, ◌<◌, ◌^◌, All, length, IfOk};
 ghost use Rattle.hg_defs.specs.Hypergraph.{vertex_count, net_count};
 
-use super::*;
-use hg_base::{Blocks, FlatHyper, Objective};
+use hg_base::{Blocks, FlatHyper, NoMemory, Objective};
 use incidence::Hypergraph;
+use pin_plain::{Partition, Ready};
 use round_log::{Kind, Moves, RoundList};
 use std::alloc::Global;
 use std::test::Fail;

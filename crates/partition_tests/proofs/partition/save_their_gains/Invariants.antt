@@ -1,5 +1,5 @@
 use Rattle.std.proofs.Common.{◌≡◌}
-use Rattle.pin_plain.proofs.tests.save_their_gains.Given as goal
+use Rattle.partition_tests.proofs.partition.save_their_gains.Given as goal
 
 abbrev pub invariant-loop-v : goal.invariant-loop-v
 invariant-loop-v l = l.p.hyper ≡ l.h
