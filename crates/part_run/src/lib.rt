@@ -16,8 +16,6 @@ mod reached;
 mod reading;
 mod selfrun;
 mod status;
-#[cfg(test)]
-mod tests;
 mod top;
 mod words;
 

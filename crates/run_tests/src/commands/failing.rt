@@ -2,8 +2,8 @@
 
 use super::hostile::head;
 use super::{Case, FIRST, Faults, NONE, PAIR, ends};
-use crate::Status;
 use hmetis_read::{LineKind, What};
+use part_run::Status;
 use part_text::PartKind;
 use std::alloc::Global;
 use std::test::Fail;

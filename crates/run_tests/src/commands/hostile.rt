@@ -1,8 +1,8 @@
 //! Files and words that are refused: nothing is written, and the first cause is answered.
 
 use super::{Case, FIRST, is_done, is_refused};
-use crate::Status;
 use hmetis_read::{LineKind, What};
+use part_run::Status;
 use part_text::PartKind;
 use std::alloc::{AllocError, Global};
 use std::test::Fail;

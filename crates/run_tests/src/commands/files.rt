@@ -1,8 +1,8 @@
 //! The places that words name, and runs over files.
 
 use super::words_of;
-use crate::{Names, Status, names, run};
 use hg_io::{AnySink, AnySource, Place};
+use part_run::{Names, Status, names, run};
 use refiner::Refiner;
 use std::alloc::Global;
 use std::test::Fail;

@@ -1,5 +1,5 @@
-use crate::{Ended, Status, run};
 use hg_io::{MemSink, MemSource};
+use part_run::{Ended, Status, run};
 use refiner::Refiner;
 use std::alloc::{AllocError, Global};
 use std::test::Fail;

@@ -1,9 +1,9 @@
-//! Runs in the deterministic mode, and with cycles.
+//! Runs in the deterministic mode and with cycles, and the words that choose them.
 
 use super::runs::{agree, number_behind, tells};
 use super::{Case, NONE, Ran, run_over};
-use crate::Status;
 use hg_text::number;
+use part_run::Status;
 use std::alloc::Global;
 use std::test::Fail;
 use std::thread::Threads;
@@ -158,6 +158,129 @@ fn cycles_raise_no_cost(rt: HostRuntime) -> Result<(), Fail> {
             cycles_fall(&rt, rt.alloc(), graph.as_slice(), fixes.as_bytes(), words)?,
             "{}",
             *words
+        );
+    }
+    Ok(())
+}
+
+/// Words, and the cost and the number of cycles of the run that they spell, where they spell one. Over eight made
+/// vertices a race costs 5, and the deterministic mode 6.
+#[derive(Clone, Copy)]
+struct Chosen<'a> {
+    words: &'a str,
+    made: Option<(u64, usize)>,
+}
+
+const CHOSEN: &[Chosen<'static>] = &[
+    Chosen {
+        words: "partition g 2 0",
+        made: Some((5, 0)),
+    },
+    Chosen {
+        words: "partition g 2 0 mode=det",
+        made: Some((6, 0)),
+    },
+    Chosen {
+        words: "partition g 2 0 seed=1 mode=det workers=3",
+        made: Some((6, 0)),
+    },
+    Chosen {
+        words: "partition g 2 0 cycles=0",
+        made: Some((5, 0)),
+    },
+    Chosen {
+        words: "partition g 2 0 cycles=8",
+        made: Some((5, 8)),
+    },
+    Chosen {
+        words: "partition g 2 0 cycles=08 cost=cut",
+        made: Some((5, 8)),
+    },
+    Chosen {
+        words: "partition g 2 0 cycles=9",
+        made: None,
+    },
+    Chosen {
+        words: "partition g 2 0 cycles=-1",
+        made: None,
+    },
+    Chosen {
+        words: "partition g 2 0 cycles=",
+        made: None,
+    },
+    Chosen {
+        words: "partition g 2 0 cycles",
+        made: None,
+    },
+    Chosen {
+        words: "partition g 2 0 cycles=18446744073709551616",
+        made: None,
+    },
+    Chosen {
+        words: "partition g 2 0 mode=",
+        made: None,
+    },
+    Chosen {
+        words: "partition g 2 0 mode=x",
+        made: None,
+    },
+    Chosen {
+        words: "partition g 2 0 mode=det1",
+        made: None,
+    },
+    Chosen {
+        words: "partition g 2 0 mode=det mode=det",
+        made: None,
+    },
+    Chosen {
+        words: "partition g 2 0 cycles=1 cycles=1",
+        made: None,
+    },
+    Chosen {
+        words: "partition g 2 0 mode=det cycles=0",
+        made: None,
+    },
+    Chosen {
+        words: "partition g 2 0 cycles=0 mode=det",
+        made: None,
+    },
+    Chosen {
+        words: "partition g 2 0 cycles=1 seed=1 mode=det",
+        made: None,
+    },
+    Chosen {
+        words: "evaluate g p 2 0 mode=det",
+        made: None,
+    },
+    Chosen {
+        words: "selfrun 4 2 cycles=1",
+        made: None,
+    },
+];
+
+/// Whether the words spell a run of this cost and so many cycles, or are no command.
+fn is_chosen<H: Threads + Sync>(
+    rt: &H,
+    alloc: Global,
+    graph: &[u8],
+    chosen: &Chosen<'_>,
+) -> Result<bool, Fail> {
+    let made = made_of(rt, alloc, chosen.words, graph, b"")?;
+    Ok(match (&made.ended.outcome, chosen.made) {
+        (Some(outcome), Some(wanted)) => (outcome.cost, outcome.cycles.len()) == wanted,
+        (None, None) => made.ended.status == Status::Usage,
+        _ => false,
+    })
+}
+
+#[test]
+fn modes_of_words(rt: HostRuntime) -> Result<(), Fail> {
+    let graph = made_of(&rt, rt.alloc(), "generate 8", b"", b"")?.out;
+    for chosen in CHOSEN {
+        assert!(rt;
+            is_chosen(&rt, rt.alloc(), graph.as_slice(), chosen)?,
+            "{}",
+            chosen.words
         );
     }
     Ok(())
