@@ -1,7 +1,7 @@
 ghost use Rattle.std.specs.Prelude.{◌≡◌, ◌≤◌, ◌<◌, ◌^◌, All, length, IfOk};
 ghost use Rattle.hg_defs.specs.Hypergraph.{vertex_count, net_count};
 
-use hg_base::{Blocks, FlatHyper, NoMemory, Objective};
+use hg_base::{Blocks, FlatHyper, Move, NoMemory, Objective};
 use incidence::Hypergraph;
 use pin_plain::{Partition, Ready};
 use round_log::{Kind, Moves, RoundList};
@@ -141,15 +141,37 @@ fn settles_path(rt: HostRuntime) -> Result<(), Fail> {
     Ok(())
 }
 
-/// Whether the log has one sweep alone, which moves this vertex alone, to block 0, and saves 3.
-fn moves_alone(log: &RoundList, v: u32) -> bool {
-    let [round] = log.slice() else {
-        return false;
-    };
-    match round.moves.slice() {
+/// Whether there is one move alone, which takes this vertex to block 0, and saves 3.
+fn is_alone(moves: &Moves, v: u32) -> bool {
+    match moves.slice() {
         [step] => step.vertex == v && step.to == 0 && step.booked == 3,
         _ => false,
     }
+}
+
+/// Whether the log has one sweep alone, with this move alone.
+fn moves_alone(log: &RoundList, v: u32) -> bool {
+    match log.slice() {
+        [round] => is_alone(&round.moves, v),
+        _ => false,
+    }
+}
+
+/// Whether one sweep of so many workers moves this vertex alone.
+fn sweeps_alone<R: Threads + Sync>(
+    rt: &R,
+    alloc: Global,
+    h: &Hypergraph,
+    mut p: Partition,
+    v: u32,
+    workers: u32,
+) -> Result<bool, Fail>
+    requires belongs { p.hyper ≡ h.now }
+    requires some { 1 ≤ workers }
+{
+    let mut log = Moves::new(alloc);
+    let moved = p.sweep_with(rt, alloc, h, workers, &mut log)?;
+    Ok(moved && is_alone(&log, v) && stands_at(h, &p, 0, true))
 }
 
 /// Whether so many workers let a vertex, alone in block 1, join all others of its net, as one alone does.
@@ -169,6 +191,7 @@ fn joins<R: Threads + Sync>(
     blocks[v as usize] = 1;
     let mut p = parted(alloc, &h, 2, u64::from(vertices), blocks.as_slice())?;
     let mut q = parted(alloc, &h, 2, u64::from(vertices), blocks.as_slice())?;
+    let swept = parted(alloc, &h, 2, u64::from(vertices), blocks.as_slice())?;
     let (mut log, mut other) = (RoundList::new(alloc), RoundList::new(alloc));
     let rounds = p.settle_with(rt, alloc, &h, workers, &mut log)?;
     let as_many = q.settle(alloc, &h, &mut other)?;
@@ -176,7 +199,8 @@ fn joins<R: Threads + Sync>(
         (rounds == 1 && as_many == 1)
             && (moves_alone(&log, v) && moves_alone(&other, v))
             && stands_at(&h, &p, 0, true)
-            && p.blocks() == q.blocks(),
+            && p.blocks() == q.blocks()
+            && sweeps_alone(rt, alloc, &h, swept, v, workers)?,
     )
 }
 
@@ -484,6 +508,106 @@ fn projects_in_threads(rt: HostRuntime) -> Result<(), Fail> {
             counts_alike(&rt, rt.alloc(), &p, &fine, map.as_slice(), workers)?,
             "{workers} workers"
         );
+    }
+    Ok(())
+}
+
+/// So many moves of the vertices by turns, to three blocks by turns.
+fn moves_by_turns(alloc: Global, vertices: u32, count: u32) -> Result<Vec<Move>, NoMemory>
+    requires { 0 < vertices }
+    ensures vertices { IfOk result (λ moves. All (λ m. m.vertex < vertices) moves.items) }
+    ensures blocks { IfOk result (λ moves. All (λ m. m.to < 3) moves.items) }
+{
+    let mut moves = Vec::with_capacity(alloc, count as usize)?;
+    for i in 0..count {
+        moves.push(Move {
+            vertex: i % vertices,
+            from: 0,
+            to: i % 3,
+            worker: 0,
+            booked: 0,
+        })?;
+    }
+    Ok(moves)
+}
+
+/// Makes the moves by one shift each.
+fn shift_each(h: &Hypergraph, p: &mut Partition, moves: &[Move])
+    requires belongs { p.old.hyper ≡ h.now }
+    requires vertices { All (λ m. m.vertex < vertex_count h.now) moves.now }
+    requires blocks { All (λ m. m.to < p.old.k) moves.now }
+    ensures { p.new.hyper ≡ h.now }
+{
+    for step in moves {
+        p.shift(h, step.vertex, step.to);
+    }
+}
+
+/// How many moves are made, and by how many workers.
+#[derive(Clone, Copy)]
+struct Replaying {
+    moves: u32,
+    workers: u32,
+}
+
+/// The last number of moves that are made one after the other, and the first that are made at once, by one worker
+/// and by four; and so many that each vertex moves more than once.
+const REPLAYINGS: &[Replaying] = &[
+    Replaying {
+        moves: 40,
+        workers: 1,
+    },
+    Replaying {
+        moves: 41,
+        workers: 1,
+    },
+    Replaying {
+        moves: 10,
+        workers: 4,
+    },
+    Replaying {
+        moves: 11,
+        workers: 4,
+    },
+    Replaying {
+        moves: 500,
+        workers: 64,
+    },
+];
+
+/// Whether the moves lead to the words that shifts lead to, and that the same blocks have if they are counted anew.
+fn replays<R: Threads + Sync>(
+    rt: &R,
+    alloc: Global,
+    h: &Hypergraph,
+    row: &Replaying,
+) -> Result<bool, Fail>
+    requires { vertex_count h.now ≡ 200 }
+{
+    if row.workers < 1 || row.workers > 64 {
+        return Err(Fail::new("other workers are needed"));
+    }
+    let blocks = by_turns(alloc, 200)?;
+    let moves = moves_by_turns(alloc, 200, row.moves)?;
+    let mut p = parted(alloc, h, 3, 200, blocks.as_slice())?;
+    let mut q = parted(alloc, h, 3, 200, blocks.as_slice())?;
+    p.replay_with(rt, h, moves.as_slice(), row.workers);
+    shift_each(h, &mut q, moves.as_slice());
+    let anew = parted(alloc, h, 3, 200, p.blocks())?;
+    let (p, cost) = p.into_ready(h);
+    let (q, shifted) = q.into_ready(h);
+    let (anew, counted) = anew.into_ready(h);
+    Ok(
+        (cost == shifted && cost == counted)
+            && (p.words() == q.words() && p.words() == anew.words()),
+    )
+}
+
+#[test]
+fn replays_rounds(rt: HostRuntime) -> Result<(), Fail> {
+    let h = ring(rt.alloc(), 200)?;
+    for row in REPLAYINGS {
+        assert!(rt; replays(&rt, rt.alloc(), &h, row)?, "{} moves", row.moves);
     }
     Ok(())
 }
