@@ -35,6 +35,8 @@ fn count(tally: &mut Tally, saved: u64)
 ///
 /// While the partition isn't settled, and fewer than eight rounds made it cheaper, a round is raced and
 /// rolled back to its best prefix; where it didn't make the partition cheaper, the next round is a sweep.
+/// Many moves of a raced round are made on the partition by threads, and a sweep begins with threads that
+/// mark the vertices that need no visit.
 /// Where there is no memory, the rounds that were logged are the first ones of a pass, each of them whole,
 /// the tally counts just them, and the partition is dropped.
 pub fn label_pass<H: Threads + Sync, G: Gate>(
@@ -66,7 +68,7 @@ pub fn label_pass<H: Threads + Sync, G: Gate>(
         count(tally, saved);
         part = raced;
         if saved == 0 {
-            let Some(saved) = sweep_round(alloc, h, task, &mut part, log)? else {
+            let Some(saved) = sweep_round(rt, alloc, h, task, &mut part, log)? else {
                 return Ok(part);
             };
             count(tally, saved);

@@ -85,7 +85,7 @@ fn close_race<H: Threads + Sync, G: Gate>(
         refused: &AtomicBool::new(false),
     };
     let passes = visit_all(rt, gate, &shared, passes)?;
-    let Ok(closed) = round.close(alloc, passes) else {
+    let Ok(closed) = round.close(rt, alloc, passes) else {
         return Err(NoMemory);
     };
     Ok(closed)

@@ -9,6 +9,7 @@ use pin_plain::Partition;
 use refiner::{Log, Task};
 use round_log::{Kind, LoggedRound, Moves, RoundList};
 use std::alloc::Global;
+use std::thread::Threads;
 
 /// The round of a sweep.
 fn swept(
@@ -57,23 +58,26 @@ fn swept(
     })
 }
 
-/// Sweeps a partition once, and logs the round. Answers what it saved, or none where the partition was
-/// settled. Where there is no memory, nothing is logged, and the partition may be swept or not.
-pub(crate) fn sweep_round(
+/// Sweeps a partition once, behind threads that mark the vertices that need no visit, and logs the round.
+/// Answers what it saved, or none where the partition was settled. Where there is no memory, nothing is
+/// logged, and the partition may be swept or not.
+pub(crate) fn sweep_round<H: Threads + Sync>(
+    rt: &H,
     alloc: Global,
     h: &Hypergraph,
     task: &Task,
     part: &mut Partition,
     log: &mut Log,
 ) -> Result<Option<u64>, NoMemory>
-    requires { part.old.hyper ≡ h.now }
+    requires belongs { part.old.hyper ≡ h.now }
+    requires workers { 1 ≤ task.now.workers }
     ensures ok { IfOk result (λ saved. SweepsOrRests h.now task.now part.old log.old log.new saved part.new) }
     ensures err { OnErr result (log.new ≡ log.old) }
 {
     let _vertices = h.vertices();
     let before = part.cost(h);
     let mut moves = Moves::new(alloc);
-    if !part.sweep(alloc, h, &mut moves)? {
+    if !part.sweep_with(rt, alloc, h, task.workers, &mut moves)? {
         return Ok(None);
     }
     let after = part.cost(h);
