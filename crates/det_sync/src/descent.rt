@@ -3,7 +3,8 @@
 ghost use Rattle.std.specs.Prelude.{◌≡◌, ℕ, ◌≤◌, IfOk, Err, length, Some};
 ghost use Rattle.hg_defs.specs.Hypergraph.{IsFixedWithin, Suits};
 ghost use Rattle.hg_defs.specs.Levels.{level};
-ghost use Rattle.hg_defs.specs.Partition.{Fits};
+ghost use Rattle.hg_defs.specs.Partition.{IsPartition, Fits, Obeys};
+ghost use Rattle.hg_defs.specs.Placement as placements;
 ghost use Rattle.hg_defs.specs.Cost.{cost};
 ghost use Rattle.initial_place.specs.declared.end.PlaceEnd.TheVariants.{NoneFits as none_fits};
 ghost use Rattle.round_log.specs.Deterministic.{det_last};
@@ -14,11 +15,40 @@ use crate::rounds::sync_level;
 use hg_base::{Blocks, Items, MapStack, NoMemory};
 use incidence::Hypergraph;
 use initial_place::{PlaceEnd, named_best};
-use level_stack::LevelStack;
+use level_stack::{LevelStack, LevelsDown};
 use pin_plain::Partition;
 use round_log::{Chosen, RoundList, Stop, Trace};
 use std::alloc::Global;
 use std::thread::Threads;
+
+/// The best named placement on the level of a number. That of a finer level than the coarsest one is
+/// rare: such a level has no index, so that one is made of a copy, for the placement alone.
+fn best_on<R: Threads + Sync>(
+    rt: &R,
+    alloc: Global,
+    stack: &LevelStack,
+    i: u32,
+    k: u32,
+    limit: u64,
+    seed: u64,
+) -> Result<Blocks, PlaceEnd>
+    requires level { i ≤ length stack.now.maps }
+    requires some { 2 ≤ k }
+    requires few { k ≤ 256 }
+    requires fixed { IsFixedWithin (level stack.now.base stack.now.maps i) k }
+    ensures best { IfOk result (λ blocks. placements.named_best (level stack.now.base stack.now.maps i) k limit seed ≡
+        Some blocks) }
+    ensures none { result ≡ Err PlaceEnd.NoneFits → NoneFitsAt stack.now.base stack.now.maps k limit seed i }
+    ensures partition { IfOk result (IsPartition (level stack.now.base stack.now.maps i) k) }
+    ensures fixes { IfOk result (Obeys (level stack.now.base stack.now.maps i)) }
+{
+    if i == stack.depth() - 1 {
+        return named_best(rt, alloc, stack.top(), k, limit, seed);
+    }
+    let copy = stack.level(i).copy(alloc)?;
+    let h = Hypergraph::build(alloc, copy)?;
+    named_best(rt, alloc, &h, k, limit, seed)
+}
 
 /// The coarsest level where a named placement fits, and the best of them there.
 fn first_placed<R: Threads + Sync>(
@@ -39,7 +69,7 @@ fn first_placed<R: Threads + Sync>(
     let depth = stack.depth();
     for above in 0..depth {
         let level = depth - 1 - above;
-        match named_best(rt, alloc, stack.level(level), k, limit, seed) {
+        match best_on(rt, alloc, stack, level, k, limit, seed) {
             Ok(placed) => return Ok((level, placed)),
             Err(PlaceEnd::NoneFits) => {}
             Err(PlaceEnd::NoMemory) => return Err(PlaceEnd::NoMemory),
@@ -48,39 +78,39 @@ fn first_placed<R: Threads + Sync>(
     Err(PlaceEnd::NoneFits)
 }
 
-/// Takes a partition of the level of a number down to the file: each level has its synchronous rounds,
-/// and between two levels the partition is projected, which leaves its cost. A level is dropped when it
-/// is left. Answers the file's hypergraph, the clusterings, and the partition of the file; the rounds
-/// are appended to the log.
+/// Takes a partition of the level that a descent is on down to the file: each level has its synchronous
+/// rounds, and between two levels the partition is projected, which leaves its cost. A level is dropped
+/// when it is left. Answers the file's hypergraph, the clusterings, and the partition of the file; the
+/// rounds are appended to the log.
 fn sync_down<R: Threads + Sync>(
     rt: &R,
     alloc: Global,
-    stack: LevelStack,
+    mut levels: LevelsDown,
     start: u32,
     mut p: Partition,
     workers: u32,
     log: &mut RoundList,
 ) -> Result<(Hypergraph, MapStack, Partition), NoMemory>
-    requires level { start ≤ length stack.maps }
-    requires belongs { p.hyper ≡ level stack.base stack.maps start }
+    requires number { start ≡ levels.number }
+    requires level { start ≤ length levels.maps }
+    requires belongs { p.hyper ≡ level levels.base levels.maps start }
     requires fits { Fits p.hyper p.k p.limit p.blocks }
-    requires suits { (i : ℕ) → i ≤ length stack.maps → Suits (level stack.base stack.maps i) p.k }
-    requires fixed { (i : ℕ) → i ≤ length stack.maps → IsFixedWithin (level stack.base stack.maps i) p.k }
+    requires suits { (i : ℕ) → i ≤ length levels.maps → Suits (level levels.base levels.maps i) p.k }
+    requires fixed { (i : ℕ) → i ≤ length levels.maps → IsFixedWithin (level levels.base levels.maps i) p.k }
     requires some { 1 ≤ workers }
     requires few { workers ≤ 64 }
-    ensures base { IfOk result (λ r. r.0 ≡ stack.base) }
-    ensures maps { IfOk result (λ r. r.1 ≡ stack.maps) }
-    ensures partition { IfOk result (λ r. r.2 ≡ record p { hyper = stack.base; blocks = r.2.blocks }) }
-    ensures rounds { IfOk result (λ r. LogsDescent stack.base stack.maps p.k p.limit workers start p.blocks
+    ensures base { IfOk result (λ r. r.0 ≡ levels.base) }
+    ensures maps { IfOk result (λ r. r.1 ≡ levels.maps) }
+    ensures partition { IfOk result (λ r. r.2 ≡ record p { hyper = levels.base; blocks = r.2.blocks }) }
+    ensures rounds { IfOk result (λ r. LogsDescent levels.base levels.maps p.k p.limit workers start p.blocks
         r.2.blocks log.old log.new) }
 {
-    let mut levels = stack.down_from(start);
     let coarse = levels.level();
     let mut reached = p.cost(coarse);
     reached = sync_level(rt, alloc, coarse, &mut p, reached, start, workers, log)?;
     for above in 0..start {
         let level = start - 1 - above;
-        levels.descend();
+        levels = levels.descend(rt, alloc, workers as usize)?;
         let fine = levels.level();
         let _vertices = fine.vertices();
         p = p.project_with(rt, alloc, fine, levels.map(), workers)?;
@@ -131,10 +161,10 @@ pub fn det_descend<R: Threads + Sync>(
     let _vertices = file.vertices();
     let (start, first) = first_placed(rt, alloc, &stack, k, limit, seed)?;
     let blocks = first.copy()?;
-    let level = stack.level(start);
-    let placed = Partition::of(alloc, level, k, limit, blocks)?;
+    let levels = stack.down_from(rt, alloc, start, workers as usize)?;
+    let placed = Partition::of(alloc, levels.level(), k, limit, blocks)?;
     let mut rounds = RoundList::new(alloc);
-    let (base, maps, p) = sync_down(rt, alloc, stack, start, placed, workers, &mut rounds)?;
+    let (base, maps, p) = sync_down(rt, alloc, levels, start, placed, workers, &mut rounds)?;
     let reached = p.blocks();
     let copied = Vec::from_slice(alloc, reached)?;
     let last = Items::from_vec(copied);

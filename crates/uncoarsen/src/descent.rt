@@ -53,7 +53,7 @@ fn refine_down<R: Threads + Sync>(
         limit workers (map (λ b. tally b) refiners.old) (map (λ b. tally b) refiners.new) log.old log.new r.2) }
 {
     let Start { level: top, blocks } = start;
-    let mut levels = stack.down_from(top);
+    let mut levels = stack.down_from(rt, alloc, top, workers as usize)?;
     let h = levels.level();
     let _vertices = h.vertices();
     let task = Task {
@@ -65,7 +65,7 @@ fn refine_down<R: Threads + Sync>(
     let mut part = refine_level(alloc, h, &task, placed, refiners, log)?;
     for above in 0..top {
         let level = top - 1 - above;
-        levels.descend();
+        levels = levels.descend(rt, alloc, workers as usize)?;
         let h = levels.level();
         let _vertices = h.vertices();
         let task = Task {

@@ -1,10 +1,15 @@
 //! Where a descent begins.
 
 ghost use Rattle.std.specs.Prelude.{◌≡◌, ℕ, ◌≤◌, IfOk, Err, length};
+ghost use Rattle.hg_defs.specs.Hypergraph.{IsFixedWithin, Suits};
+ghost use Rattle.hg_defs.specs.Partition.{IsPartition, Fits, Obeys};
+ghost use Rattle.hg_defs.specs.Placement as placements;
+ghost use Rattle.initial_place.specs.Cheapest.{IsNoDearer};
 ghost use Rattle.initial_place.specs.declared.end.PlaceEnd.TheVariants.{NoneFits as none_fits};
-ghost use Rattle.uncoarsen.specs.Start.{ArePartable, IsStartAt, NoneFitsAt};
+ghost use Rattle.uncoarsen.specs.Start.{ArePartable, IsStartAt, NoneFitsAt, level_of};
 
 use hg_base::Blocks;
+use incidence::Hypergraph;
 use initial_place::{PlaceEnd, place};
 use level_stack::LevelStack;
 use std::alloc::Global;
@@ -17,6 +22,37 @@ pub struct Start {
     pub level: u32,
     /// The block of each vertex of that level.
     pub blocks: Blocks,
+}
+
+/// A partition of the level of a number. That of a finer level than the coarsest one is rare: such a
+/// level has no index, so that one is made of a copy, for the placement alone.
+fn place_on<R: Threads + Sync>(
+    rt: &R,
+    alloc: Global,
+    stack: &LevelStack,
+    level: u32,
+    k: u32,
+    limit: u64,
+    seed: u64,
+) -> Result<Blocks, PlaceEnd>
+    requires level { level ≤ length stack.now.maps }
+    requires some { 2 ≤ k }
+    requires few { k ≤ 256 }
+    requires suits { Suits (level_of stack.now level) k }
+    requires fixed { IsFixedWithin (level_of stack.now level) k }
+    ensures partition { IfOk result (IsPartition (level_of stack.now level) k) }
+    ensures fits { IfOk result (Fits (level_of stack.now level) k limit) }
+    ensures fixes { IfOk result (Obeys (level_of stack.now level)) }
+    ensures cost { IfOk result (IsNoDearer (level_of stack.now level) k limit
+        (placements.named (level_of stack.now level) k seed)) }
+    ensures none { result ≡ Err PlaceEnd.NoneFits → NoneFitsAt stack.now k limit seed level }
+{
+    if level == stack.depth() - 1 {
+        return place(rt, alloc, stack.top(), k, limit, seed);
+    }
+    let copy = stack.level(level).copy(alloc)?;
+    let h = Hypergraph::build(alloc, copy)?;
+    place(rt, alloc, &h, k, limit, seed)
 }
 
 /// A partition of the coarsest level on which one is found, from the coarsest level downwards.
@@ -40,7 +76,7 @@ pub fn descend<R: Threads + Sync>(
     let depth = stack.depth();
     for above in 0..depth {
         let level = depth - 1 - above;
-        match place(rt, alloc, stack.level(level), k, limit, seed) {
+        match place_on(rt, alloc, stack, level, k, limit, seed) {
             Ok(blocks) => return Ok(Start { level, blocks }),
             Err(PlaceEnd::NoneFits) => {}
             Err(PlaceEnd::NoMemory) => return Err(PlaceEnd::NoMemory),

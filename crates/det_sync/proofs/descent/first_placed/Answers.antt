@@ -9,14 +9,12 @@ use Rattle.det_sync.proofs.descent.first_placed.Goals as goal
 pub returns-in-Ok-clause-start : goal.returns-in-Ok-clause-start
 returns-in-Ok-clause-start g c =
     let first = c.in-Ok.placed in
-    let same = c.level.ensures in
     let made = c.in-Ok.ensures in
     record {
       on_level = let deep = c.depth-depth.ensures in omega arith;
       none_above = λ i less within. c.loop-above.invariant i (let test = c.loop-above-test.true in omega arith) within;
-      best = subst (λ (x : Hyper). named_best x c.args.k c.args.limit c.args.seed ≡ Some first) same made.best;
-      sound = subst (λ (x : Hyper). IsSound x c.args.k c.args.limit first) same
-          (best_sound c.level.result.now c.args.k c.args.limit c.args.seed first made.best made.partition made.fixes);
+      best = made.best;
+      sound = best_sound _ c.args.k c.args.limit c.args.seed first made.best made.partition made.fixes;
     }
 
 pub returns-in-Ok-clause-none : goal.returns-in-Ok-clause-none
@@ -26,5 +24,4 @@ pub loop-above-preserved : goal.loop-above-preserved
 loop-above-preserved g c =
     one_more (NoneFitsAt c.args.stack.now.base c.args.stack.now.maps c.args.k c.args.limit c.args.seed) c.depth-depth.result c.loop-above.above
     (length c.args.stack.now.maps) c.loop-above.invariant
-    (subst (λ (x : Hyper). named_best x c.args.k c.args.limit c.args.seed ≡ None) c.level.ensures
-    (c.in-Err-NoneFits.ensures.none (ap Err c.in-Err-NoneFits.field-0-is)))
+    (c.in-Err-NoneFits.ensures.none (ap Err c.in-Err-NoneFits.field-0-is))

@@ -11,12 +11,12 @@ pub loop-above-init : goal.loop-above-init
 loop-above-init g c =
     let top = c.args.start.level in
     let same : top ≡ top - 0 = omega arith in (
-      c.down_from-levels.ensures ∙ ap (λ (n : ℕ). let d : Down = record { base = c.args.stack.base; maps = c.args.stack.maps; number = n } in d) same,
+      c.in_ok-levels.ensures ∙ ap (λ (n : ℕ). let d : Down = record { base = c.args.stack.base; maps = c.args.stack.maps; number = n } in d) same,
       descending_at _ _ _ c.args.stack top c.args.start.blocks c.args.k c.args.limit c.args.workers c.args.seed c.args.log.now c.args.refiners.now top
           (top - 0) 1 _ _ _ same
           (descending_begin _ _ _ c.args.stack top c.args.start.blocks c.args.k c.args.limit c.args.workers c.args.seed c.args.log.now
           c.args.refiners.now c.requires.few c.requires.kinds c.level-h.result.now
-          (level_there c.args.stack.base c.args.stack.maps c.down_from-levels.result top c.level-h.result.now c.down_from-levels.ensures c.level-h.ensures)
+          (level_there c.args.stack.base c.args.stack.maps c.in_ok-levels.levels top c.level-h.result.now c.in_ok-levels.ensures c.level-h.ensures)
           c.in_ok-placed.placed c.in_ok-placed.ensures
           c.requires.start _ _ _ c.refine_level.ensures.may_run c.refine_level.ensures.kinds c.in_ok-part.ensures.level),
     )
@@ -26,7 +26,7 @@ project_with-requires-clause-places g c κs within =
     descending_places _ _ _ c.args.stack c.args.start.level c.args.start.blocks c.args.k c.args.limit c.args.workers c.args.seed c.args.log.now
     c.args.refiners.now c.requires.few c.requires.kinds c.loop-above.above c.loop-above-test.true c.requires.on_level _ _
     (steps_down c.args.stack.base c.args.stack.maps c.args.start.level c.loop-above.above _ _ c.loop-above-test.true c.loop-above.invariant.0
-    c.descend.ensures _ _ c.level-h-in-loop-above.ensures c.map.ensures.value c.map.ensures.full c.map.ensures.apart)
+    c.in_ok-levels-2.ensures _ _ c.level-h-in-loop-above.ensures c.map.ensures.value c.map.ensures.full c.map.ensures.apart)
     c.loop-above.refiners c.loop-above.log c.loop-above.part c.loop-above.invariant.1
 
 pub project_with-requires-clause-suits : goal.project_with-requires-clause-suits
@@ -35,7 +35,7 @@ project_with-requires-clause-suits g c κs within =
     let level = c.requires.on_level in
     let step : StepsDown c.args.stack.base c.args.stack.maps i c.level-h-in-loop-above.result.now c.map.result.now =
     steps_down c.args.stack.base c.args.stack.maps c.args.start.level c.loop-above.above _ _ c.loop-above-test.true c.loop-above.invariant.0
-    c.descend.ensures _ _ c.level-h-in-loop-above.ensures c.map.ensures.value c.map.ensures.full c.map.ensures.apart in
+    c.in_ok-levels-2.ensures _ _ c.level-h-in-loop-above.ensures c.map.ensures.value c.map.ensures.full c.map.ensures.apart in
     subst (Suits c.level-h-in-loop-above.result.now) (sym (ap (λ (x : Parted). x.k) c.loop-above.invariant.1.down.part_is))
     (subst (λ (h : Hyper). Suits h c.args.k) (sym step.same) (c.requires.levels i (omega arith)).suits)
 
@@ -45,7 +45,7 @@ project_with-requires-clause-fixed g c κs within =
     let level = c.requires.on_level in
     let step : StepsDown c.args.stack.base c.args.stack.maps i c.level-h-in-loop-above.result.now c.map.result.now =
     steps_down c.args.stack.base c.args.stack.maps c.args.start.level c.loop-above.above _ _ c.loop-above-test.true c.loop-above.invariant.0
-    c.descend.ensures _ _ c.level-h-in-loop-above.ensures c.map.ensures.value c.map.ensures.full c.map.ensures.apart in
+    c.in_ok-levels-2.ensures _ _ c.level-h-in-loop-above.ensures c.map.ensures.value c.map.ensures.full c.map.ensures.apart in
     subst (IsFixedWithin c.level-h-in-loop-above.result.now) (sym (ap (λ (x : Parted). x.k) c.loop-above.invariant.1.down.part_is))
     (subst (λ (h : Hyper). IsFixedWithin h c.args.k) (sym step.same) (c.requires.levels i (omega arith)).fixed)
 
@@ -58,14 +58,14 @@ refine_level-requires-in-loop-above-clause-sound g c =
     descending_ready _ _ _ c.args.stack c.args.start.level c.args.start.blocks c.args.k c.args.limit c.args.workers c.args.seed c.args.log.now
     c.args.refiners.now c.requires.few c.requires.kinds c.loop-above.above c.loop-above-test.true c.requires.on_level _ _
     (steps_down c.args.stack.base c.args.stack.maps c.args.start.level c.loop-above.above _ _ c.loop-above-test.true c.loop-above.invariant.0
-    c.descend.ensures _ _ c.level-h-in-loop-above.ensures c.map.ensures.value c.map.ensures.full c.map.ensures.apart)
+    c.in_ok-levels-2.ensures _ _ c.level-h-in-loop-above.ensures c.map.ensures.value c.map.ensures.full c.map.ensures.apart)
     c.loop-above.refiners c.loop-above.log c.loop-above.part c.loop-above.invariant.1 c.vertices-vertices-in-loop-above.ensures.sound
     c.in_ok-part-2.part c.in_ok-part-2.ensures.value
 
 pub refine_level-requires-in-loop-above-clause-tallied : goal.refine_level-requires-in-loop-above-clause-tallied
 refine_level-requires-in-loop-above-clause-tallied g c =
     let few : c.loop-above.above + 1 ≤ 2 ^ 32 = search rules in
-    let same = level_there c.args.stack.base c.args.stack.maps c.down_from-levels.result c.args.start.level c.level-h.result.now c.down_from-levels.ensures
+    let same = level_there c.args.stack.base c.args.stack.maps c.in_ok-levels.levels c.args.start.level c.level-h.result.now c.in_ok-levels.ensures
     c.level-h.ensures in
     tallies_low _ _ _ c.args.stack c.args.start.level c.args.start.blocks c.args.k c.args.limit c.args.workers c.args.seed c.args.log.now
     c.args.refiners.now (c.args.start.level - c.loop-above.above) (c.loop-above.above + 1) c.loop-above.refiners c.loop-above.log c.loop-above.part
@@ -75,10 +75,10 @@ pub loop-above-preserved : goal.loop-above-preserved
 loop-above-preserved g c =
     let level = c.requires.on_level in
     let less = c.loop-above-test.true in (
-      went_down c.args.stack.base c.args.stack.maps c.args.start.level c.loop-above.above _ _ less c.loop-above.invariant.0 c.descend.ensures,
+      went_down c.args.stack.base c.args.stack.maps c.args.start.level c.loop-above.above _ _ less c.loop-above.invariant.0 c.in_ok-levels-2.ensures,
       descending_more _ _ _ c.args.stack c.args.start.level c.args.start.blocks c.args.k c.args.limit c.args.workers c.args.seed c.args.log.now
           c.args.refiners.now c.requires.few c.requires.kinds c.loop-above.above less level _ _
-          (steps_down c.args.stack.base c.args.stack.maps c.args.start.level c.loop-above.above _ _ less c.loop-above.invariant.0 c.descend.ensures
+          (steps_down c.args.stack.base c.args.stack.maps c.args.start.level c.loop-above.above _ _ less c.loop-above.invariant.0 c.in_ok-levels-2.ensures
           _ _ c.level-h-in-loop-above.ensures c.map.ensures.value c.map.ensures.full c.map.ensures.apart)
           c.loop-above.refiners c.loop-above.log c.loop-above.part c.loop-above.invariant.1 c.vertices-vertices-in-loop-above.ensures.sound
           c.in_ok-part-2.part c.in_ok-part-2.ensures.value c.refine_level-in-loop-above.new.refiners c.refine_level-in-loop-above.new.log
