@@ -157,21 +157,33 @@ fn moves_alone(log: &RoundList, v: u32) -> bool {
     }
 }
 
-/// Whether one sweep of so many workers moves this vertex alone.
+/// The partition in which this vertex is alone in block 1, and all others are in block 0.
+fn one_apart(alloc: Global, h: &Hypergraph, vertices: u32, v: u32) -> Result<Partition, Fail>
+    requires { v < vertices }
+    ensures { IfOk result (λ p. p.hyper ≡ h.now) }
+{
+    let mut blocks = vec![in alloc; 0u32; vertices as usize]?;
+    blocks[v as usize] = 1;
+    parted(alloc, h, 2, u64::from(vertices), blocks.as_slice())
+}
+
+/// Whether one sweep of so many workers lets a vertex, alone in block 1, join all others of its net.
 fn sweeps_alone<R: Threads + Sync>(
     rt: &R,
     alloc: Global,
-    h: &Hypergraph,
-    mut p: Partition,
+    vertices: u32,
     v: u32,
     workers: u32,
 ) -> Result<bool, Fail>
-    requires belongs { p.hyper ≡ h.now }
+    requires few { vertices ≤ 2 ^ 22 }
+    requires vertex { v < vertices }
     requires some { 1 ≤ workers }
 {
+    let h = one_net(alloc, vertices)?;
+    let mut p = one_apart(alloc, &h, vertices, v)?;
     let mut log = Moves::new(alloc);
-    let moved = p.sweep_with(rt, alloc, h, workers, &mut log)?;
-    Ok(moved && is_alone(&log, v) && stands_at(h, &p, 0, true))
+    let moved = p.sweep_with(rt, alloc, &h, workers, &mut log)?;
+    Ok(moved && is_alone(&log, v) && stands_at(&h, &p, 0, true))
 }
 
 /// Whether so many workers let a vertex, alone in block 1, join all others of its net, as one alone does.
@@ -187,11 +199,8 @@ fn joins<R: Threads + Sync>(
     requires workers { (1 ≤ workers) × (workers ≤ 64) }
 {
     let h = one_net(alloc, vertices)?;
-    let mut blocks = vec![in alloc; 0u32; vertices as usize]?;
-    blocks[v as usize] = 1;
-    let mut p = parted(alloc, &h, 2, u64::from(vertices), blocks.as_slice())?;
-    let mut q = parted(alloc, &h, 2, u64::from(vertices), blocks.as_slice())?;
-    let swept = parted(alloc, &h, 2, u64::from(vertices), blocks.as_slice())?;
+    let mut p = one_apart(alloc, &h, vertices, v)?;
+    let mut q = one_apart(alloc, &h, vertices, v)?;
     let (mut log, mut other) = (RoundList::new(alloc), RoundList::new(alloc));
     let rounds = p.settle_with(rt, alloc, &h, workers, &mut log)?;
     let as_many = q.settle(alloc, &h, &mut other)?;
@@ -199,8 +208,7 @@ fn joins<R: Threads + Sync>(
         (rounds == 1 && as_many == 1)
             && (moves_alone(&log, v) && moves_alone(&other, v))
             && stands_at(&h, &p, 0, true)
-            && p.blocks() == q.blocks()
-            && sweeps_alone(rt, alloc, &h, swept, v, workers)?,
+            && p.blocks() == q.blocks(),
     )
 }
 
@@ -208,10 +216,9 @@ fn joins<R: Threads + Sync>(
 fn settles_in_threads(rt: HostRuntime) -> Result<(), Fail> {
     // One thread alone, two with as many vertices, and three of which the last has fewer.
     for (workers, v) in [(1, 0), (2, 9_999), (3, 4_095)] {
-        assert!(rt;
-            joins(&rt, rt.alloc(), 10_000, v, workers)?,
-            "{workers} workers"
-        );
+        let alike = joins(&rt, rt.alloc(), 10_000, v, workers)?
+            && sweeps_alone(&rt, rt.alloc(), 10_000, v, workers)?;
+        assert!(rt; alike, "{workers} workers");
     }
     Ok(())
 }
