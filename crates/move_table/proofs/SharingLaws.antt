@@ -18,7 +18,7 @@ use Rattle.atomic_table.specs.declared.shared.TableRule.{Ghosts}
 use Rattle.atomic_table.specs.contracts.owned.Table as tables
 
 ready_sync : IsSync ready.the_row
-ready_sync = search (sendable, crosses) depth 20
+ready_sync = search (sendable, crosses) depth 40
 
 hyper_sync : (ℓ : _) (κ : _) → IsSync (ShrRef ℓ κ graph.the_row)
 hyper_sync ℓ κ = shr_sync ℓ κ graph.the_row (hyper.the_sync)

@@ -5,7 +5,7 @@ use Rattle.std.proofs.Common.{slice_index, get_or, slice_set, get_or-set_same, g
 use Rattle.std.proofs.lemmas.Bool.{eqb-true, eqb-false, ne_eqb, eq-eqb, leb-true, cases_eq, cases_lt}
 use Rattle.hg_base.specs.Packed.{count_at, IsWidth, fields_of, bits_of, words_of, field}
 use Rattle.hg_defs.specs.Hypergraph.{Hyper, IsHypergraph, IsWithinLimits, vertex_count, net_count, net_of, Suits}
-use Rattle.hg_defs.specs.Partition.{IsPartition, block_of}
+use Rattle.hg_defs.specs.Partition.{IsPartition, block_of, divided_up}
 use Rattle.hg_defs.specs.Pins.{pins_in}
 use Rattle.hg_defs.specs.Cost.{connectivity}
 use Rattle.hg_defs.specs.Moves.{moved}
@@ -13,7 +13,7 @@ use Rattle.std.specs.Set.{is_member}
 use Rattle.std.specs.List.{range_with_len}
 use Rattle.std.specs.List.Sorted.{IsStrictlyIncreasing}
 use Rattle.hg_defs.specs.Incidence.{is_on, nets_of}
-use Rattle.hg_defs.proofs.SumLaws.{sum_below_more, sum_below-le, sum_below-constant, sum_below-add, weight_if}
+use Rattle.hg_defs.proofs.SumLaws.{sum_below_more, sum_below-same, sum_below-le, sum_below-constant, sum_below-add, weight_if}
 use Rattle.hg_defs.proofs.DistinctLaws.{times_of-once, pins_in-set, pins_in-set_old, pins_in-set_apart, pins_in-sum, blocks_of_pins}
 use Rattle.hg_defs.proofs.DistinctLaws.{connectivity-set, connectivity-set_apart}
 use Rattle.std.proofs.Math.Bool.{or-false, or-true}
@@ -23,7 +23,7 @@ use Rattle.std.proofs.lemmas.List.Folds.{list_any_at}
 use Rattle.std.proofs.lemmas.List.FromFn.{length-range_with_len, get_or-range_with_len}
 use Rattle.incidence.proofs.IndexLaws.{sum_below_upto-le, nets_of-below, nets_of-rising, is_pin_new, is_pin_more}
 use Rattle.pin_plain.proofs.GainLaws.{nets_of-hold, two_within}
-use Rattle.pin_plain.specs.Counts.{net_bits, net_words, words_at_net, net_place, net_start, all_words, HasLayout}
+use Rattle.pin_plain.specs.Counts.{net_bits, net_words, words_at_net, net_place, net_start, all_words, HasLayout, HasStride}
 use Rattle.pin_plain.specs.Counts.{HoldsCounts, counts_of, counts_between, HaveSpreads, HaveSpreadsBetween}
 
 -- ---- the width of a net's counts
@@ -80,6 +80,27 @@ module _ (h : Hyper) (k : ℕ) where
       let both = sum_below-add (λ e. 1) (net_words h k) (net_count h) in
       let vertices = bounds.vertices in
       let nets = bounds.nets in
+      omega arith
+
+  -- where the counts of all nets are of one width, each net has as many words as any other
+  pub strided : (bits first words : ℕ) → ((e : ℕ) → e < net_count h → net_bits h e ≡ bits) → first ≡ net_place h k 0 →
+      words ≡ 1 + divided_up (k * bits) 64 → HasStride h k bits first words
+  strided bits first words same from size = record { width_of = same; place_at = place }
+    where
+      each : (e : ℕ) → e < net_count h → words_at_net h k e ≡ words
+      each e l = ap (λ b. 1 + divided_up (k * b) 64) (same e l) ∙ sym size
+
+      place : (e : ℕ) → e < net_count h → net_place h k e ≡ first + e * words
+      place e l =
+          let sum = sum_below-same (words_at_net h k) (λ i. words) e (λ i m. each i (omega arith)) ∙ sum_below-constant words e in
+          omega arith
+
+  pub strided-le : 2 ≤ k → k ≤ 256 → IsWithinLimits h → Suits h k → (bits first words e : ℕ) → HasStride h k bits first words → e < net_count h →
+      first + e * words ≤ 2 ^ 27
+  strided-le some few bounds suits bits first words e stride l =
+      let at = stride.place_at e l in
+      let upto = net_place-le e (net_count h) (omega arith) in
+      let all = all_words-le some few bounds suits in
       omega arith
 
   parts_apart : (e i x y : ℕ) → e < net_count h → i < net_count h → i ≢ e → x < net_words h k e → y < net_words h k i → net_start h k i + y ≢ net_start h k

@@ -40,6 +40,11 @@ pub record HasWidths (h : Hyper) (widths : List ℕ) : Type 0 where
   pub nets : length widths ≡ net_count h
   pub width_of : (e : ℕ) → e < net_count h → slice_index widths e ≡ net_bits h e
 
+-- the counts of all nets are of one width, so that each net has as many words as any other
+pub record HasStride (h : Hyper) (k bits first words : ℕ) : Type 0 where
+  pub width_of : (e : ℕ) → e < net_count h → net_bits h e ≡ bits
+  pub place_at : (e : ℕ) → e < net_count h → net_place h k e ≡ first + e * words
+
 -- each net has a part of the words
 pub record HasLayout (h : Hyper) (k : ℕ) (starts words : List ℕ) : Type 0 where
   pub nets : length starts ≡ net_count h

@@ -15,6 +15,7 @@ mod best;
 mod marking;
 mod ready;
 mod replay;
+mod stride;
 mod sweep;
 
 use crate::counts::{Layout, count, lay_out, move_pin};

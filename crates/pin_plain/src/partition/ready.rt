@@ -9,6 +9,7 @@ ghost use Rattle.pin_plain.specs.Parted.{IsParted};
 ghost use Rattle.pin_plain.specs.Opened.{IsOpened};
 
 use super::Partition;
+use super::stride::{Stride, stride_of};
 use crate::opening::open_words;
 use hg_base::Blocks;
 use incidence::Hypergraph;
@@ -27,9 +28,13 @@ pub struct Ready {
     starts: Vec<u32>,
     widths: Vec<u8>,
     words: Vec<u64>,
+    /// Spares the look at `starts` and `widths`, where all counts are of one width.
+    stride: Option<Stride>,
 }
 
 impl Model for Ready {
+    ghost use Rattle.std.specs.Prelude.{IfSome};
+    ghost use Rattle.pin_plain.specs.Counts.{HasStride};
     ghost use Rattle.pin_plain.specs.Parted.{Parted, IsTallied};
     ghost use Rattle.pin_plain.specs.Opened.{IsOpened};
 
@@ -38,7 +43,8 @@ impl Model for Ready {
     ghost view = { λ p. record { hyper = p.hyper.value; k = p.k; limit = p.limit; blocks = p.blocks } };
 
     ghost invariant = { λ p. IsTallied p.hyper.value p.k p.blocks p.loads.items p.starts.items p.widths.items
-        p.words.items × IsOpened p.hyper.value p.k p.blocks p.words.items };
+        p.words.items × IsOpened p.hyper.value p.k p.blocks p.words.items ×
+        IfSome p.stride (λ s. HasStride p.hyper.value p.k s.bits s.first s.words) };
 }
 
 impl Ready {
@@ -78,6 +84,9 @@ impl Ready {
         ensures bits { result.1 ≡ net_bits self.now.hyper e }
         ensures width { IsWidth result.1 }
     {
+        if let Some(stride) = &self.stride {
+            return (stride.first + e * stride.words, stride.bits);
+        }
         let starts = self.starts.as_slice();
         let widths = self.widths.as_slice();
         (starts[e as usize] - 1, u32::from(widths[e as usize]))
@@ -96,6 +105,7 @@ impl Ready {
             starts,
             widths,
             words,
+            stride: _,
         } = self;
         Partition {
             hyper,
@@ -136,6 +146,7 @@ impl Partition {
             loads.as_slice(),
             starts.as_slice(),
         );
+        let stride = stride_of(h, k, widths.as_slice());
         let ready = Ready {
             hyper,
             k,
@@ -145,6 +156,7 @@ impl Partition {
             starts,
             widths,
             words,
+            stride,
         };
         (ready, cost)
     }
