@@ -113,7 +113,8 @@ module _ (bits p w n : ℕ) (some : n ≤ field w bits p) where
 
 place_within : (bits p : ℕ) → IsWidth bits → p < fields_of bits → (p + 1) * bits ≤ 64
 place_within bits p (inl e) = subst (λ b. p < fields_of b → (p + 1) * b ≤ 64) (sym e) (λ l. omega arith)
-place_within bits p (inr e) = subst (λ b. p < fields_of b → (p + 1) * b ≤ 64) (sym e) (λ l. omega arith)
+place_within bits p (inr (inl e)) = subst (λ b. p < fields_of b → (p + 1) * b ≤ 64) (sym e) (λ l. omega arith)
+place_within bits p (inr (inr e)) = subst (λ b. p < fields_of b → (p + 1) * b ≤ 64) (sym e) (λ l. omega arith)
 
 -- ---- one field raised or lowered by one
 
@@ -157,7 +158,8 @@ lowered_field_within w bits p some = let h = field-sub_within bits p w 1 some in
 
 pub fields_positive : (bits : ℕ) → IsWidth bits → 0 < fields_of bits
 fields_positive bits (inl e) = subst (λ b. 0 < fields_of b) (sym e) (omega arith)
-fields_positive bits (inr e) = subst (λ b. 0 < fields_of b) (sym e) (omega arith)
+fields_positive bits (inr (inl e)) = subst (λ b. 0 < fields_of b) (sym e) (omega arith)
+fields_positive bits (inr (inr e)) = subst (λ b. 0 < fields_of b) (sym e) (omega arith)
 
 pub place_below : (bits b : ℕ) → IsWidth bits → b % fields_of bits < fields_of bits
 place_below bits b width = mod_below b (fields_of bits) (fields_positive bits width)

@@ -1,14 +1,14 @@
--- Counts packed into words of 64 bits: fields of 16 or 32 bits, the first in the lowest bits.
+-- Counts packed into words of 64 bits: fields of 8, 16 or 32 bits, the first in the lowest bits.
 use Rattle.std.specs.Prelude.{◌≡◌, ◌⊎◌, ℕ, ◌+◌, ◌*◌, ◌/◌, ◌%◌, ◌^◌, List, slice_index, nat_le, if◌then◌else◌}
 use Rattle.hg_defs.specs.Partition.{divided_up}
 
 -- how many bits the counts of a net of this many pins take
 abbrev pub bits_of : ℕ → ℕ
-bits_of pins = if nat_le pins 65535 then 16 else 32
+bits_of pins = if nat_le pins 255 then 8 else (if nat_le pins 65535 then 16 else 32)
 
--- a field has 16 or 32 bits
+-- a field has 8, 16 or 32 bits
 abbrev pub IsWidth : ℕ → Type 0
-IsWidth bits = (bits ≡ 16) ⊎ (bits ≡ 32)
+IsWidth bits = (bits ≡ 8) ⊎ ((bits ≡ 16) ⊎ (bits ≡ 32))
 
 -- how many fields a word has
 abbrev pub fields_of : ℕ → ℕ

@@ -5,12 +5,19 @@ ghost use Rattle.std.specs.Prelude.{◌≡◌, ℕ, ◌+◌, ◌-◌, ◌/◌, �
 ghost use Rattle.hg_base.specs.Packed as packed;
 ghost use Rattle.hg_base.specs.Packed.{IsWidth, fields_of};
 
-/// How many bits a count takes in a net of this many pins: 16 where they are at most 65,535, else 32.
+/// How many bits a count takes in a net of this many pins: 8 where they are at most 255, 16 where they are at most
+/// 65,535, else 32.
 pub fn bits_of(pins: u32) -> u32
     ensures value { result ≡ packed.bits_of pins }
     ensures width { IsWidth result }
 {
-    if pins <= 65535 { 16 } else { 32 }
+    if pins <= 255 {
+        8
+    } else if pins <= 65535 {
+        16
+    } else {
+        32
+    }
 }
 
 /// How many words the counts of `k` blocks take in a net of this many pins; `k` is at most 256.
@@ -28,14 +35,16 @@ pub fn place_of(bits: u32, b: u32) -> (u32, u32)
     ensures place { result.1 ≡ b % fields_of bits }
     ensures below { result.1 < fields_of bits }
 {
-    if bits == 16 {
+    if bits == 8 {
+        (b / 8, b % 8)
+    } else if bits == 16 {
         (b / 4, b % 4)
     } else {
         (b / 2, b % 2)
     }
 }
 
-/// The number in the field at a place, below `64 / bits`, of a word with fields of 16 or 32 bits.
+/// The number in the field at a place, below `64 / bits`, of a word with fields of 8, 16 or 32 bits.
 pub fn field(word: u64, bits: u32, place: u32) -> u64
     requires width { IsWidth bits }
     requires place { place < fields_of bits }

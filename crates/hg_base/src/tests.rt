@@ -155,11 +155,21 @@ fn overfills(rt: HostRuntime) -> Result<(), Fail> {
 
 #[test]
 fn packed_counts(rt: HostRuntime) {
-    assert_eq!(rt; (bits_of(65535), bits_of(65536)), (16, 32));
-    assert_eq!(rt; (words_of(65535, 5), words_of(65536, 5)), (2, 3));
+    assert_eq!(rt;
+        (bits_of(255), bits_of(256), bits_of(65535), bits_of(65536)),
+        (8, 16, 16, 32)
+    );
+    assert_eq!(rt;
+        (words_of(255, 9), words_of(65535, 5), words_of(65536, 5)),
+        (2, 2, 3)
+    );
+    assert_eq!(rt; field(0x0807_0605_0403_0201, 8, 6), 7);
     assert_eq!(rt; field(0x0004_0003_0002_0001, 16, 2), 3);
     assert_eq!(rt; field(0x0004_0003_0002_0001, 32, 1), 0x0004_0003);
-    assert_eq!(rt; (unit(16, 3), unit(32, 1)), (1 << 48, 1 << 32));
+    assert_eq!(rt;
+        (unit(8, 7), unit(16, 3), unit(32, 1)),
+        (1 << 56, 1 << 48, 1 << 32)
+    );
     assert_eq!(rt; raise_field(0xfffe_0000_ffff, 16, 2), 0xffff_0000_ffff);
     assert_eq!(rt; lower_field(0x0001_0000_0000, 32, 1), 0);
 }
