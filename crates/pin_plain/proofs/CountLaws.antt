@@ -29,33 +29,36 @@ use Rattle.pin_plain.specs.Counts.{HoldsCounts, counts_of, counts_between, HaveS
 -- ---- the width of a net's counts
 
 pub bits_width : (n : ℕ) → IsWidth (bits_of n)
-bits_width n = by (nat_le n 65535)
+bits_width n = by (nat_le n 255) (nat_le n 65535)
   where
-    by : (t : Bool) → IsWidth (if t then 16 else 32)
-    by true = inl refl
-    by false = inr refl
+    by : (s t : Bool) → IsWidth (if s then 8 else (if t then 16 else 32))
+    by true t = inl refl
+    by false true = inr (inl refl)
+    by false false = inr (inr refl)
 
 -- a count of as many pins as the net has is below the next field
 pub bits_room : (n : ℕ) → n ≤ 2 ^ 25 → n < 2 ^ bits_of n
-bits_room n h = by (nat_le n 65535) refl
+bits_room n h = by (nat_le n 255) (nat_le n 65535) refl refl
   where
-    by : (t : Bool) → nat_le n 65535 ≡ t → n < 2 ^ (if t then 16 else 32)
-    by true e = let r = leb-true n 65535 e in omega arith
-    by false e = omega arith
+    by : (s t : Bool) → nat_le n 255 ≡ s → nat_le n 65535 ≡ t → n < 2 ^ (if s then 8 else (if t then 16 else 32))
+    by true t d e = let r = leb-true n 255 d in omega arith
+    by false true d e = let r = leb-true n 65535 e in omega arith
+    by false false d e = omega arith
 
-at_width : (P : ℕ → Type 0) (bits : ℕ) → IsWidth bits → P 16 → P 32 → P bits
-at_width P bits (inl e) a b = subst P (sym e) a
-at_width P bits (inr e) a b = subst P (sym e) b
+at_width : (P : ℕ → Type 0) (bits : ℕ) → IsWidth bits → P 8 → P 16 → P 32 → P bits
+at_width P bits (inl e) a b c = subst P (sym e) a
+at_width P bits (inr (inl e)) a b c = subst P (sym e) b
+at_width P bits (inr (inr e)) a b c = subst P (sym e) c
 
 pub words-le : (n k : ℕ) → 2 ≤ k → words_of n k ≤ k
-words-le n k h = at_width (λ b. (k * b + 63) / 64 ≤ k) (bits_of n) (bits_width n) (omega arith) (omega arith)
+words-le n k h = at_width (λ b. (k * b + 63) / 64 ≤ k) (bits_of n) (bits_width n) (omega arith) (omega arith) (omega arith)
 
 -- the fields of a net's words are enough for k blocks
 pub fields_enough : (n k : ℕ) → k ≤ words_of n k * fields_of (bits_of n)
-fields_enough n k = at_width (λ b. k ≤ (k * b + 63) / 64 * (64 / b)) (bits_of n) (bits_width n) (omega arith) (omega arith)
+fields_enough n k = at_width (λ b. k ≤ (k * b + 63) / 64 * (64 / b)) (bits_of n) (bits_width n) (omega arith) (omega arith) (omega arith)
 
 pub word_below : (bits words b : ℕ) → IsWidth bits → b < words * fields_of bits → b / fields_of bits < words
-word_below bits words b width = at_width (λ w. b < words * (64 / w) → b / (64 / w) < words) bits width (λ h. omega arith) (λ h. omega arith)
+word_below bits words b width = at_width (λ w. b < words * (64 / w) → b / (64 / w) < words) bits width (λ h. omega arith) (λ h. omega arith) (λ h. omega arith)
 
 -- ---- where the words of a net stand
 
