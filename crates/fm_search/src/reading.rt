@@ -104,7 +104,7 @@ fn enter_word(
 {
     let mut found = 0i64;
     let mut left = word;
-    'fields: for place in 0..4 {
+    'fields: for place in 0..8 {
         if left == 0 {
             break;
         }
@@ -138,7 +138,7 @@ fn read_words(
     ensures row { length row.new ≡ length row.old }
 {
     let bits = shared.round.count_bits(e);
-    let fields = if bits == 16 { 4 } else { 2 };
+    let fields = 64 / bits;
     let mut found = 0i64;
     'words: for index in 0..words {
         let word = mover.counts(shared.round, e, index);

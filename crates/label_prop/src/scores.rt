@@ -17,11 +17,17 @@ use move_table::{Pass, Round};
 /// A net whose counts take so few words is walked over by them, whatever its size, which isn't read then.
 const FEW_WORDS: u32 = 8;
 
+/// All bits of a word but the highest one of each field of 8 bits.
+const LOW_BITS_OF_8: u64 = 0x7f7f_7f7f_7f7f_7f7f;
+
+/// A product with this brings the lowest bits of the eight fields of 8 bits together, from bit 56 on.
+const GATHER_8: u64 = 0x0102_0408_1020_4080;
+
 /// All bits of a word but the highest one of each field of 16 bits.
-const LOW_BITS: u64 = 0x7fff_7fff_7fff_7fff;
+const LOW_BITS_OF_16: u64 = 0x7fff_7fff_7fff_7fff;
 
 /// A product with this brings the lowest bits of the four fields of 16 bits together, from bit 48 on.
-const GATHER: u64 = 0x0001_0002_0004_0008;
+const GATHER_16: u64 = 0x0001_0002_0004_0008;
 
 /// What a net of weight 1 saves, beside what it saves for the block alone, where one of its `size` pins
 /// goes to a block with `count` of them: whether they are together then.
@@ -36,16 +42,25 @@ fn fields(bits: u32) -> u32
     requires { IsWidth bits }
     ensures { result ≡ fields_of bits }
 {
-    if bits == 16 { 4 } else { 2 }
+    if bits == 8 {
+        8
+    } else if bits == 16 {
+        4
+    } else {
+        2
+    }
 }
 
 /// Which fields of a word aren't 0, as bits.
 fn filled(word: u64, bits: u32) -> u64
     requires { IsWidth bits }
 {
-    if bits == 16 {
-        let high = ((word & LOW_BITS).wrapping_add(LOW_BITS) | word) & !LOW_BITS;
-        (high >> 15).wrapping_mul(GATHER) >> 48
+    if bits == 8 {
+        let high = ((word & LOW_BITS_OF_8).wrapping_add(LOW_BITS_OF_8) | word) & !LOW_BITS_OF_8;
+        (high >> 7).wrapping_mul(GATHER_8) >> 56
+    } else if bits == 16 {
+        let high = ((word & LOW_BITS_OF_16).wrapping_add(LOW_BITS_OF_16) | word) & !LOW_BITS_OF_16;
+        (high >> 15).wrapping_mul(GATHER_16) >> 48
     } else {
         u64::from(field(word, bits, 0) > 0) | u64::from(field(word, bits, 1) > 0) << 1
     }

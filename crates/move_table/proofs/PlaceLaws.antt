@@ -198,8 +198,10 @@ module _ (s : Setup) where
 -- the first count of a word of a net stands in that word, in its first field
 pub first_word : (bits i : ℕ) → IsWidth bits → i * fields_of bits / fields_of bits ≡ i
 first_word bits i (inl e) = subst (λ (b : ℕ). i * (64 / b) / (64 / b) ≡ i) (sym e) (omega arith)
-first_word bits i (inr e) = subst (λ (b : ℕ). i * (64 / b) / (64 / b) ≡ i) (sym e) (omega arith)
+first_word bits i (inr (inl e)) = subst (λ (b : ℕ). i * (64 / b) / (64 / b) ≡ i) (sym e) (omega arith)
+first_word bits i (inr (inr e)) = subst (λ (b : ℕ). i * (64 / b) / (64 / b) ≡ i) (sym e) (omega arith)
 
 pub first_field : (bits i : ℕ) → IsWidth bits → i * fields_of bits % fields_of bits ≡ 0
 first_field bits i (inl e) = subst (λ (b : ℕ). i * (64 / b) % (64 / b) ≡ 0) (sym e) (omega arith)
-first_field bits i (inr e) = subst (λ (b : ℕ). i * (64 / b) % (64 / b) ≡ 0) (sym e) (omega arith)
+first_field bits i (inr (inl e)) = subst (λ (b : ℕ). i * (64 / b) % (64 / b) ≡ 0) (sym e) (omega arith)
+first_field bits i (inr (inr e)) = subst (λ (b : ℕ). i * (64 / b) % (64 / b) ≡ 0) (sym e) (omega arith)

@@ -65,7 +65,8 @@ keeps_same g word.Cursor n = tt
 -- a field ends within its word
 field_ends : (bits p : ℕ) → IsWidth bits → p < fields_of bits → (p + 1) * bits ≤ 64
 field_ends bits p (inl e) = subst (λ w. p < fields_of w → (p + 1) * w ≤ 64) (sym e) (λ h. omega arith)
-field_ends bits p (inr e) = subst (λ w. p < fields_of w → (p + 1) * w ≤ 64) (sym e) (λ h. omega arith)
+field_ends bits p (inr (inl e)) = subst (λ w. p < fields_of w → (p + 1) * w ≤ 64) (sym e) (λ h. omega arith)
+field_ends bits p (inr (inr e)) = subst (λ w. p < fields_of w → (p + 1) * w ≤ 64) (sym e) (λ h. omega arith)
 
 one_times : (u : ℕ) → 1 * u ≡ u
 one_times u = omega arith

@@ -8,7 +8,7 @@ ghost use Rattle.hg_base.specs.Packed.{IsWidth, fields_of};
 pub struct NetPlace {
     /// The place of the net's spread, after which its counts follow.
     pub start: u32,
-    /// The bits of a count: 16 or 32.
+    /// The bits of a count: 8, 16 or 32.
     pub bits: u32,
 }
 
@@ -26,5 +26,11 @@ pub(crate) fn first_block(bits: u32, index: u32) -> u32
     requires few { index * fields_of bits ≤ 256 }
     ensures { result ≡ index * fields_of bits }
 {
-    if bits == 16 { index * 4 } else { index * 2 }
+    if bits == 8 {
+        index * 8
+    } else if bits == 16 {
+        index * 4
+    } else {
+        index * 2
+    }
 }

@@ -50,7 +50,7 @@ impl<'h> Round<'h> {
         self.table.word_count() as u64
     }
 
-    /// How many bits each count of a net takes: 16 or 32.
+    /// How many bits each count of a net takes: 8, 16 or 32.
     pub fn count_bits(&self, e: u32) -> u32
         requires { e < net_count self.now.terms.part.hyper }
         ensures bits { result ≡ net_bits self.now.terms.part.hyper e }
