@@ -1,4 +1,4 @@
-use Rattle.std.proofs.Common.{◌≡◌, ℕ, ◌+◌, ◌/◌, ◌%◌, slice_index, slice_set, nat_eq, if◌then◌else◌, ap, ap₂, sym, ◌∙◌}
+use Rattle.std.proofs.Common.{◌≡◌, ℕ, ◌+◌, ◌/◌, ◌%◌, slice_index, slice_set, nat_eq, if◌then◌else◌, ap, ap₂, ◌∙◌}
 use Rattle.hg_base.specs.Packed.{count_at, field, fields_of}
 use Rattle.pin_plain.proofs.FieldLaws.{raise_count}
 use Rattle.pin_plain.proofs.counts.raise.Goals as goal
