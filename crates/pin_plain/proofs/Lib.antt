@@ -12,3 +12,4 @@ pub mod InnerLaws
 pub mod QuietLaws
 pub mod OpeningLaws
 pub mod RunLaws
+pub mod CostLaws

@@ -8,3 +8,4 @@ pub mod BestMoves
 pub mod Quiet
 pub mod Opened
 pub mod Tallies
+pub mod Costs

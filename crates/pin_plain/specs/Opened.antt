@@ -9,6 +9,11 @@ use Rattle.pin_plain.specs.Counts.{all_words, HoldsCounts, counts_of, HaveSpread
 abbrev pub SameOutside : ℕ → ℕ → List ℕ → List ℕ → Type 0
 SameOutside from to old new = (i : ℕ) → (i < from) ⊎ (to ≤ i) → slice_index new i ≡ slice_index old i
 
+-- so many names, those of the vertices from a first one on
+pub record AreNamesFrom (p : List ℕ) (first n : ℕ) (names : List ℕ) : Type 0 where
+  pub all : length names ≡ n
+  pub each : (i : ℕ) → i < n → slice_index names i ≡ slice_index p (first + i)
+
 pub record IsOpened (h : Hyper) (k : ℕ) (p words : List ℕ) : Type 0 where
   pub wide : length words ≡ all_words h k
   pub zeros : (i : ℕ) → i < vertex_count h + 2 → slice_index words i ≡ 0

@@ -1,6 +1,7 @@
 //! The plain partition: loads, packed pin counts, gains, sweeps, and a settled result.
 #![tactic(auto)]
 
+mod costs;
 mod counts;
 mod gains;
 mod lent;

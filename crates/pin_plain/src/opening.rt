@@ -1,15 +1,17 @@
-//! The words of a partition: its counts, the number of blocks that each net touches, and what a round begins with.
+//! What a partition writes into its words before a round: no claim, no number, the names and the loads.
 
-ghost use Rattle.std.specs.Prelude.{◌≡◌, ℕ, ◌+◌, ◌*◌, ◌/◌, ◌<◌, ◌≤◌, ◌^◌, All, length, slice_index};
-ghost use Rattle.hg_defs.specs.Hypergraph.{vertex_count, net_count, net_of};
-ghost use Rattle.hg_defs.specs.Cost.{cost};
-ghost use Rattle.hg_defs.specs.Cost as costs;
+ghost use Rattle.std.specs.Prelude.{◌≡◌, ℕ, ◌+◌, ◌*◌, ◌/◌, ◌<◌, ◌≤◌, length, slice_index};
+ghost use Rattle.hg_defs.specs.Hypergraph.{vertex_count, net_count};
 ghost use Rattle.pin_plain.specs.Counts.{counts_of, HasLayout, HoldsCounts, HaveSpreads};
 ghost use Rattle.pin_plain.specs.Parted.{IsParted, IsLoaded};
-ghost use Rattle.pin_plain.specs.Opened.{IsOpened, SameOutside};
+ghost use Rattle.pin_plain.specs.Opened.{IsOpened, SameOutside, AreNamesFrom};
 
-use hg_base::{Objective, price};
+use crew::each_chunk;
 use incidence::Hypergraph;
+use std::thread::Threads;
+
+/// A thread writes so many names at least.
+const LEAST_NAMES: usize = 16384;
 
 /// Writes 0 into the words from one place up to before another one.
 pub fn write_zeros(words: &mut [u64], from: usize, to: usize)
@@ -23,15 +25,50 @@ pub fn write_zeros(words: &mut [u64], from: usize, to: usize)
     }
 }
 
-/// Writes the blocks into the names, which begin at a place.
-fn write_names(words: &mut [u64], at: usize, blocks: &[u32])
-    requires { at + length blocks.now ≤ length words.old }
+/// Writes the blocks of the vertices from a first one on into a run of the names.
+fn name_run(blocks: &[u32], first: usize, names: &mut [u64])
+    requires { first + length names.old ≤ length blocks.now }
+    ensures { AreNamesFrom blocks.now first (length names.old) names.new }
+{
+    for i in 0..names.len() {
+        names[i] = u64::from(blocks[first + i]);
+    }
+}
+
+/// Writes the blocks into the names, so many by each thread.
+fn name_runs<R: Threads + Sync>(rt: &R, blocks: &[u32], share: usize, names: &mut [u64])
+    requires some { 0 < share }
+    requires all { length names.old ≡ length blocks.now }
+    ensures { AreNamesFrom blocks.now 0 (length blocks.now) names.new }
+{
+    each_chunk(
+        rt,
+        names,
+        share,
+        &|first: usize, part: &mut [u64]|
+            requires { first + length part.now ≤ length blocks.now }
+            ensures { AreNamesFrom blocks.entry.now first (length part.entry.now) part.exit.now }
+        { name_run(blocks, first, part) },
+    );
+}
+
+/// Writes the blocks into the names, which begin at a place, in at most so many threads.
+fn write_names<R: Threads + Sync>(
+    rt: &R,
+    words: &mut [u64],
+    at: usize,
+    blocks: &[u32],
+    workers: u32,
+)
+    requires some { 1 ≤ workers }
+    requires inside { at + length blocks.now ≤ length words.old }
     ensures written { (v : ℕ) → v < length blocks.now → slice_index words.new (at + v) ≡ slice_index blocks.now v }
     ensures others { SameOutside at (at + length blocks.now) words.old words.new }
 {
-    for (v, block) in blocks.iter().enumerate() {
-        words[at + v] = u64::from(*block);
-    }
+    let share = blocks.len().div_ceil(workers as usize).max(LEAST_NAMES);
+    let (_, from_names) = words.split_at_mut(at);
+    let (names, _) = from_names.split_at_mut(blocks.len());
+    name_runs(rt, blocks, share, names);
 }
 
 /// Writes the loads of the blocks, which begin at a place.
@@ -45,44 +82,18 @@ fn write_loads(words: &mut [u64], at: usize, loads: &[u64])
     }
 }
 
-/// What a net pays for the number of blocks that it touches; only a cut net's weight is read.
-fn cost_at(h: &Hypergraph, e: u32, objective: Objective, touched: u64) -> u64
-    requires net { e < net_count h.now }
-    requires fits { (net_of h.now e).weight * costs.price objective touched < 2 ^ 57 }
-    ensures { result ≡ (net_of h.now e).weight * costs.price objective touched }
-{
-    if touched <= 1 {
-        return 0;
-    }
-    h.net_weight(e) * price(objective, touched)
-}
-
-/// The cost, by the numbers of blocks that the nets touch.
-pub fn cost_by_spreads(words: &[u64], h: &Hypergraph, k: u32, blocks: &[u32], starts: &[u32]) -> u64
-    requires parted { IsParted h.now k blocks.now }
-    requires laid { HasLayout h.now k starts.now words.now }
-    requires spreads { HaveSpreads h.now k blocks.now (net_count h.now) words.now }
-    ensures value { result ≡ cost h.now blocks.now }
-    ensures bound { result < 2 ^ 57 }
-{
-    let objective = h.objective();
-    let mut sum = 0;
-    for e in 0..h.nets() {
-        let touched = words[starts[e as usize] as usize - 1] - 64;
-        sum += cost_at(h, e, objective, touched);
-    }
-    sum
-}
-
-/// Writes what a round has beside the counts and spreads.
-pub fn open_words(
+/// Writes what a round has beside the counts and spreads, in at most so many threads.
+pub fn open_words<R: Threads + Sync>(
+    rt: &R,
     words: &mut [u64],
     h: &Hypergraph,
     k: u32,
     blocks: &[u32],
     loads: &[u64],
     starts: &[u32],
+    workers: u32,
 )
+    requires some { 1 ≤ workers }
     requires parted { IsParted h.now k blocks.now }
     requires loaded { IsLoaded h.now k blocks.now loads.now }
     requires laid { HasLayout h.now k starts.now words.old }
@@ -92,6 +103,6 @@ pub fn open_words(
 {
     let n = h.vertices() as usize;
     write_zeros(words, 0, n + 2);
-    write_names(words, n + 2, blocks);
+    write_names(rt, words, n + 2, blocks, workers);
     write_loads(words, 2 * n + 2, loads);
 }

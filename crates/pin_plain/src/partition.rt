@@ -18,10 +18,10 @@ mod replay;
 mod stride;
 mod sweep;
 
+use crate::costs::{cost_by_spreads, cost_with};
 use crate::counts::{Layout, count, lay_out, move_pin};
 use crate::gains::saved_and_lost;
 use crate::lent::Lent;
-use crate::opening::cost_by_spreads;
 use crate::tallies::{Nets, tally, tally_with};
 pub use best::BestMove;
 use hg_base::{Blocks, Items, NoMemory};
@@ -247,13 +247,28 @@ impl Partition {
         ensures value { result ≡ cost h.now self.now.blocks }
         ensures bound { result < 2 ^ 57 }
     {
-        cost_by_spreads(
-            self.words.as_slice(),
+        let nets = Nets {
             h,
-            self.k,
-            self.blocks.slice(),
-            self.starts.as_slice(),
-        )
+            k: self.k,
+            blocks: self.blocks.slice(),
+            starts: self.starts.as_slice(),
+        };
+        cost_by_spreads(&nets, self.words.as_slice())
+    }
+
+    /// Does what [`cost`](Self::cost) does in at most so many threads.
+    fn cost_with<R: Threads + Sync>(&self, rt: &R, h: &Hypergraph, workers: u32) -> u64
+        requires belongs { self.now.hyper ≡ h.now }
+        requires some { 1 ≤ workers }
+        ensures { result ≡ cost h.now self.now.blocks }
+    {
+        let nets = Nets {
+            h,
+            k: self.k,
+            blocks: self.blocks.slice(),
+            starts: self.starts.as_slice(),
+        };
+        cost_with(rt, &nets, self.words.as_slice(), workers)
     }
 
     /// How many pins of a net are in a block.

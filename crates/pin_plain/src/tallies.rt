@@ -18,7 +18,7 @@ use hg_base::{BlockSet, bits_of, words_of};
 use incidence::Hypergraph;
 use std::thread::{Threads, join_mut};
 
-/// A thread counts the pins of so many nets at least.
+/// A thread takes so many nets at least.
 const LEAST_NETS: u32 = 8192;
 
 /// The nets of a hypergraph as their pins are counted in `k` blocks: the block of each vertex, and where
@@ -164,8 +164,8 @@ pub fn tally(nets: &Nets<'_>, words: &mut [u64])
     tally_run(nets, 0, nets.h.nets(), 0, words);
 }
 
-/// How many nets each of at most so many threads counts, where none counts too few.
-fn share_of(nets: u32, workers: u32) -> u32
+/// How many nets each of at most so many threads takes, where none takes too few.
+pub fn share_of(nets: u32, workers: u32) -> u32
     requires { 1 ≤ workers }
     ensures { 0 < result }
 {

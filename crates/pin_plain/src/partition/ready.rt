@@ -1,6 +1,6 @@
 //! A partition as a round begins with it.
 
-ghost use Rattle.std.specs.Prelude.{◌≡◌, ◌<◌};
+ghost use Rattle.std.specs.Prelude.{◌≡◌, ◌<◌, ◌≤◌};
 ghost use Rattle.hg_defs.specs.Hypergraph.{net_count};
 ghost use Rattle.hg_defs.specs.Cost.{cost};
 ghost use Rattle.hg_base.specs.Packed.{IsWidth};
@@ -15,6 +15,7 @@ use hg_base::Blocks;
 use incidence::Hypergraph;
 use std::marker::Model;
 use std::snapshot::Snapshot;
+use std::thread::Threads;
 
 /// A partition whose words are those with which a round begins. A round copies them, and they stay as they
 /// are until the partition is given back.
@@ -121,13 +122,15 @@ impl Ready {
 }
 
 impl Partition {
-    /// Makes the partition ready for a round, and tells its cost.
-    pub fn into_ready(self, h: &Hypergraph) -> (Ready, u64)
-        requires { self.hyper ≡ h.now }
+    /// Makes the partition ready for a round, in at most so many threads, and tells its cost.
+    pub fn into_ready<R: Threads + Sync>(self, rt: &R, h: &Hypergraph, workers: u32) -> (Ready, u64)
+        requires belongs { self.hyper ≡ h.now }
+        requires some { 1 ≤ workers }
+        requires few { workers ≤ 64 }
         ensures same { result.0 ≡ self }
         ensures cost { result.1 ≡ cost h.now self.blocks }
     {
-        let cost = self.cost(h);
+        let cost = self.cost_with(rt, h, workers);
         let Partition {
             hyper,
             k,
@@ -139,12 +142,14 @@ impl Partition {
             mut words,
         } = self;
         open_words(
+            rt,
             words.as_mut_slice(),
             h,
             k,
             blocks.slice(),
             loads.as_slice(),
             starts.as_slice(),
+            workers,
         );
         let stride = stride_of(h, k, widths.as_slice());
         let ready = Ready {
