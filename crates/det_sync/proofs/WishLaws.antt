@@ -22,7 +22,7 @@ use Rattle.hg_defs.proofs.SortLaws.{sort_is, heavier_first_total, heavier_first_
 use Rattle.pin_plain.specs.BestMoves.{ranked, best_moves}
 use Rattle.pin_plain.proofs.InnerLaws.{inner_stays}
 use Rattle.det_sync.specs.CutNets.{is_cut, is_held, AreCutMarks}
-use Rattle.det_sync.specs.Wishes.{Wish, AreWishes, AreCuts, part_at}
+use Rattle.det_sync.specs.Wishes.{Wish, AreWishes, AreCuts, part_at, wish_cmp}
 use Rattle.det_sync.proofs.CutLaws.{range_append, range_from, none_passes}
 
 -- ---- parts
@@ -156,10 +156,6 @@ cuts_end v n cuts low c =
 
 abbrev pub key_of : Wish → ℕ × ℕ
 key_of w = (w.0.0, w.1)
-
--- the order of wishes: the highest gain first, then the lowest vertex, then the lowest block
-abbrev pub wish_cmp : Wish → Wish → Ordering
-wish_cmp a b = ordering_then (ordering_then (nat_cmp b.0.0 a.0.0) (nat_cmp a.1 b.1)) (nat_cmp a.2 b.2)
 
 map-map : {A B C : Type 0} (f : B → C) (g : A → B) (xs : List A) → map f (map g xs) ≡ map (λ x. f (g x)) xs
 map-map f g [] = refl

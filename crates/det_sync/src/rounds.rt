@@ -86,20 +86,24 @@ fn book(moves: &mut [Move], gains: &[i64])
 /// The moves that grant the wishes, one after the other, while there is room. Each is booked with its
 /// gain in its turn.
 ///
-/// The gains are those of all moves as they are replayed, net by net, many nets at the same time.
+/// The gains are those of all moves as they are replayed, net by net, many nets at the same time where
+/// there are several workers.
 fn grant<R: Threads + Sync>(
     rt: &R,
     alloc: Global,
     h: &Hypergraph,
     p: &Partition,
     wishes: &[BestMove],
+    workers: u32,
 ) -> Result<Vec<Move>, NoMemory>
     requires belongs { p.now.hyper ≡ h.now }
     requires wishes { AreWishes h.now p.now.k p.now.limit p.now.blocks wishes.now }
+    requires some { 1 ≤ workers }
+    requires few { workers ≤ 64 }
     ensures { IfOk result (λ moves. moves.items ≡ sync_moves h.now p.now.k p.now.limit p.now.blocks) }
 {
     let mut moves = admit(alloc, h, p, wishes)?;
-    let gains = recalculate(rt, alloc, h, p.k(), p.blocks(), moves.as_slice())?;
+    let gains = recalculate(rt, alloc, h, p.k(), p.blocks(), moves.as_slice(), workers)?;
     book(moves.as_mut_slice(), gains.slice());
     Ok(moves)
 }
@@ -174,7 +178,7 @@ fn grant_best<R: Threads + Sync>(
     ensures refused { OnErr result (log.new ≡ log.old) }
 {
     let _parted = p.blocks();
-    let moves = grant(rt, alloc, h, p, wishes)?;
+    let moves = grant(rt, alloc, h, p, wishes, workers)?;
     let steps = moves.as_slice();
     let (kept, after, made) = best_of(before, steps);
     let gains = gains_of(alloc, before, made, workers)?;

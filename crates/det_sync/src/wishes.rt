@@ -2,10 +2,11 @@
 
 ghost use Rattle.std.specs.Prelude.{◌≡◌, ℕ, ◌+◌, ◌-◌, ◌<◌, ◌≤◌, IfOk, length, slice_index_or, vec_len};
 ghost use Rattle.std.specs.List.{range_with_len};
+ghost use Rattle.std.specs.List.Sorted.{IsPermutation, IsSorted};
 ghost use Rattle.hg_defs.specs.Hypergraph.{vertex_count, vertices};
 ghost use Rattle.pin_plain.specs.BestMoves.{best_moves};
 ghost use Rattle.det_sync.specs.CutNets.{AreCutMarks};
-ghost use Rattle.det_sync.specs.Wishes.{AreWishes, AreCuts, part_at};
+ghost use Rattle.det_sync.specs.Wishes.{AreWishes, AreCuts, part_at, wish_cmp};
 
 use crate::cut::{cut_marks, held_between};
 use crew::each;
@@ -172,6 +173,20 @@ fn all_wishes<R: Threads + Sync>(
     Ok(wishes)
 }
 
+/// Sorts wishes: those that would save most first, and of those that would save as much that of the lowest
+/// vertex first. A single worker starts no thread.
+fn sort_wishes<R: Threads + Sync>(rt: &R, wishes: &mut [BestMove], workers: u32)
+    ensures permutation { IsPermutation wishes.old wishes.new }
+    ensures len { length wishes.new ≡ length wishes.old }
+    ensures sorted { IsSorted wish_cmp wishes.new }
+{
+    if workers == 1 {
+        wishes.sort_unstable();
+    } else {
+        par_sort_unstable(rt, wishes);
+    }
+}
+
 /// The wishes of all vertices in a partition: those that would save most first, and of those that
 /// would save as much that of the lowest vertex first. There are 1 to 64 workers.
 pub(crate) fn wishes_of<R: Threads + Sync>(
@@ -190,6 +205,6 @@ pub(crate) fn wishes_of<R: Threads + Sync>(
     let _parted = p.blocks();
     let marks = cut_marks(rt, alloc, h, p, workers)?;
     let mut wishes = all_wishes(rt, alloc, h, p, marks.as_slice(), cuts)?;
-    par_sort_unstable(rt, wishes.as_mut_slice());
+    sort_wishes(rt, wishes.as_mut_slice(), workers);
     Ok(wishes)
 }

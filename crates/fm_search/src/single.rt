@@ -44,7 +44,7 @@ pub(crate) fn single_round<H: Threads + Sync>(
     gains.push(action.booked)?;
     p.shift(h, vertex, to);
     let made = p.cost(h);
-    let kept = roll_back(rt, alloc, h, p, moves.slice())?;
+    let kept = roll_back(rt, alloc, h, p, moves.slice(), 1)?;
     Ok(LoggedRound {
         kind: Kind::Search,
         level,

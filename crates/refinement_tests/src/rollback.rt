@@ -124,7 +124,7 @@ fn try_keep_best<R: Threads + Sync + Abort>(
 {
     assert!(rt; parted(rt, alloc, h, limit, before)?.fits());
     let mut p = parted(rt, alloc, h, limit, after)?;
-    assert!(rt; keep_best(rt, alloc, h, &mut p, moves)? == kept);
+    assert!(rt; keep_best(rt, alloc, h, &mut p, moves, 4)? == kept);
     assert_eq!(rt; p.cost(h), cost);
     Ok(())
 }
@@ -146,7 +146,7 @@ fn try_roll_back<R: Threads + Sync + Abort>(
 {
     assert!(rt; parted(rt, alloc, h, limit, before)?.fits());
     let mut p = parted(rt, alloc, h, limit, after)?;
-    assert_eq!(rt; roll_back(rt, alloc, h, &mut p, moves)?, kept);
+    assert_eq!(rt; roll_back(rt, alloc, h, &mut p, moves, 4)?, kept);
     assert_eq!(rt; p.cost(h), cost);
     Ok(())
 }
@@ -155,10 +155,10 @@ fn try_roll_back<R: Threads + Sync + Abort>(
 fn gains(rt: HostRuntime) -> Result<(), Fail> {
     let alloc = rt.alloc();
     let h = four_nets(alloc, 1)?;
-    let found = recalculate(&rt, alloc, &h, 2, &[0, 0, 1, 0, 0, 1], FOUR.as_slice())?;
+    let found = recalculate(&rt, alloc, &h, 2, &[0, 0, 1, 0, 0, 1], FOUR.as_slice(), 4)?;
     assert_eq!(rt; found.slice(), [-2, 3, 0, -2].as_slice());
     let h = one_net(alloc)?;
-    let found = recalculate(&rt, alloc, &h, 2, &[0, 1], SWAP.as_slice())?;
+    let found = recalculate(&rt, alloc, &h, 2, &[0, 1], SWAP.as_slice(), 1)?;
     assert_eq!(rt; found.slice(), [5, -5].as_slice());
     Ok(())
 }

@@ -17,6 +17,9 @@ use round_log::{Kind, LoggedRound, Moves};
 use std::alloc::Global;
 use std::thread::Threads;
 
+/// A round has so many workers at most.
+const MOST_WORKERS: usize = 64;
+
 /// The sum of gains.
 fn sum_of(gains: &[i64]) -> i128
     ensures { result ≡ total_z (λ g. g) gains.now }
@@ -30,7 +33,8 @@ fn sum_of(gains: &[i64]) -> i128
 
 /// Rolls the moves of a race back to their best prefix, and records the round. The partition stands
 /// after all the moves, and the cost before them is given: the gains tell what they made of it, and the
-/// prefix what is left, so that no cost is counted anew.
+/// prefix what is left, so that no cost is counted anew. As many threads as raced recalculate the gains:
+/// there is a gain for each.
 pub(crate) fn record_race<R: Threads + Sync>(
     rt: &R,
     alloc: Global,
@@ -57,7 +61,8 @@ pub(crate) fn record_race<R: Threads + Sync>(
 {
     let _parted = part.blocks();
     let made = (i128::from(before) - sum_of(gains.slice())) as u64;
-    let kept = keep_best(rt, alloc, h, part, moves.slice())?;
+    let workers = gains.slice().len().min(MOST_WORKERS).max(1) as u32;
+    let kept = keep_best(rt, alloc, h, part, moves.slice(), workers)?;
     Ok(LoggedRound {
         kind,
         level,

@@ -20,8 +20,8 @@ use std::thread::Threads;
 /// What each move gains by some of the nets, or no memory to tell it.
 type PartGains = Result<Vec<i64>, NoMemory>;
 
-/// The nets are cut into so many parts at most.
-const MOST_PARTS: usize = 8;
+/// The nets are cut into so many parts at most, however many workers there are.
+const MOST_PARTS: u32 = 8;
 
 /// A part has so many nets, but for the last one: to start a thread for it costs as much as a
 /// thousand nets.
@@ -126,7 +126,7 @@ fn add_part(gains: &mut [i64], part: &[i64])
     }
 }
 
-/// What each move gains by all of these nets.
+/// What each move gains by all of these nets, which are cut into parts of a size.
 fn gains_by_nets<R: Threads + Sync>(
     rt: &R,
     alloc: Global,
@@ -136,14 +136,15 @@ fn gains_by_nets<R: Threads + Sync>(
     moves: &[Move],
     order: &[u32],
     nets: &[u32],
+    size: usize,
 ) -> Result<Vec<i64>, NoMemory>
     requires replay { IsReplay h.now k before.now moves.now }
     requires order { IsOrder (vertex_count h.now) moves.now order.now }
     requires nets { All (λ e. e < net_count h.now) nets.now }
     requires bound { pin_weight h.now nets.now < 2 ^ 57 }
+    requires size { 0 < size }
     ensures { IfOk result (λ gains. AreSavings h.now before.now moves.now nets.now gains.items) }
 {
-    let size = nets.len().div_ceil(MOST_PARTS).max(LEAST_NETS);
     let parts = gains_by_part(rt, alloc, h, k, before, moves, order, nets, size)?;
     let mut gains = vec![in alloc; 0i64; moves.len()]?;
     for part in parts.as_slice() {
@@ -155,13 +156,43 @@ fn gains_by_nets<R: Threads + Sync>(
     Ok(gains)
 }
 
+/// What each move gains by all of these nets, which at most so many threads look at. The gains by a
+/// single part are those by all nets, so that a thread alone adds none up.
+fn gains_with<R: Threads + Sync>(
+    rt: &R,
+    alloc: Global,
+    h: &Hypergraph,
+    k: u32,
+    before: &[u32],
+    moves: &[Move],
+    order: &[u32],
+    nets: &[u32],
+    workers: u32,
+) -> Result<Vec<i64>, NoMemory>
+    requires replay { IsReplay h.now k before.now moves.now }
+    requires order { IsOrder (vertex_count h.now) moves.now order.now }
+    requires nets { All (λ e. e < net_count h.now) nets.now }
+    requires bound { pin_weight h.now nets.now < 2 ^ 57 }
+    requires some { 1 ≤ workers }
+    ensures { IfOk result (λ gains. AreSavings h.now before.now moves.now nets.now gains.items) }
+{
+    let parts = workers.min(MOST_PARTS) as usize;
+    let size = nets.len().div_ceil(parts).max(LEAST_NETS);
+    if nets.len() <= size {
+        return part_gains(alloc, h, k, before, moves, order, nets);
+    }
+    gains_by_nets(rt, alloc, h, k, before, moves, order, nets, size)
+}
+
 /// What each move gains where the moves are replayed, one after the other, from a partition into `k`
 /// blocks: the cost before the move less the cost after it. The vertices of the moves differ, and
 /// each move starts from its vertex's block.
 ///
 /// A move gains what its vertex's nets save by it, and a net saves something only where one of its
 /// pins moves. So each net with a pin that moves is replayed alone, through the moves of its pins in
-/// their order (the recalculation of gains of Mt-KaHyPar), many nets at the same time.
+/// their order (the recalculation of gains of Mt-KaHyPar), many nets at the same time: by as many
+/// threads as there are workers, 8 at most, and fewer where the nets are few. A single worker starts no
+/// thread.
 pub fn recalculate<R: Threads + Sync>(
     rt: &R,
     alloc: Global,
@@ -169,16 +200,18 @@ pub fn recalculate<R: Threads + Sync>(
     k: u32,
     before: &[u32],
     moves: &[Move],
+    workers: u32,
 ) -> Result<Gains, NoMemory>
     requires some { 2 ≤ k }
     requires few { k ≤ 256 }
     requires partition { IsPartition h.now k before.now }
     requires moves { StartFrom h.now k before.now moves.now }
+    requires workers { (1 ≤ workers) × (workers ≤ 64) }
     ensures { IfOk result (AreReplayGains h.now before.now moves.now) }
 {
     let order = order_of(alloc, h.vertices(), moves)?;
     let nets = touched_nets(alloc, h, moves)?;
-    let gains = gains_by_nets(
+    let gains = gains_with(
         rt,
         alloc,
         h,
@@ -187,6 +220,7 @@ pub fn recalculate<R: Threads + Sync>(
         moves,
         order.slice(),
         nets.as_slice(),
+        workers,
     )?;
     Ok(Items::from_vec(gains))
 }

@@ -126,17 +126,21 @@ fn undo(h: &Hypergraph, p: &mut Partition, moves: &[Move])
 ///
 /// The partition stands after all the moves, which are of different vertices, and the partition before
 /// them fits. The gains are recalculated as the moves are replayed, so that the moves may book what
-/// they like. All memory is taken before the partition is changed.
+/// they like. As many threads recalculate them as there are workers, 8 at most: see [`recalculate`]. All
+/// memory is taken before the partition is changed.
 pub fn keep_best<R: Threads + Sync>(
     rt: &R,
     alloc: Global,
     h: &Hypergraph,
     p: &mut Partition,
     moves: &[Move],
+    workers: u32,
 ) -> Result<Kept, NoMemory>
     requires belongs { p.old.hyper ≡ h.now }
     requires moves { EndAt h.now p.old.k p.old.blocks moves.now }
     requires fits { Fits h.now p.old.k p.old.limit (undone p.old.blocks moves.now) }
+    requires some { 1 ≤ workers }
+    requires few { workers ≤ 64 }
     ensures length { IfOk result (λ kept. kept.length ≡ best_prefix h.now p.old.k p.old.limit (undone p.old.blocks
         moves.now) moves.now) }
     ensures saved { IfOk result (λ kept. pos kept.saved ≡ pos (cost h.now (undone p.old.blocks moves.now)) -ℤ pos
@@ -148,7 +152,7 @@ pub fn keep_best<R: Threads + Sync>(
     let mut before = Vec::from_slice(alloc, p.blocks())?;
     let mut loads = loads_of(alloc, p)?;
     undo_in_lists(h, moves, before.as_mut_slice(), loads.as_mut_slice());
-    let gains = recalculate(rt, alloc, h, p.k(), before.as_slice(), moves)?;
+    let gains = recalculate(rt, alloc, h, p.k(), before.as_slice(), moves, workers)?;
     let kept = best_kept(
         h,
         before.as_slice(),
@@ -161,22 +165,26 @@ pub fn keep_best<R: Threads + Sync>(
     Ok(kept)
 }
 
-/// Undoes the moves behind the shortest best prefix, as [`keep_best`] does, and answers its length.
+/// Undoes the moves behind the shortest best prefix, as [`keep_best`] does with so many workers, and answers
+/// its length.
 pub fn roll_back<R: Threads + Sync>(
     rt: &R,
     alloc: Global,
     h: &Hypergraph,
     p: &mut Partition,
     moves: &[Move],
+    workers: u32,
 ) -> Result<u32, NoMemory>
     requires belongs { p.old.hyper ≡ h.now }
     requires moves { EndAt h.now p.old.k p.old.blocks moves.now }
     requires fits { Fits h.now p.old.k p.old.limit (undone p.old.blocks moves.now) }
+    requires some { 1 ≤ workers }
+    requires few { workers ≤ 64 }
     ensures kept { IfOk result (λ kept. kept ≡ best_prefix h.now p.old.k p.old.limit (undone p.old.blocks moves.now)
         moves.now) }
     ensures partition { IfOk result (λ kept. p.new ≡ record p.old
         { blocks = replay_first (undone p.old.blocks moves.now) moves.now kept }) }
     ensures refused { OnErr result (p.new ≡ p.old) }
 {
-    Ok(keep_best(rt, alloc, h, p, moves)?.length)
+    Ok(keep_best(rt, alloc, h, p, moves, workers)?.length)
 }

@@ -13,8 +13,8 @@ pub returns : goal.returns
 returns g c =
     let h = c.args.h.now in
     let p = c.args.p.now in
-    let ws = c.par_sort_unstable.new.s in
-    let moved = subst (λ (xs : List Wish). IsPermutation xs ws) (c.as_mut_slice.ensures.value ∙ c.in_ok-wishes.ensures) c.par_sort_unstable.ensures.permutation in
+    let ws = c.sort_wishes.new.wishes in
+    let moved = subst (λ (xs : List Wish). IsPermutation xs ws) (c.as_mut_slice.ensures.value ∙ c.in_ok-wishes.ensures) c.sort_wishes.ensures.permutation in
     subst (AreWishes h p.k p.limit p.blocks)
-    (sym (written c.in_ok-wishes.wishes.len ws c.in_ok-wishes.wishes.items (c.par_sort_unstable.ensures.len ∙ c.as_mut_slice.ensures.len)))
-    (sorted_wishes h p.k p.limit p.blocks ws moved c.par_sort_unstable.ensures.sorted)
+    (sym (written c.in_ok-wishes.wishes.len ws c.in_ok-wishes.wishes.items (c.sort_wishes.ensures.len ∙ c.as_mut_slice.ensures.len)))
+    (sorted_wishes h p.k p.limit p.blocks ws moved c.sort_wishes.ensures.sorted)

@@ -4,8 +4,8 @@ use Rattle.rollback_prefix.specs.Steps.{AreReplayGains}
 use Rattle.rollback_prefix.proofs.SavingLaws.{touched_small, touched_gains}
 use Rattle.rollback_prefix.proofs.gains.recalculate.Goals as goal
 
-pub gains_by_nets-requires-clause-bound : goal.gains_by_nets-requires-clause-bound
-gains_by_nets-requires-clause-bound g c κs lf =
+pub gains_with-requires-clause-bound : goal.gains_with-requires-clause-bound
+gains_with-requires-clause-bound g c κs lf =
     let t = subst (λ (xs : List ℕ). AreTouched c.args.h.now c.args.moves.now xs) (sym c.as_slice.ensures.value) c.in_ok-nets.ensures in
     touched_small c.args.h.now c.args.moves.now c.as_slice.result.now c.vertices.ensures.bounds t
 
