@@ -10,12 +10,10 @@ use Rattle.hg_defs.specs.Replay.{replay, replay_first, undone}
 use Rattle.hg_defs.proofs.ReplayLaws.{replay-append, length-replay, replay-blocks, replay-apart, replay-once}
 use Rattle.hg_defs.proofs.UndoLaws.{moves_are_undone, moves_are_redone}
 use Rattle.hg_defs.proofs.DistinctLaws.{Contains-map}
-use Rattle.rollback_prefix.specs.Steps.{StartFrom, EndAt}
+use Rattle.rollback_prefix.specs.Steps.{StartFrom, EndAt, turned}
 
-abbrev turned : Move → Move
-turned m = record { vertex = m.vertex; from = m.to; to = m.from; worker = m.worker; booked = m.booked }
-
-undone_is : (p : List ℕ) (moves : List Move) → undone p moves ≡ replay p (map turned moves)
+-- the replay of the moves back is what undoes them
+pub undone_is : (p : List ℕ) (moves : List Move) → undone p moves ≡ replay p (map turned moves)
 undone_is p [] = refl
 undone_is p (m ∷ moves) = undone_is (slice_set p m.vertex m.from) moves
 

@@ -5,6 +5,10 @@ use Rattle.hg_defs.specs.Hypergraph.{Hyper, vertex_count}
 use Rattle.hg_defs.specs.Partition.{block_of}
 use Rattle.hg_defs.specs.Replay.{replay_gain}
 
+-- the move that takes the vertex back
+abbrev pub turned : Move → Move
+turned m = record { vertex = m.vertex; from = m.to; to = m.from; worker = m.worker; booked = m.booked }
+
 -- the move takes its vertex from its block in p to a block below k
 pub record Starts (h : Hyper) (k : ℕ) (p : List ℕ) (m : Move) : Type 0 where
   pub vertex : m.vertex < vertex_count h

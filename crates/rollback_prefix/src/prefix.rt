@@ -1,13 +1,13 @@
 //! The prefix of moves that is worth keeping.
 
-ghost use Rattle.std.specs.Prelude.{◌≡◌, ℕ, ◌+◌, ◌-◌, ◌<◌, ◌≤◌, ◌^◌, All, IfOk, OnErr};
-ghost use Rattle.std.specs.Prelude.{length, slice_index, slice_set, pos, ◌-ℤ◌};
+ghost use Rattle.std.specs.Prelude.{◌≡◌, ℕ, ◌+◌, ◌-◌, ◌<◌, ◌≤◌, ◌^◌, All, IfOk, OnOk, OnErr};
+ghost use Rattle.std.specs.Prelude.{length, map, slice_index, slice_set, pos, ◌-ℤ◌};
 ghost use Rattle.hg_defs.specs.Hypergraph.{vertex_count, IsHypergraph, IsWithinLimits};
 ghost use Rattle.hg_defs.specs.Partition.{IsPartition, Fits};
 ghost use Rattle.hg_defs.specs.Cost.{cost};
 ghost use Rattle.hg_defs.specs.Replay.{replay_first, undone, best_prefix};
 ghost use Rattle.pin_plain.specs.Parted.{IsLoaded, loads_after};
-ghost use Rattle.rollback_prefix.specs.Steps.{StartFrom, EndAt, AreReplayGains};
+ghost use Rattle.rollback_prefix.specs.Steps.{StartFrom, EndAt, AreReplayGains, turned};
 ghost use Rattle.rollback_prefix.specs.Loads.{overloaded};
 
 use crate::gains::recalculate;
@@ -108,16 +108,44 @@ fn best_kept(
     }
 }
 
-/// Undoes moves in a partition.
-fn undo(h: &Hypergraph, p: &mut Partition, moves: &[Move])
+/// The moves that take the vertices back, in the same order.
+fn moves_back(alloc: Global, moves: &[Move]) -> Result<Vec<Move>, NoMemory>
+    ensures { IfOk result (λ back. back.items ≡ map turned moves.now) }
+{
+    let back = moves
+        .iter()
+        .map(|step| Move {
+            vertex: step.vertex,
+            from: step.to,
+            to: step.from,
+            worker: step.worker,
+            booked: step.booked,
+        })
+        .collect(alloc)?;
+    Ok(back)
+}
+
+/// Undoes moves in a partition, one after the other, or all at once by so many threads where they are
+/// many. The memory for the moves back is taken before the partition is changed.
+fn undo<R: Threads + Sync>(
+    rt: &R,
+    alloc: Global,
+    h: &Hypergraph,
+    p: &mut Partition,
+    moves: &[Move],
+    workers: u32,
+) -> Result<(), NoMemory>
     requires belongs { p.old.hyper ≡ h.now }
     requires vertices { All (λ m. m.vertex < vertex_count h.now) moves.now }
     requires blocks { All (λ m. m.from < p.old.k) moves.now }
-    ensures { p.new ≡ record p.old { blocks = undone p.old.blocks moves.now } }
+    requires some { 1 ≤ workers }
+    requires few { workers ≤ 64 }
+    ensures ok { OnOk result (p.new ≡ record p.old { blocks = undone p.old.blocks moves.now }) }
+    ensures refused { OnErr result (p.new ≡ p.old) }
 {
-    for step in moves {
-        p.shift(h, step.vertex, step.from);
-    }
+    let back = moves_back(alloc, moves)?;
+    p.replay_with(rt, h, back.as_slice(), workers);
+    Ok(())
 }
 
 /// Undoes the moves behind the shortest best prefix: the shortest of those prefixes that fit and cost
@@ -126,8 +154,8 @@ fn undo(h: &Hypergraph, p: &mut Partition, moves: &[Move])
 ///
 /// The partition stands after all the moves, which are of different vertices, and the partition before
 /// them fits. The gains are recalculated as the moves are replayed, so that the moves may book what
-/// they like. As many threads recalculate them as there are workers, 8 at most: see [`recalculate`]. All
-/// memory is taken before the partition is changed.
+/// they like. As many threads recalculate them as there are workers, 8 at most: see [`recalculate`]. So
+/// many undo the moves where they are many. All memory is taken before the partition is changed.
 pub fn keep_best<R: Threads + Sync>(
     rt: &R,
     alloc: Global,
@@ -161,7 +189,7 @@ pub fn keep_best<R: Threads + Sync>(
         p.limit(),
         loads.as_mut_slice(),
     );
-    undo(h, p, &moves[kept.length as usize..]);
+    undo(rt, alloc, h, p, &moves[kept.length as usize..], workers)?;
     Ok(kept)
 }
 

@@ -65,7 +65,7 @@ returns-clause-partition g c =
     let whole = subst (λ (x : Hyper). IsPartition x p.k p.blocks) c.requires.belongs c.blocks-2.ensures.parted.partition in
     let left = prefix_left_by_part c.args.h.now p.k p.blocks c.args.moves.now c.best_kept-kept.result.length c.best_kept-kept.ensures.within whole
     c.requires.moves in
-    c.undo.ensures ∙ ap (λ (q : List ℕ). record p { blocks = q }) left
+    c.in_ok-undo.ensures.ok ∙ ap (λ (q : List ℕ). record p { blocks = q }) left
 
 pub returns-clause-saved : goal.returns-clause-saved
 returns-clause-saved g c =
