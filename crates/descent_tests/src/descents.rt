@@ -47,7 +47,7 @@ fn begins_where_one_fits(rt: HostRuntime) -> Result<(), Fail> {
         assert!(rt; h.suits(2));
         assert!(rt; h.fixed_within(2));
         let stack = LevelStack::start(rt.alloc(), h)?;
-        match descend(&rt, rt.alloc(), &stack, 2, limit, 1) {
+        match descend(&rt, rt.alloc(), &stack, 2, limit, 1, 2) {
             Ok(start) => {
                 let blocks = start.blocks.slice();
                 let cut = blocks.first() != blocks.get(1);
@@ -194,7 +194,7 @@ fn calls_the_box_on_the_level(rt: HostRuntime) -> Result<(), Fail> {
     assert!(rt; across.suits(2));
     assert!(rt; across.fixed_within(2));
     let stack = LevelStack::start(alloc, across)?;
-    let Ok(start) = descend(&rt, alloc, &stack, 2, 2, 1) else {
+    let Ok(start) = descend(&rt, alloc, &stack, 2, 2, 1, 3) else {
         return Err(NoMemory.into());
     };
     let mut refiners: [Box<dyn Refiner>; 1] = [Box::new(

@@ -31,11 +31,13 @@ fn best_on<R: Threads + Sync>(
     k: u32,
     limit: u64,
     seed: u64,
+    workers: u32,
 ) -> Result<Blocks, PlaceEnd>
     requires level { i ≤ length stack.now.maps }
     requires some { 2 ≤ k }
     requires few { k ≤ 256 }
     requires fixed { IsFixedWithin (level stack.now.base stack.now.maps i) k }
+    requires workers { (1 ≤ workers) × (workers ≤ 64) }
     ensures best { IfOk result (λ blocks. placements.named_best (level stack.now.base stack.now.maps i) k limit seed ≡
         Some blocks) }
     ensures none { result ≡ Err PlaceEnd.NoneFits → NoneFitsAt stack.now.base stack.now.maps k limit seed i }
@@ -43,11 +45,11 @@ fn best_on<R: Threads + Sync>(
     ensures fixes { IfOk result (Obeys (level stack.now.base stack.now.maps i)) }
 {
     if i == stack.depth() - 1 {
-        return named_best(rt, alloc, stack.top(), k, limit, seed);
+        return named_best(rt, alloc, stack.top(), k, limit, seed, workers);
     }
     let copy = stack.level(i).copy(alloc)?;
     let h = Hypergraph::build(alloc, copy)?;
-    named_best(rt, alloc, &h, k, limit, seed)
+    named_best(rt, alloc, &h, k, limit, seed, workers)
 }
 
 /// The coarsest level where a named placement fits, and the best of them there.
@@ -58,10 +60,12 @@ fn first_placed<R: Threads + Sync>(
     k: u32,
     limit: u64,
     seed: u64,
+    workers: u32,
 ) -> Result<(u32, Blocks), PlaceEnd>
     requires some { 2 ≤ k }
     requires few { k ≤ 256 }
     requires fixed { (i : ℕ) → i ≤ length stack.now.maps → IsFixedWithin (level stack.now.base stack.now.maps i) k }
+    requires workers { (1 ≤ workers) × (workers ≤ 64) }
     ensures start { IfOk result (λ start. IsFirstPlaced stack.now.base stack.now.maps k limit seed start.0 start.1) }
     ensures none { result ≡ Err PlaceEnd.NoneFits → (i : ℕ) → i ≤ length stack.now.maps → NoneFitsAt stack.now.base
         stack.now.maps k limit seed i }
@@ -69,7 +73,7 @@ fn first_placed<R: Threads + Sync>(
     let depth = stack.depth();
     for above in 0..depth {
         let level = depth - 1 - above;
-        match best_on(rt, alloc, stack, level, k, limit, seed) {
+        match best_on(rt, alloc, stack, level, k, limit, seed, workers) {
             Ok(placed) => return Ok((level, placed)),
             Err(PlaceEnd::NoneFits) => {}
             Err(PlaceEnd::NoMemory) => return Err(PlaceEnd::NoMemory),
@@ -159,7 +163,7 @@ pub fn det_descend<R: Threads + Sync>(
 {
     let file = stack.level(0);
     let _vertices = file.vertices();
-    let (start, first) = first_placed(rt, alloc, &stack, k, limit, seed)?;
+    let (start, first) = first_placed(rt, alloc, &stack, k, limit, seed, workers)?;
     let blocks = first.copy()?;
     let levels = stack.down_from(rt, alloc, start, workers as usize)?;
     let placed = Partition::of(alloc, levels.level(), k, limit, blocks)?;

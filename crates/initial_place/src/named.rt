@@ -82,7 +82,8 @@ impl Leader {
 ///
 /// Placement 0 is greedy. Placement 1 + s, for s from 0 to 7, takes the free vertices by rising
 /// words of the generator of the seed and the stream s. There are 2 to 256 blocks, and each fix is
-/// `FREE` or one of them.
+/// `FREE` or one of them. Of 1 to 64 workers one alone starts no thread; the answer doesn't depend on
+/// how many there are.
 pub fn named_best<R: Threads + Sync>(
     rt: &R,
     alloc: Global,
@@ -90,10 +91,12 @@ pub fn named_best<R: Threads + Sync>(
     k: u32,
     limit: u64,
     seed: u64,
+    workers: u32,
 ) -> Result<Blocks, PlaceEnd>
     requires some { 2 ≤ k }
     requires few { k ≤ 256 }
     requires fixed { IsFixedWithin h.now k }
+    requires workers { (1 ≤ workers) × (workers ≤ 64) }
     ensures best { IfOk result (λ blocks. placements.named_best h.now k limit seed ≡ Some blocks) }
     ensures none { result ≡ Err PlaceEnd.NoneFits → placements.named_best h.now k limit seed ≡ None }
     ensures partition { IfOk result (IsPartition h.now k) }
@@ -103,7 +106,7 @@ pub fn named_best<R: Threads + Sync>(
     let mut leader = Leader::start();
     leader.consider(h, k, greedy(alloc, h.flat(), k, limit))?;
     'streams: for stream in 0..DRAWN {
-        let order = drawn_order(rt, alloc, h, seed, stream)?;
+        let order = drawn_order(rt, alloc, h, seed, stream, workers)?;
         leader.consider(
             h,
             k,

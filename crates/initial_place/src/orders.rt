@@ -1,7 +1,8 @@
 //! The orders in which the named placements take the free vertices.
 
-ghost use Rattle.std.specs.Prelude.{◌≡◌, ◌<◌, map, IfOk};
+ghost use Rattle.std.specs.Prelude.{◌≡◌, ◌<◌, map, length, IsPermutation, IsSorted, IfOk};
 ghost use Rattle.hg_defs.specs.Placement as placements;
+ghost use Rattle.hg_defs.specs.Sorting.{lower_first};
 ghost use Rattle.initial_place.specs.Drawn.{draws_of};
 
 use hg_base::FREE;
@@ -20,12 +21,26 @@ pub(crate) fn drawn_order<R: Threads + Sync>(
     h: &Hypergraph,
     seed: u64,
     stream: u64,
+    workers: u32,
 ) -> Result<Vec<u32>, AllocError>
     ensures order { IfOk result (λ order. order.items ≡ placements.drawn_order h.now seed stream) }
 {
     let mut draws = drawn(alloc, h, seed, stream)?;
-    par_sort_unstable(rt, draws.as_mut_slice());
+    sort_draws(rt, draws.as_mut_slice(), workers);
     vertices_of(alloc, &draws)
+}
+
+/// Sorts pairs, by threads where there are several workers.
+fn sort_draws<R: Threads + Sync>(rt: &R, draws: &mut [(u32, u32)], workers: u32)
+    ensures permutation { IsPermutation draws.old draws.new }
+    ensures len { length draws.new ≡ length draws.old }
+    ensures sorted { IsSorted lower_first draws.new }
+{
+    if workers == 1 {
+        draws.sort_unstable();
+    } else {
+        par_sort_unstable(rt, draws);
+    }
 }
 
 /// The vertices that drew, in the same order.

@@ -18,7 +18,8 @@ use std::thread::Threads;
 /// placements that fits.
 ///
 /// There are 2 to 256 blocks, each fix is `FREE` or one of them, and the counts of the blocks for
-/// all vertices and nets are at most 2^26.
+/// all vertices and nets are at most 2^26. Of 1 to 64 workers one alone starts no thread; with more of
+/// them there are as many threads as processors. The same candidates are tried in either case.
 pub fn place<R: Threads + Sync>(
     rt: &R,
     alloc: Global,
@@ -26,17 +27,19 @@ pub fn place<R: Threads + Sync>(
     k: u32,
     limit: u64,
     seed: u64,
+    workers: u32,
 ) -> Result<Blocks, PlaceEnd>
     requires some { 2 ≤ k }
     requires few { k ≤ 256 }
     requires suits { Suits h.now k }
     requires fixed { IsFixedWithin h.now k }
+    requires workers { (1 ≤ workers) × (workers ≤ 64) }
     ensures partition { IfOk result (IsPartition h.now k) }
     ensures fits { IfOk result (Fits h.now k limit) }
     ensures fixes { IfOk result (Obeys h.now) }
     ensures cost { IfOk result (IsNoDearer h.now k limit (placements.named h.now k seed)) }
     ensures none { result ≡ Err PlaceEnd.NoneFits → placements.named_best h.now k limit seed ≡ None }
 {
-    let named = named_best(rt, alloc, h, k, limit, seed)?;
-    Ok(searched(rt, alloc, h, k, limit, seed, named)?)
+    let named = named_best(rt, alloc, h, k, limit, seed, workers)?;
+    Ok(searched(rt, alloc, h, k, limit, seed, named, workers)?)
 }

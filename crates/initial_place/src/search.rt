@@ -36,7 +36,8 @@ fn effort(h: &Hypergraph, k: u32) -> usize
 }
 
 /// Looks for a partition that is cheaper than a given one, fits and obeys the fixes. The answer
-/// depends on the hypergraph, the number of blocks, the limit, the seed and the given one alone.
+/// depends on the hypergraph, the number of blocks, the limit, the seed and the given one alone, and not
+/// on how many workers there are: one alone makes the same candidates, in the calling thread.
 pub(crate) fn searched<R: Threads + Sync>(
     rt: &R,
     alloc: Global,
@@ -45,6 +46,7 @@ pub(crate) fn searched<R: Threads + Sync>(
     limit: u64,
     seed: u64,
     best: Blocks,
+    workers: u32,
 ) -> Result<Blocks, NoMemory>
     requires some { 2 ≤ k }
     requires few { k ≤ 256 }
@@ -59,6 +61,9 @@ pub(crate) fn searched<R: Threads + Sync>(
     }
     let candidates = Candidates::of(alloc, h, k)?;
     let tries = effort(h, k);
+    if workers == 1 {
+        return best_in_turn(rt, alloc, h, k, &candidates, limit, seed, tries, best);
+    }
     let best = best_of_tries(rt, alloc, h, k, &candidates, limit, seed, tries, best)?;
     best_of_throws(rt, alloc, h, k, &candidates, limit, seed, tries, best)
 }
@@ -184,6 +189,41 @@ fn best_of_throws<R: Threads + Sync>(
         { candidates.thrown(alloc, h, start, limit, seed, i as u64) },
     )?;
     cheapest(alloc, h, k, limit, best, thrown)
+}
+
+/// The same as `best_of_tries` and then `best_of_throws`, by the calling thread alone, which compares each
+/// candidate before it makes the next one, so that no more than one is kept beside the best.
+fn best_in_turn<R: Threads + Sync>(
+    rt: &R,
+    alloc: Global,
+    h: &Hypergraph,
+    k: u32,
+    candidates: &Candidates,
+    limit: u64,
+    seed: u64,
+    tries: usize,
+    best: Blocks,
+) -> Result<Blocks, NoMemory>
+    requires some { 2 ≤ k }
+    requires few { k ≤ 256 }
+    requires suits { Suits h.now k }
+    requires fixed { IsFixedWithin h.now k }
+    requires candidates { candidates.now ≡ record { vertices = vertex_count h.now; blocks = k } }
+    requires tries { tries ≤ 16 }
+    requires best { IsPartition h.now k best }
+    ensures { IfOk result (IsNoWorse h.now k limit best) }
+{
+    let mut best = best;
+    for number in 0..tries as u64 + 1 {
+        let tried = candidates.tried(rt, alloc, h, limit, seed, number, false)?;
+        best = cheaper(alloc, h, k, limit, best, tried)?;
+    }
+    let start = best.copy()?;
+    for throw in 0..tries as u64 {
+        let thrown = candidates.thrown(alloc, h, start.slice(), limit, seed, throw)?;
+        best = cheaper(alloc, h, k, limit, best, thrown)?;
+    }
+    Ok(best)
 }
 
 /// The cheapest of some candidates and a given partition, the first at a tie.

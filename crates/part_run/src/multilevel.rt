@@ -34,15 +34,17 @@ fn begin<H: Threads + Sync>(
     k: u32,
     limit: u64,
     seed: u64,
+    workers: u32,
 ) -> Result<Start, NoMemory>
     requires some { 2 ≤ k }
     requires few { k ≤ 256 }
     requires sound { IsHypergraph stack.now.base }
     requires levels { ArePartable stack.now k }
     requires placed { placement.overfills stack.now.base k limit ≡ None }
+    requires workers { (1 ≤ workers) × (workers ≤ 64) }
     ensures { IfOk result (λ s. IsStartAt stack.now k limit seed s.level s.blocks) }
 {
-    match descend(rt, alloc, stack, k, limit, seed) {
+    match descend(rt, alloc, stack, k, limit, seed, workers) {
         Ok(start) => Ok(start),
         Err(PlaceEnd::NoneFits) => unreachable!(),
         Err(PlaceEnd::NoMemory) => Err(NoMemory),
@@ -85,7 +87,7 @@ fn run_descent<H: Threads + Sync>(
 {
     let _vertices = h.vertices();
     let (stack, stop) = coarsen(rt, alloc, h, job.k, job.workers, job.seed, &OpenGate)?;
-    let start = begin(rt, alloc, &stack, job.k, limit, job.seed)?;
+    let start = begin(rt, alloc, &stack, job.k, limit, job.seed, job.workers)?;
     let (h, last, mut trace) = uncoarsen(
         rt,
         alloc,

@@ -55,17 +55,17 @@ fn named_ones(rt: HostRuntime) -> Result<(), Fail> {
     assert!(rt; h.fixed_within(2));
     // At seed 2 four of the nine cost 10, and the third is the first of them.
     for (seed, blocks) in [(1, [1, 1, 1, 0, 0, 0, 0]), (2, [1, 1, 0, 0, 0, 0, 1])] {
-        let best = named_best(&rt, rt.alloc(), &h, 2, 4, seed).expect(&rt, "one fits");
+        let best = named_best(&rt, rt.alloc(), &h, 2, 4, seed, 1).expect(&rt, "one fits");
         assert_eq!(rt; best.slice(), blocks.as_slice());
     }
     let heavy = weighted(rt.alloc(), &[4, 4, 4])?;
     assert!(rt; heavy.fixed_within(2));
-    let end = named_best(&rt, rt.alloc(), &heavy, 2, 6, 1).err();
+    let end = named_best(&rt, rt.alloc(), &heavy, 2, 6, 1, 1).err();
     assert_eq!(rt; end, Some(PlaceEnd::NoneFits));
     // At seed 13 the ninth alone fits.
     let five = weighted(rt.alloc(), &[3, 3, 2, 2, 2])?;
     assert!(rt; five.fixed_within(2));
-    let ninth = named_best(&rt, rt.alloc(), &five, 2, 6, 13).expect(&rt, "the ninth fits");
+    let ninth = named_best(&rt, rt.alloc(), &five, 2, 6, 13, 2).expect(&rt, "the ninth fits");
     assert_eq!(rt; ninth.slice(), [1, 1, 0, 0, 0].as_slice());
     Ok(())
 }
@@ -75,12 +75,12 @@ fn first_partition(rt: HostRuntime) -> Result<(), Fail> {
     let heavy = weighted(rt.alloc(), &[4, 4, 4])?;
     assert!(rt; heavy.fixed_within(2));
     assert!(rt; heavy.suits(2));
-    let end = place(&rt, rt.alloc(), &heavy, 2, 6, 1).err();
+    let end = place(&rt, rt.alloc(), &heavy, 2, 6, 1, 1).err();
     assert_eq!(rt; end, Some(PlaceEnd::NoneFits));
     let h = four_nets(rt.alloc())?;
     assert!(rt; h.fixed_within(2));
     assert!(rt; h.suits(2));
-    let blocks = place(&rt, rt.alloc(), &h, 2, 4, 1).expect(&rt, "one fits");
+    let blocks = place(&rt, rt.alloc(), &h, 2, 4, 1, 1).expect(&rt, "one fits");
     assert_eq!(rt; cost_of(h.flat(), blocks.slice(), 2), 10);
     Ok(())
 }
@@ -91,9 +91,11 @@ fn cheaper_than_named(rt: HostRuntime) -> Result<(), Fail> {
     let h = two_groups(rt.alloc())?;
     assert!(rt; h.fixed_within(2));
     assert!(rt; h.suits(2));
-    let best = named_best(&rt, rt.alloc(), &h, 2, 4, 1).expect(&rt, "one fits");
+    let best = named_best(&rt, rt.alloc(), &h, 2, 4, 1, 2).expect(&rt, "one fits");
     assert_eq!(rt; cost_of(h.flat(), best.slice(), 2), 6);
-    let placed = place(&rt, rt.alloc(), &h, 2, 4, 1).expect(&rt, "one fits");
+    let placed = place(&rt, rt.alloc(), &h, 2, 4, 1, 1).expect(&rt, "one fits");
+    assert_eq!(rt; placed.slice(), [1, 1, 1, 1, 0, 0, 0, 0].as_slice());
+    let placed = place(&rt, rt.alloc(), &h, 2, 4, 1, 8).expect(&rt, "one fits");
     assert_eq!(rt; placed.slice(), [1, 1, 1, 1, 0, 0, 0, 0].as_slice());
     Ok(())
 }

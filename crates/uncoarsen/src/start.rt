@@ -34,12 +34,14 @@ fn place_on<R: Threads + Sync>(
     k: u32,
     limit: u64,
     seed: u64,
+    workers: u32,
 ) -> Result<Blocks, PlaceEnd>
     requires level { level ≤ length stack.now.maps }
     requires some { 2 ≤ k }
     requires few { k ≤ 256 }
     requires suits { Suits (level_of stack.now level) k }
     requires fixed { IsFixedWithin (level_of stack.now level) k }
+    requires workers { (1 ≤ workers) × (workers ≤ 64) }
     ensures partition { IfOk result (IsPartition (level_of stack.now level) k) }
     ensures fits { IfOk result (Fits (level_of stack.now level) k limit) }
     ensures fixes { IfOk result (Obeys (level_of stack.now level)) }
@@ -48,16 +50,17 @@ fn place_on<R: Threads + Sync>(
     ensures none { result ≡ Err PlaceEnd.NoneFits → NoneFitsAt stack.now k limit seed level }
 {
     if level == stack.depth() - 1 {
-        return place(rt, alloc, stack.top(), k, limit, seed);
+        return place(rt, alloc, stack.top(), k, limit, seed, workers);
     }
     let copy = stack.level(level).copy(alloc)?;
     let h = Hypergraph::build(alloc, copy)?;
-    place(rt, alloc, &h, k, limit, seed)
+    place(rt, alloc, &h, k, limit, seed, workers)
 }
 
 /// A partition of the coarsest level on which one is found, from the coarsest level downwards.
 ///
-/// There are 2 to 256 blocks, and each level suits them and is fixed to them alone.
+/// There are 2 to 256 blocks, and each level suits them and is fixed to them alone. Of 1 to 64 workers one
+/// alone starts no thread; where the descent begins doesn't depend on how many there are.
 pub fn descend<R: Threads + Sync>(
     rt: &R,
     alloc: Global,
@@ -65,10 +68,12 @@ pub fn descend<R: Threads + Sync>(
     k: u32,
     limit: u64,
     seed: u64,
+    workers: u32,
 ) -> Result<Start, PlaceEnd>
     requires some { 2 ≤ k }
     requires few { k ≤ 256 }
     requires levels { ArePartable stack.now k }
+    requires workers { (1 ≤ workers) × (workers ≤ 64) }
     ensures start { IfOk result (λ s. IsStartAt stack.now k limit seed s.level s.blocks) }
     ensures none { result ≡ Err PlaceEnd.NoneFits → (i : ℕ) → i ≤ length stack.now.maps → NoneFitsAt stack.now k limit
         seed i }
@@ -76,7 +81,7 @@ pub fn descend<R: Threads + Sync>(
     let depth = stack.depth();
     for above in 0..depth {
         let level = depth - 1 - above;
-        match place_on(rt, alloc, stack, level, k, limit, seed) {
+        match place_on(rt, alloc, stack, level, k, limit, seed, workers) {
             Ok(blocks) => return Ok(Start { level, blocks }),
             Err(PlaceEnd::NoneFits) => {}
             Err(PlaceEnd::NoMemory) => return Err(PlaceEnd::NoMemory),
