@@ -18,7 +18,7 @@ use std::thread::{Threads, map_indices};
 /// The most cells that the table of pulls may have.
 const MOST_CELLS: u64 = 1 << 23;
 
-/// With fewer bisections than this each of them is made by two threads.
+/// With fewer bisections than this several workers make each of them by two threads.
 const FEW_TRIES: usize = 4;
 
 /// How many bisections and how many perturbations are tried: fewer where they cost more.
@@ -125,7 +125,7 @@ fn cheaper(
     Ok(best)
 }
 
-/// The cheapest of a growing, some bisections and a given partition.
+/// The cheapest of a growing, some bisections and a given partition. Threads make them.
 fn best_of_tries<R: Threads + Sync>(
     rt: &R,
     alloc: Global,
@@ -158,7 +158,7 @@ fn best_of_tries<R: Threads + Sync>(
     cheapest(alloc, h, k, limit, best, tried)
 }
 
-/// The cheapest of some perturbations of a given partition, and itself.
+/// The cheapest of some perturbations of a given partition, and itself. Threads make them.
 fn best_of_throws<R: Threads + Sync>(
     rt: &R,
     alloc: Global,
