@@ -8,23 +8,22 @@ use crate::images::Images;
 use crate::keys::{Key, have_same_pins};
 use std::alloc::{AllocError, Global};
 
-/// The keys are cut into so many parts at most, each of which a thread takes; nor do more threads make the index.
-pub(crate) const MOST_PARTS: usize = 8;
-
 /// A part has so many keys at least, but for the last one: to start a thread for it costs as much
 /// as to merge a thousand nets.
 const LEAST_KEYS: usize = 4096;
 
-/// Places that cut the keys into parts of about one size, between nets with different pins.
+/// Places that cut the keys into parts of about one size, so many at most, between nets with different pins.
 pub(crate) fn cuts_of(
     alloc: Global,
     nets: &Images<'_>,
     keys: &[Key],
+    parts: u32,
 ) -> Result<Vec<usize>, AllocError>
-    requires { All (IsKey nets.now) keys.now }
+    requires keys { All (IsKey nets.now) keys.now }
+    requires parts { 0 < parts }
     ensures { IfOk result (λ cuts. AreCuts nets.now keys.now (length keys.now) cuts.items) }
 {
-    let size = keys.len().div_ceil(MOST_PARTS).max(LEAST_KEYS);
+    let size = keys.len().div_ceil(parts as usize).max(LEAST_KEYS);
     let mut cuts = vec![in alloc; 0usize]?;
     let mut end = 0;
     'parts: while end < keys.len() {

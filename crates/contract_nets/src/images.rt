@@ -20,9 +20,6 @@ use std::marker::Model;
 use std::snapshot::Snapshot;
 use std::thread::Threads;
 
-/// The nets are cut into so many parts at most.
-const MOST_PARTS: u32 = 8;
-
 /// A part has so many nets at least, but for the last one: to start a thread for it costs as much
 /// as a thousand nets.
 const LEAST_NETS: u32 = 4096;
@@ -128,19 +125,21 @@ struct Mapped {
 }
 
 /// The images of all nets, and the keys of those with two pins or more in the order of the nets:
-/// made part by part, by as many threads as there are parts.
+/// made part by part, by as many threads as there are parts, which are so many at most.
 pub(crate) fn map_nets<'a, R: Threads + Sync>(
     rt: &R,
     alloc: Global,
     h: &'a Hypergraph,
     clusters: &'a [u32],
+    threads: u32,
 ) -> Result<(Images<'a>, Vec<Key>), NoMemory>
     requires vertices { length clusters.now ≡ vertex_count h.now }
     requires few { cluster_count clusters.now ≤ 2 ^ 22 }
+    requires threads { 0 < threads }
     ensures images { IfOk result (λ pair. pair.0 ≡ over h.now clusters.now) }
     ensures keys { IfOk result (λ pair. pair.1.items ≡ keys_from (over h.now clusters.now) 0 (net_count h.now)) }
 {
-    let size = h.nets().div_ceil(MOST_PARTS).max(LEAST_NETS);
+    let size = h.nets().div_ceil(threads).max(LEAST_NETS);
     let mut parts = Vec::new(alloc);
     let mut keys = Vec::with_capacity(alloc, h.nets() as usize)?;
     for mapped in map_parts(rt, alloc, h, clusters, size)? {

@@ -19,18 +19,20 @@ use std::alloc::Global;
 use std::thread::Threads;
 
 /// The nets of sorted keys, with equal neighbours merged: in lists that follow one another, each of
-/// which a thread makes.
+/// which a thread makes, and which are so many at most.
 pub(crate) fn merge_nets<R: Threads + Sync>(
     rt: &R,
     alloc: Global,
     nets: &Images<'_>,
     keys: &[Key],
+    threads: u32,
 ) -> Result<Vec<Nets>, NoMemory>
     requires keys { All (IsKey nets.now) keys.now }
+    requires threads { 0 < threads }
     requires limits { AreWithin (merged (map (net_of_key nets.now) keys.now)) }
     ensures { IfOk result (λ lists. all_nets lists.items ≡ merged (map (net_of_key nets.now) keys.now)) }
 {
-    let cuts = cuts_of(alloc, nets, keys)?;
+    let cuts = cuts_of(alloc, nets, keys, threads)?;
     let mut lists = Vec::new(alloc);
     for list in merge_parts(rt, alloc, nets, keys, &cuts)? {
         lists.push(list?)?;
