@@ -134,7 +134,7 @@ pub(crate) fn race<H: Threads + Sync, G: Gate>(
     let (k, limit) = (p.k(), p.limit());
     let seeds = cut_vertices(rt, alloc, h, &p, task.workers)?;
     let first = first_place(seeds.len(), task.seed, task.level);
-    let Ok((round, passes)) = Round::open(alloc, h, p, task.workers) else {
+    let Ok((round, passes)) = Round::open(rt, alloc, h, p, task.workers) else {
         return Err(NoMemory);
     };
     let mut workers = workers_of(alloc, h, k, passes, desks)?;

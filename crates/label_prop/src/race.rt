@@ -72,7 +72,7 @@ fn close_race<H: Threads + Sync, G: Gate>(
 {
     let (_blocks, _vertices) = (p.blocks(), h.vertices());
     let (k, limit) = (p.k(), p.limit());
-    let Ok((round, passes)) = Round::open(alloc, h, p, workers) else {
+    let Ok((round, passes)) = Round::open(rt, alloc, h, p, workers) else {
         return Err(NoMemory);
     };
     let shared = Shared {

@@ -18,6 +18,7 @@ use hg_base::{Items, NoMemory};
 use incidence::Hypergraph;
 use pin_plain::Partition;
 use std::alloc::Global;
+use std::thread::Threads;
 
 /// Makes the passes of a round, of which the first one has the seat.
 fn make_passes(alloc: Global, words: &Words, seat: Place, workers: u32) -> Result<Passes, NoMemory>
@@ -59,7 +60,8 @@ fn begin(alloc: Global, terms: &Terms) -> Result<Begun, NoMemory>
 impl<'h> Round<'h> {
     /// Opens a round over a hypergraph and a partition of it, which must fit, with 1 to 64 passes,
     /// which have done nothing. Where there is no memory, the partition comes back.
-    pub fn open(
+    pub fn open<R: Threads + Sync>(
+        rt: &R,
         alloc: Global,
         hyper: &'h Hypergraph,
         part: Partition,
@@ -73,7 +75,7 @@ impl<'h> Round<'h> {
         ensures passes { IfOk result (λ r. AreFresh r.0.table r.0.terms r.1) }
         ensures refused { IfErr result (λ e. e.0 ≡ part) }
     {
-        let (part, opening_cost) = part.into_ready(hyper);
+        let (part, opening_cost) = part.into_ready(rt, hyper, workers);
         let _blocks = part.blocks();
         let terms = Terms { part, workers };
         match begin(alloc, &terms) {

@@ -192,7 +192,7 @@ fn try_move(
 
 /// Opens a round of two passes.
 fn opened<'h>(
-    rt: &impl Abort,
+    rt: &(impl Threads + Sync + Abort),
     alloc: Global,
     h: &'h Hypergraph,
     p: Partition,
@@ -204,7 +204,7 @@ fn opened<'h>(
     ensures first { IfOk result (λ r. IsPassOf r.0 r.1 × (r.1.view.account.stage ≡ Idle) × (r.1.view.number ≡ 0)) }
     ensures second { IfOk result (λ r. IsPassOf r.0 r.2 × (r.2.view.account.stage ≡ Idle) × (r.2.view.number ≡ 1)) }
 {
-    let Ok((round, passes)) = Round::open(alloc, h, p, 2) else {
+    let Ok((round, passes)) = Round::open(rt, alloc, h, p, 2) else {
         return Err(Fail::new("no memory"));
     };
     let mut passes = passes.into_vec();
@@ -596,7 +596,7 @@ fn raced<R: Threads + Sync>(
     requires fits { Fits p.hyper p.k p.limit p.blocks }
     ensures { IfOk result (λ c. c.part.hyper ≡ h.now) }
 {
-    let Ok((round, mut passes)) = Round::open(alloc, h, p, 8) else {
+    let Ok((round, mut passes)) = Round::open(rt, alloc, h, p, 8) else {
         return Err(Fail::new("no memory"));
     };
     race(rt, &round, passes.slice_mut(), refused);

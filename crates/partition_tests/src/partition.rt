@@ -491,15 +491,15 @@ fn counts_alike<R: Threads + Sync>(
     requires vertices { length map.now ≡ vertex_count fine.now }
     requires places { All (λ v. v < vertex_count p.now.hyper) map.now }
     requires blocks { p.now.k ≡ 2 }
-    requires workers { 1 ≤ workers }
+    requires workers { (1 ≤ workers) × (workers ≤ 64) }
 {
     if !fine.suits(2) || !fine.fixed_within(2) {
         return Ok(false);
     }
-    let (one, cost) = p.project(alloc, fine, map)?.into_ready(fine);
+    let (one, cost) = p.project(alloc, fine, map)?.into_ready(rt, fine, 1);
     let (many, same) = p
         .project_with(rt, alloc, fine, map, workers)?
-        .into_ready(fine);
+        .into_ready(rt, fine, workers);
     Ok(cost == 22_000 && same == 22_000 && one.words() == many.words())
 }
 
@@ -601,9 +601,9 @@ fn replays<R: Threads + Sync>(
     p.replay_with(rt, h, moves.as_slice(), row.workers);
     shift_each(h, &mut q, moves.as_slice());
     let anew = parted(alloc, h, 3, 200, p.blocks())?;
-    let (p, cost) = p.into_ready(h);
-    let (q, shifted) = q.into_ready(h);
-    let (anew, counted) = anew.into_ready(h);
+    let (p, cost) = p.into_ready(rt, h, row.workers);
+    let (q, shifted) = q.into_ready(rt, h, 1);
+    let (anew, counted) = anew.into_ready(rt, h, 1);
     Ok(
         (cost == shifted && cost == counted)
             && (p.words() == q.words() && p.words() == anew.words()),
@@ -656,9 +656,14 @@ fn has_words(ready: &Ready, row: &Opening<'_>) -> bool {
 }
 
 /// Whether a round in so many blocks begins with these words, and the partition is given back.
-fn is_opened(alloc: Global, h: &Hypergraph, row: &Opening<'_>) -> Result<bool, Fail> {
+fn is_opened(
+    rt: &(impl Threads + Sync),
+    alloc: Global,
+    h: &Hypergraph,
+    row: &Opening<'_>,
+) -> Result<bool, Fail> {
     let p = parted(alloc, h, row.k, 7, OPENING)?;
-    let (ready, cost) = p.into_ready(h);
+    let (ready, cost) = p.into_ready(rt, h, 2);
     Ok(cost == 18 && has_words(&ready, row) && ready.into_partition().cost(h) == 18)
 }
 
@@ -666,7 +671,7 @@ fn is_opened(alloc: Global, h: &Hypergraph, row: &Opening<'_>) -> Result<bool, F
 fn words_of_a_round(rt: HostRuntime) -> Result<(), Fail> {
     let h = Hypergraph::build(rt.alloc(), four_nets(rt.alloc())?)?;
     for row in OPENINGS {
-        assert!(rt; is_opened(rt.alloc(), &h, row)?, "{} blocks", row.k);
+        assert!(rt; is_opened(&rt, rt.alloc(), &h, row)?, "{} blocks", row.k);
     }
     Ok(())
 }

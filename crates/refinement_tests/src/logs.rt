@@ -89,7 +89,7 @@ fn idle_race(
     requires fits { Fits h.now p.k p.limit p.blocks }
     ensures { IfOk result (λ c. c.part.hyper ≡ h.now) }
 {
-    let Ok((round, passes)) = Round::open(alloc, h, p, 2) else {
+    let Ok((round, passes)) = Round::open(rt, alloc, h, p, 2) else {
         return Err(NoMemory);
     };
     let Ok(closed) = round.close(rt, alloc, passes) else {
@@ -209,7 +209,7 @@ fn race_in_turn(
     requires fits { Fits h.now p.k p.limit p.blocks }
     ensures { IfOk result (λ c. c.part.hyper ≡ h.now) }
 {
-    let Ok((round, passes)) = Round::open(alloc, h, p, 2) else {
+    let Ok((round, passes)) = Round::open(rt, alloc, h, p, 2) else {
         return Err(Fail::new("no memory"));
     };
     let mut passes = passes.into_vec();
