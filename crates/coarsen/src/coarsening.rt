@@ -48,7 +48,7 @@ pub fn coarsen<R: Threads + Sync, G: Gate>(
         if !is_twentieth_fewer(stack.top(), count) {
             return Ok((stack, Stop::Stuck(clusters)));
         }
-        let (coarse, ledger) = contract(rt, alloc, stack.top(), clusters.slice())?;
+        let (coarse, ledger) = contract(rt, alloc, stack.top(), clusters.slice(), workers)?;
         stack.push(clusters, coarse, ledger)?;
     }
     Ok((stack, Stop::Small))
@@ -87,7 +87,7 @@ pub fn coarsen_inside<R: Threads + Sync, G: Gate>(
             return Ok((stack, Stop::Stuck(clusters), Blocks::from_vec(current)));
         }
         let above = lift_blocks(alloc, &current, clusters.slice(), count)?;
-        let (coarse, ledger) = contract(rt, alloc, stack.top(), clusters.slice())?;
+        let (coarse, ledger) = contract(rt, alloc, stack.top(), clusters.slice(), workers)?;
         stack.push(clusters, coarse, ledger)?;
         current = above;
     }

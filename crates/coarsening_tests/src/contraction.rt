@@ -63,16 +63,20 @@ struct Row<'a> {
     ledger: &'a [Merged],
 }
 
-/// Contracts by the map of a row, and compares.
+/// Contracts by the map of a row, with so many workers, and compares.
 fn compare<R: Abort + Threads + Sync>(
     rt: &R,
     alloc: Global,
     h: &Hypergraph,
     row: &Row<'_>,
-) -> Result<(), Fail> {
+    workers: u32,
+) -> Result<(), Fail>
+    requires some { 1 ≤ workers }
+    requires few { workers ≤ 64 }
+{
     let count = u32::try_from(row.clusters.len())?;
     assert!(rt; is_full(h, row.map, count));
-    let (coarse, ledger) = contract(rt, alloc, h, row.map)?;
+    let (coarse, ledger) = contract(rt, alloc, h, row.map, workers)?;
     assert_eq!(rt; coarse.objective(), h.objective());
     assert_eq!(rt; coarse.vertices(), count);
     for (i, cluster) in row.clusters.iter().enumerate() {
@@ -105,7 +109,7 @@ fn contractions(rt: HostRuntime) -> Result<(), Fail> {
             Merged::Into(0),
         ],
     };
-    compare(&rt, rt.alloc(), &open, &three)?;
+    compare(&rt, rt.alloc(), &open, &three, 1)?;
     let two = Row {
         map: &[0, 0, 0, 1, 1, 1, 0],
         clusters: &[(4, FREE), (3, FREE)],
@@ -117,7 +121,7 @@ fn contractions(rt: HostRuntime) -> Result<(), Fail> {
             Merged::Into(0),
         ],
     };
-    compare(&rt, rt.alloc(), &open, &two)?;
+    compare(&rt, rt.alloc(), &open, &two, 4)?;
     let fixed = four_nets(rt.alloc(), 1, Objective::ExternalDegree)?;
     let alone = Row {
         map: &[0, 1, 1, 1, 2, 2, 2],
@@ -130,5 +134,5 @@ fn contractions(rt: HostRuntime) -> Result<(), Fail> {
             Merged::Dropped,
         ],
     };
-    compare(&rt, rt.alloc(), &fixed, &alone)
+    compare(&rt, rt.alloc(), &fixed, &alone, 64)
 }

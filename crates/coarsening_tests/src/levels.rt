@@ -77,7 +77,7 @@ fn climb<R: Abort + Threads + Sync>(
     let depth = stack.depth();
     assert!(rt; is_full(stack.top(), map, count));
     assert!(rt; is_free(stack.top(), map));
-    let (coarse, ledger) = contract(rt, alloc, stack.top(), map)?;
+    let (coarse, ledger) = contract(rt, alloc, stack.top(), map, 2)?;
     let map = MapList::from_vec(map.to_vec(alloc)?);
     let pushed = stack.push(map, coarse, ledger);
     // A refused push leaves the stack as it was.

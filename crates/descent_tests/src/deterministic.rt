@@ -124,7 +124,7 @@ fn descended<R: Threads + Sync + Abort>(
 {
     let h = row(alloc, 300)?;
     assert!(rt; h.fixed_within(8));
-    let (stack, stop) = det_levels(rt, alloc, h, 8)?;
+    let (stack, stop) = det_levels(rt, alloc, h, 8, workers)?;
     assert_eq!(rt; (stack.depth(), stack.top().vertices()), (2, 150));
     assert!(rt; matches!(stop, Stop::Small));
     assert!(rt; all_suit(&stack, 8));

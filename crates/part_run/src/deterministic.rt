@@ -72,7 +72,7 @@ pub(crate) fn run_determined<H: Threads + Sync>(
     requires placed { placed ≡ placement.greedy h job.now.k }
     ensures { IfOk result (IsReached Deterministic [] job.now h) }
 {
-    let (stack, stop) = det_levels(rt, alloc, h, job.k)?;
+    let (stack, stop) = det_levels(rt, alloc, h, job.k, job.workers)?;
     let (h, last, mut trace) = synchronize(rt, alloc, stack, stop, job, limit)?;
     let best = settle_best(rt, alloc, &h, last, placed, job.workers, &mut trace)?;
     Ok(Reached {

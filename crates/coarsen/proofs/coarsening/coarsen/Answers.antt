@@ -49,8 +49,8 @@ returns-then-not-is_twentieth_fewer-clause-stop g c =
       omega arith,
     )
 
-pub contract-requires-after_bounds : goal.contract-requires-after_bounds
-contract-requires-after_bounds g c κs within =
+pub contract-requires-clause-full : goal.contract-requires-clause-full
+contract-requires-clause-full g c κs within =
     let h = coarsest c.levels.stack.base c.levels.stack.maps in
     let good = good_at c.top-in-levels.result.now h c.args.k c.in_ok-clusters.clusters c.in_ok-clusters.ensures.good c.top-in-levels.ensures 0 in
     subst (λ (x : Hyper). IsFull x c.slice-in-levels.result.now (cluster_count c.slice-in-levels.result.now)) (sym c.top-in-levels-3.ensures)

@@ -59,8 +59,8 @@ returns-then-not-is_twentieth_fewer-clause-levels g c =
       );
     }
 
-pub contract-requires-after_bounds : goal.contract-requires-after_bounds
-contract-requires-after_bounds g c κs within =
+pub contract-requires-clause-full : goal.contract-requires-clause-full
+contract-requires-clause-full g c κs within =
     let h = coarsest c.levels.stack.base c.levels.stack.maps in
     let good = clustering_at c.top-level.result.now h c.cluster_cap-cap.result c.in_ok-clusters.clusters c.in_ok-clusters.ensures.clustering
     c.top-level.ensures in
