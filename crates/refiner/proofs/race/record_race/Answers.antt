@@ -62,11 +62,11 @@ returns-clause-round g c =
         made = made ∙ ap (cost c.args.h.now) (sym again);
         fits = subst (Fits c.args.h.now c.args.part.now.k c.args.part.now.limit) (sym again) c.requires.fits;
         kept = c.in_ok-kept.ensures.length ∙ ap (λ (xs : List Move). best_prefix c.args.h.now c.args.part.now.k c.args.part.now.limit
-            (undone c.args.part.now.blocks xs) xs) c.slice-2.ensures;
+            (undone c.args.part.now.blocks xs) xs) c.slice-3.ensures;
         after = after_is c.in_ok-kept.kept.saved (cost c.args.h.now opening) (cost c.args.h.now (replay_first opening c.args.moves
             c.in_ok-kept.kept.length)) _ before (c.in_ok-kept.ensures.saved ∙ ap (λ (xs : List Move). pos (cost c.args.h.now
             (undone c.args.part.now.blocks xs)) -ℤ pos (cost c.args.h.now
-            (replay_first (undone c.args.part.now.blocks xs) xs c.in_ok-kept.kept.length))) c.slice-2.ensures);
+            (replay_first (undone c.args.part.now.blocks xs) xs c.in_ok-kept.kept.length))) c.slice-3.ensures);
         no_pair = record { first = refl; second = refl; value = refl; region = c.new.ensures };
       };
     }
