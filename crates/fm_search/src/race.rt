@@ -144,7 +144,7 @@ pub(crate) fn race<H: Threads + Sync, G: Gate>(
         h,
         k,
         limit,
-        others: task.workers > 1,
+        workers: task.workers,
         seeds: seeds.as_slice(),
         first,
         progress: &progress,

@@ -10,15 +10,18 @@ use move_table::Round;
 /// Room between what one worker writes and what others read, so that no line of the cache holds both.
 pub(crate) type Apart = [u64; 16];
 
-/// The round, its hypergraph, its number of blocks and its limit, whether there are several workers, the seeds with
-/// the place of the first one that is drawn, and how far the round has come.
+/// The rows of the seeds of a search have so many cells at most.
+const MOST_SEED_CELLS: u64 = 1 << 16;
+
+/// The round, its hypergraph, its number of blocks and its limit, the number of workers, the seeds with the place of
+/// the first one that is drawn, and how far the round has come.
 #[derive(Drop)]
 pub(crate) struct Shared<'a> {
     pub(crate) round: &'a Round<'a>,
     pub(crate) h: &'a Hypergraph,
     pub(crate) k: u32,
     pub(crate) limit: u64,
-    pub(crate) others: bool,
+    pub(crate) workers: u32,
     pub(crate) seeds: &'a [u32],
     pub(crate) first: u32,
     pub(crate) progress: &'a Progress,
@@ -31,13 +34,30 @@ pub(crate) struct Shared<'a> {
 }
 
 impl Shared<'_> {
-    /// The seed of a number that was drawn: the seeds are gone round from the first one on.
-    pub(crate) fn seed(&self, drawn: u64) -> u32
-        requires { drawn < length self.now.seeds.now }
+    /// From how many seeds a search starts: from the share of a worker, as far as their rows have few cells.
+    fn lot_size(&self) -> u64 {
+        let share = self.seeds.len() as u64 / u64::from(self.workers.max(1));
+        share
+            .saturating_add(1)
+            .min(MOST_SEED_CELLS / u64::from(self.k.max(1)))
+    }
+
+    /// The numbers of the seeds of the search of a number that was drawn, from the first one up to the second one.
+    pub(crate) fn lot(&self, drawn: u64) -> (u64, u64)
+        ensures { result.1 ≤ length self.now.seeds.now }
+    {
+        let size = self.lot_size();
+        let from = drawn.saturating_mul(size);
+        (from, from.saturating_add(size).min(self.seeds.len() as u64))
+    }
+
+    /// The seed of a number: the seeds are gone round from the first one on.
+    pub(crate) fn seed(&self, number: u64) -> u32
+        requires { number < length self.now.seeds.now }
         ensures { result < vertex_count self.now.h.now }
     {
         let seeds = self.seeds;
-        let mut place = self.first as usize + drawn as usize;
+        let mut place = self.first as usize + number as usize;
         if place >= seeds.len() {
             place -= seeds.len();
         }

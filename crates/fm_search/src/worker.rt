@@ -1,4 +1,4 @@
-//! A worker: it draws seeds, and grows a search from each.
+//! A worker: it draws lots of seeds, and grows a search from each lot.
 
 ghost use Rattle.std.specs.Prelude.{◌≡◌, ◌≢◌, ◌<◌, ◌≤◌, IfOk, IfSome, length};
 ghost use Rattle.hg_defs.specs.Hypergraph.{vertex_count, net_count, net_of, IsFree};
@@ -38,7 +38,7 @@ impl Worker {
         ensures block { IfOk result (λ choice. IfSome choice (λ c. c.to < shared.now.k)) }
         ensures other { IfOk result (λ choice. IfSome choice (λ c. c.to ≢ block)) }
     {
-        if shared.others && self.mover.block(shared.round, v) != block {
+        if shared.workers > 1 && self.mover.block(shared.round, v) != block {
             self.desk.leave(v);
             return Ok(None);
         }
@@ -178,15 +178,17 @@ impl Worker {
         }
     }
 
-    /// Grows a search from a seed, which moves whatever its gain.
-    fn search(&mut self, shared: &Shared<'_>, seed: u32) -> Result<(), NoMemory>
+    /// Grows a search from the seeds of these numbers, of which the one that gains most moves whatever it gains.
+    fn search(&mut self, shared: &Shared<'_>, from: u64, to: u64) -> Result<(), NoMemory>
         requires fit { IsFit shared.now.round.now shared.now.h.now shared.now.k self.old.mover self.old.desk }
-        requires vertex { seed < vertex_count shared.now.h.now }
+        requires seeds { to ≤ length shared.now.seeds.now }
         ensures mover { self.new.mover ≡ self.old.mover }
         ensures desk { self.new.desk ≡ self.old.desk }
     {
         self.desk.begin_search();
-        self.desk.offer(i64::MIN, 0, seed)?;
+        'seeds: for number in from..to {
+            self.offer(shared, shared.seed(number))?;
+        }
         let mut streak = Streak::new();
         'turns: for _ in 0..u32::MAX {
             if streak.is_over() {
@@ -200,7 +202,7 @@ impl Worker {
         Ok(())
     }
 
-    /// Draws seeds, and grows a search from each. It passes the gate before each draw.
+    /// Draws lots of seeds, and grows a search from each lot. It passes the gate before each draw.
     pub(crate) fn run<G: Gate>(&mut self, shared: &Shared<'_>, gate: &G, number: u32)
         requires fit { IsFit shared.now.round.now shared.now.h.now shared.now.k self.old.mover self.old.desk }
         requires fresh { self.old.mover.seeds ≡ 0 }
@@ -214,10 +216,11 @@ impl Worker {
             }
             gate.pass(number, turn as u64);
             let drawn = self.mover.draw(shared.round);
-            if drawn >= shared.seeds.len() as u64 {
+            let (from, to) = shared.lot(drawn);
+            if from >= to {
                 return;
             }
-            if self.search(shared, shared.seed(drawn)).is_err() {
+            if self.search(shared, from, to).is_err() {
                 shared.progress.stop();
                 return;
             }
