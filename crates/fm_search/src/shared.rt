@@ -13,6 +13,10 @@ pub(crate) type Apart = [u64; 16];
 /// The rows of the seeds of a search have so many cells at most.
 const MOST_SEED_CELLS: u64 = 1 << 16;
 
+/// So many seeds aren't shared out: searches that begin near each other take each other's moves for gains, go on
+/// for long, and are undone.
+const FEW_SEEDS: u64 = 2048;
+
 /// The round, its hypergraph, its number of blocks and its limit, the number of workers, the seeds with the place of
 /// the first one that is drawn, and how far the round has come.
 #[derive(Drop)]
@@ -34,11 +38,12 @@ pub(crate) struct Shared<'a> {
 }
 
 impl Shared<'_> {
-    /// From how many seeds a search starts: from the share of a worker, as far as their rows have few cells.
+    /// From how many seeds a search starts: from the share of a worker, or from a few where the share is less, as far
+    /// as their rows have few cells.
     fn lot_size(&self) -> u64 {
-        let share = self.seeds.len() as u64 / u64::from(self.workers.max(1));
+        let share = (self.seeds.len() as u64).div_ceil(u64::from(self.workers.max(1)));
         share
-            .saturating_add(1)
+            .max(FEW_SEEDS)
             .min(MOST_SEED_CELLS / u64::from(self.k.max(1)))
     }
 

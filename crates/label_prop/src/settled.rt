@@ -21,8 +21,9 @@ use std::thread::Threads;
 /// So many vertices are asked at once at most.
 const MOST_LISTED: usize = 64;
 
-/// A thread has so many vertices at least: to start one takes as long as to ask a thousand.
-const LEAST_VERTICES: u32 = 4096;
+/// A thread is worth so many vertices or nets at least: to start it takes as long as to ask a thousand vertices of few
+/// nets, and the few vertices of a coarse level have many.
+const LEAST_ITEMS: u32 = 4096;
 
 /// Whether one of the listed vertices has a move that makes the partition cheaper.
 fn one_gains(alloc: Global, h: &Hypergraph, p: &Partition, listed: &[u32]) -> Result<bool, NoMemory>
@@ -143,6 +144,6 @@ pub(crate) fn is_settled<H: Threads + Sync>(
     if !all_set(marks) && marked_gains(alloc, h, p, marks)? {
         return Ok(false);
     }
-    let threads = workers.min(h.vertices() / LEAST_VERTICES + 1);
+    let threads = workers.min(h.vertices().max(h.nets()) / LEAST_ITEMS + 1);
     settled_in_runs(rt, alloc, h, p, threads)
 }
