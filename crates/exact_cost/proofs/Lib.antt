@@ -1,0 +1,3 @@
+pub mod CarryingLaws
+pub mod SeenLemmas
+pub mod PayingLemmas
