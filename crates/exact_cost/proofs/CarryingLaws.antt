@@ -33,7 +33,7 @@ carried_through_none n p long = are_carried_down n [] p p long (λ v low. refl)
 
 -- ---- carried vertices
 
-take_suc : (maps : List (List ℕ)) (i : ℕ) → i < length maps → take (suc i) maps ≡ take i maps ++ map_of maps i ∷ []
+pub take_suc : (maps : List (List ℕ)) (i : ℕ) → i < length maps → take (suc i) maps ≡ take i maps ++ map_of maps i ∷ []
 take_suc [] i low = absurd (omega arith)
 take_suc (m ∷ maps) zero low = refl
 take_suc (m ∷ maps) (suc i) low = ap (λ ms. m ∷ ms) (take_suc maps i (omega arith))

@@ -12,19 +12,22 @@ use crate::first::first_cost;
 use crate::lines::{put_line, put_loads, put_objective, put_sizes};
 use crate::loads::sum_loads;
 use crate::rounds::{put_refined, put_swept};
-use hg_base::{FlatHyper, cost_of, limit_of};
+use exact_cost::cost_with;
+use hg_base::{FlatHyper, limit_of};
 use hg_io::{Failed, Pen, Sink};
 use incidence::Hypergraph;
 use round_log::{Chosen, Job, LoggedRound, Trace, TraceList};
+use std::thread::Threads;
 
 /// Writes the report of a run: what it was asked, the cost of greedy placement, which is `greedy`, the
 /// levels, every round of the descent and of the cycles, and the exact cost and the loads of `blocks`,
 /// which has one block below `job.k` for each vertex.
 ///
 /// The clusterings of each trace lead from `h` to the level of its first partition, whose cost is
-/// printed: it is that on `h` of the partition carried down, and so no level is built. It takes no
-/// memory over a sink that takes none.
-pub fn put_report<K: Sink>(
+/// printed: it is that on `h` of the partition carried down, and so no level is built. The costs are
+/// summed by at most `job.workers` threads. It takes no memory over a sink that takes none.
+pub fn put_report<H: Threads + Sync, K: Sink>(
+    rt: &H,
     sink: &mut K,
     h: &Hypergraph,
     job: &Job,
@@ -46,9 +49,10 @@ pub fn put_report<K: Sink>(
     let all_loads = sum_loads(flat, blocks);
     let mut pen = Pen::new();
     put_asked(&mut pen, sink, flat, job, greedy)?;
-    put_descent(&mut pen, sink, flat, trace)?;
-    put_cycles(&mut pen, sink, flat, cycles.slice())?;
-    put_line(&mut pen, sink, b"cost ", cost_of(flat, blocks, job.k))?;
+    put_descent(rt, &mut pen, sink, flat, trace, job.workers)?;
+    put_cycles(rt, &mut pen, sink, flat, cycles.slice(), job.workers)?;
+    let cost = cost_with(rt, flat, blocks, job.k, job.workers);
+    put_line(&mut pen, sink, b"cost ", cost)?;
     put_loads(&mut pen, sink, &all_loads[..job.k as usize])?;
     pen.end(sink)
 }
@@ -76,11 +80,13 @@ fn put_asked<K: Sink>(
 }
 
 /// The levels, the first partition and the rounds of a descent.
-fn put_descent<K: Sink>(
+fn put_descent<H: Threads + Sync, K: Sink>(
+    rt: &H,
     pen: &mut Pen,
     sink: &mut K,
     h: &FlatHyper,
     trace: &Trace,
+    workers: u32,
 ) -> Result<(), Failed>
     requires { IsPrintable h.now 256 trace.now }
     ensures bytes { Writes (K.got sink.old) (K.got sink.new) pen.old pen.new result (descent_text h.now trace.now) }
@@ -88,7 +94,7 @@ fn put_descent<K: Sink>(
 {
     put_line(pen, sink, b"levels ", level_count(trace))?;
     put_line(pen, sink, b"start ", u64::from(trace.start))?;
-    put_line(pen, sink, b"first ", first_cost(h, trace))?;
+    put_line(pen, sink, b"first ", first_cost(rt, h, trace, workers))?;
     put_refined(pen, sink, trace.rounds.slice())?;
     put_chosen(pen, sink, trace.chosen)?;
     put_swept(pen, sink, trace.rounds.slice())
@@ -111,36 +117,40 @@ fn put_chosen<K: Sink>(pen: &mut Pen, sink: &mut K, chosen: Chosen) -> Result<()
     }
 }
 
-fn put_cycles<K: Sink>(
+fn put_cycles<H: Threads + Sync, K: Sink>(
+    rt: &H,
     pen: &mut Pen,
     sink: &mut K,
     h: &FlatHyper,
     cycles: &[Trace],
+    workers: u32,
 ) -> Result<(), Failed>
     requires { All (IsPrintable h.now 256) cycles.now }
     ensures bytes { Writes (K.got sink.old) (K.got sink.new) pen.old pen.new result (cycles_text h.now cycles.now) }
     ensures cause { HasCause (K.faults sink.old) (K.faults sink.new) result }
 {
     'cycles: for (i, cycle) in cycles.iter().enumerate() {
-        put_cycle(pen, sink, h, i as u64 + 1, cycle)?;
+        put_cycle(rt, pen, sink, h, i as u64 + 1, cycle, workers)?;
     }
     Ok(())
 }
 
 /// The costs before and after a cycle, and its rounds.
-fn put_cycle<K: Sink>(
+fn put_cycle<H: Threads + Sync, K: Sink>(
+    rt: &H,
     pen: &mut Pen,
     sink: &mut K,
     h: &FlatHyper,
     number: u64,
     cycle: &Trace,
+    workers: u32,
 ) -> Result<(), Failed>
     requires { IsPrintable h.now 256 cycle.now }
     ensures bytes { Writes (K.got sink.old) (K.got sink.new) pen.old pen.new result
         (cycle_text h.now (number, cycle.now)) }
     ensures cause { HasCause (K.faults sink.old) (K.faults sink.new) result }
 {
-    let before = first_cost(h, cycle);
+    let before = first_cost(rt, h, cycle, workers);
     let fields = [
         Field {
             label: b"cycle ",

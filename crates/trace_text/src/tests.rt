@@ -9,6 +9,7 @@ use part_text::read_part;
 use round_log::{Chosen, Job, Kind, LoggedRound, Move, Moves, RoundList, Stop, Trace, TraceList};
 use std::alloc::Global;
 use std::test::Fail;
+use std::thread::Threads;
 
 const GRAPH: &[u8; 38] = b"4 7 1\n2 1 2\n3 1 7 5 6\n8 5 6 4\n7 2 3 4\n";
 
@@ -191,7 +192,8 @@ fn cycles_of(alloc: Global, first: Blocks, kinds: &[Kind]) -> Result<TraceList, 
 
 /// Reports a run that began and ended with the partition that a text spells, with no part of the share to
 /// spare, and with a cycle where rounds of it are named. Answers whether the sink got it all.
-fn report(
+fn report<H: Threads + Sync>(
+    rt: &H,
     alloc: Global,
     sink: &mut MemSink,
     graph: &[u8],
@@ -221,7 +223,17 @@ fn report(
     let cycles = cycles_of(alloc, blocks.copy()?, cycle)?;
     let main = trace(alloc, blocks.copy()?, kinds, Chosen::Greedy)?;
     let cost = cost_of(h.flat(), placed.slice(), k);
-    Ok(put_report(sink, &h, &job, cost, &main, &cycles, blocks.slice()).is_ok())
+    Ok(put_report(
+        rt,
+        sink,
+        &h,
+        &job,
+        cost,
+        &main,
+        &cycles,
+        blocks.slice(),
+    )
+    .is_ok())
 }
 
 #[test]
@@ -265,7 +277,7 @@ cost 1\nload 0 1\nload 1 1\nload 2 0\nload 3 0\n"
         assert!(rt; k >= 2);
         assert!(rt; k <= 256);
         let mut sink = MemSink::of(rt.alloc(), 1_000, Vec::new(rt.alloc()), 1_000)?;
-        assert!(rt; report(rt.alloc(), &mut sink, graph, part, k, kinds, cycle)?);
+        assert!(rt; report(&rt, rt.alloc(), &mut sink, graph, part, k, kinds, cycle)?);
         assert_eq!(rt; sink.got(), text);
     }
     Ok(())
@@ -284,6 +296,7 @@ fn cut_reports(rt: HostRuntime) -> Result<(), Fail> {
         let kinds = [Kind::Flow];
         assert!(rt;
             !report(
+                &rt,
                 rt.alloc(),
                 &mut sink,
                 b"1 2\n1 2\n",

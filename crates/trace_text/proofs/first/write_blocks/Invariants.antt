@@ -1,6 +1,6 @@
 -- The blocks so far are written.
 use Rattle.std.proofs.Common.{◌≡◌, ℕ, ◌<◌, ◌^◌, length, slice_index}
-use Rattle.trace_text.specs.Carrying.{carried}
+use Rattle.exact_cost.specs.Carrying.{carried}
 use Rattle.trace_text.proofs.first.write_blocks.Given as goal
 
 abbrev pub invariant-loop-v : goal.invariant-loop-v

@@ -18,7 +18,7 @@ step h cycles i t low is =
 pub put_cycle-requires : goal.put_cycle-requires
 put_cycle-requires g c =
     let t = c.index-cycles-i.result in
-    subst (IsPrintable c.args.h.now 256) (sym c.index-cycles-i.is) (c.requires c.cycles.i t (omega arith))
+    (c.type_bounds.sync-H, subst (IsPrintable c.args.h.now 256) (sym c.index-cycles-i.is) (c.requires c.cycles.i t (omega arith)))
 
 pub returns-in_err-put_cycle-clause-bytes : goal.returns-in_err-put_cycle-clause-bytes
 returns-in_err-put_cycle-clause-bytes g c =

@@ -62,7 +62,7 @@ returns-in_err-put_line-clause-bytes g c =
     (cut (loads_text (loads_of h j.k p)) (wrote (wrote (wrote (spelt (ap (λ (f : Hyper). asked_text f j) same) c.in_ok-put_asked.ensures.bytes)
     (spelt (ap (λ (f : Hyper). descent_text f t) same) c.in_ok-put_descent.ensures.bytes))
     (spelt (ap₂ cycles_text same c.slice.ensures) c.in_ok-put_cycles.ensures.bytes))
-    (spelt (ap cost_line (c.cost_of.ensures.value ∙ ap (λ (f : Hyper). cost f p) same)) c.in_err-put_line.ensures.bytes)))
+    (spelt (ap cost_line (c.cost_with-cost.ensures.value ∙ ap (λ (f : Hyper). cost f p) same)) c.in_err-put_line.ensures.bytes)))
 
 pub returns-in_err-put_loads-clause-bytes : goal.returns-in_err-put_loads-clause-bytes
 returns-in_err-put_loads-clause-bytes g c =
@@ -75,7 +75,7 @@ returns-in_err-put_loads-clause-bytes g c =
     (wrote (wrote (wrote (wrote (spelt (ap (λ (f : Hyper). asked_text f j) same) c.in_ok-put_asked.ensures.bytes)
     (spelt (ap (λ (f : Hyper). descent_text f t) same) c.in_ok-put_descent.ensures.bytes))
     (spelt (ap₂ cycles_text same c.slice.ensures) c.in_ok-put_cycles.ensures.bytes))
-    (spelt (ap cost_line (c.cost_of.ensures.value ∙ ap (λ (f : Hyper). cost f p) same)) c.in_ok-put_line.ensures.bytes))
+    (spelt (ap cost_line (c.cost_with-cost.ensures.value ∙ ap (λ (f : Hyper). cost f p) same)) c.in_ok-put_line.ensures.bytes))
     (spelt (ap loads_text (loads_of-take h p c.sum_loads-all_loads.result j.k c.requires.job.few
     (c.sum_loads-all_loads.ensures.loads ∙ ap (λ (f : Hyper). loads_of f 256 p) same))) c.in_err-put_loads.ensures.bytes))
 
@@ -89,6 +89,6 @@ returns-clause-bytes g c =
     ended c.end.result c.new-pen.ensures (wrote (wrote (wrote (wrote (spelt (ap (λ (f : Hyper). asked_text f j) same) c.in_ok-put_asked.ensures.bytes)
     (spelt (ap (λ (f : Hyper). descent_text f t) same) c.in_ok-put_descent.ensures.bytes))
     (spelt (ap₂ cycles_text same c.slice.ensures) c.in_ok-put_cycles.ensures.bytes))
-    (spelt (ap cost_line (c.cost_of.ensures.value ∙ ap (λ (f : Hyper). cost f p) same)) c.in_ok-put_line.ensures.bytes))
+    (spelt (ap cost_line (c.cost_with-cost.ensures.value ∙ ap (λ (f : Hyper). cost f p) same)) c.in_ok-put_line.ensures.bytes))
     (spelt (ap loads_text (loads_of-take h p c.sum_loads-all_loads.result j.k c.requires.job.few
     (c.sum_loads-all_loads.ensures.loads ∙ ap (λ (f : Hyper). loads_of f 256 p) same))) c.in_ok-put_loads.ensures.bytes)) c.end.ensures.bytes
