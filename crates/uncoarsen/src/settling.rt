@@ -5,7 +5,8 @@ ghost use Rattle.hg_defs.specs.Partition.{Fits};
 ghost use Rattle.hg_defs.specs.LeastLoaded as placement;
 ghost use Rattle.uncoarsen.specs.Settled.{SettlesBest};
 
-use hg_base::{Blocks, NoMemory, cost_of};
+use exact_cost::cost_with;
+use hg_base::{Blocks, NoMemory};
 use incidence::Hypergraph;
 use pin_plain::Partition;
 use round_log::{Chosen, Trace};
@@ -36,7 +37,7 @@ pub fn settle_best<R: Threads + Sync>(
 {
     let k = last.k();
     let _blocks = last.blocks();
-    let cheaper = cost_of(h.flat(), greedy.slice(), k) < last.cost(h);
+    let cheaper = cost_with(rt, h.flat(), greedy.slice(), k, workers) < last.cost(h);
     let mut best = if cheaper {
         trace.chosen = Chosen::Greedy;
         Partition::of(alloc, h, k, last.limit(), greedy)?

@@ -10,8 +10,8 @@ use Rattle.uncoarsen.proofs.SettlingLemmas.{choice_greedy, choice_levels, settle
 use Rattle.uncoarsen.proofs.settling.settle_best.Goals as goal
 use Rattle.uncoarsen.proofs.settling.settle_best.Goals.{then-cheaper+in_ok-best, else-cheaper}
 
-pub cost_of-requires-clause-partition : goal.cost_of-requires-clause-partition
-cost_of-requires-clause-partition g c =
+pub cost_with-requires-clause-partition : goal.cost_with-requires-clause-partition
+cost_with-requires-clause-partition g c =
     let parted = c.blocks-blocks.ensures.parted in
     let p = greedy-partition c.args.last.hyper c.args.last.k parted.sound parted.fixed (let some = parted.some in omega arith) in
     let here : IsPartition c.args.h.now c.args.last.k c.args.greedy =
@@ -34,7 +34,7 @@ returns-clause-trace g c =
     let h = c.args.h.now in
     let old = c.args.trace.now in
     let k = c.args.last.k in
-    let first : c.cost_of.result ≡ cost h (greedy h k) = c.cost_of.ensures.value ∙ ap (λ (x : Hyper). cost x c.slice.result.now) c.flat.ensures ∙
+    let first : c.cost_with.result ≡ cost h (greedy h k) = c.cost_with.ensures.value ∙ ap (λ (x : Hyper). cost x c.slice.result.now) c.flat.ensures ∙
     ap (λ (bs : List ℕ). cost h bs) (c.slice.ensures ∙ c.requires.greedy) in
     let second : c.cost.result ≡ cost h old.last = c.cost.ensures.value ∙ ap (λ (bs : List ℕ). cost h bs) (sym c.requires.traced) in
     let q = c.settle_with.new.self.blocks in
