@@ -15,7 +15,8 @@ use crate::multilevel::run_levels;
 use crate::reached::Reached;
 use crate::words::Mode;
 use crate::{Outcome, Status};
-use hg_base::{Blocks, FlatHyper, GreedyEnd, NoMemory, cost_of, greedy, limit_of};
+use exact_cost::cost_with;
+use hg_base::{Blocks, FlatHyper, GreedyEnd, NoMemory, greedy, limit_of};
 use incidence::Hypergraph;
 use refiner::Refiner;
 use round_log::Job;
@@ -111,7 +112,7 @@ pub(crate) fn run_in<H: Threads + Sync>(
     let _vertices = flat.vertices();
     let limit = limit_of(flat.total_weight(), job.k, job.eps);
     let placed = place(alloc, job, &flat, limit)?;
-    let greedy = cost_of(&flat, placed.slice(), job.k);
+    let greedy = cost_with(rt, &flat, placed.slice(), job.k, job.workers);
     let h = Hypergraph::build_with(rt, alloc, flat, job.workers as usize)?;
     let reached = reach(rt, alloc, mode, job, limit, h, placed, refiners)?;
     let cost = reached.best.cost(&reached.h);

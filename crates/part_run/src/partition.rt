@@ -84,7 +84,8 @@ fn accept<S: Source, X: Source>(
 }
 
 /// Writes the partition, and then its report.
-fn deliver<K: Sink, R: Sink>(
+fn deliver<H: Threads + Sync, K: Sink, R: Sink>(
+    rt: &H,
     job: &Job,
     made: &Made,
     out: &mut K,
@@ -106,14 +107,19 @@ fn deliver<K: Sink, R: Sink>(
     if write_blocks(out, &made.outcome.blocks).is_err() {
         return Err(Status::WriteFault);
     }
-    if write_report(report, job, made).is_err() {
+    if write_report(rt, report, job, made).is_err() {
         return Err(Status::WriteFault);
     }
     Ok(())
 }
 
 /// Writes the report of a run, and sends it on.
-fn write_report<R: Sink>(report: &mut R, job: &Job, made: &Made) -> Result<(), Failed>
+fn write_report<H: Threads + Sync, R: Sink>(
+    rt: &H,
+    report: &mut R,
+    job: &Job,
+    made: &Made,
+) -> Result<(), Failed>
     requires reportable { IsReportable job.now made.now }
     ensures answer { let old = port_of (R.got report.old) (R.faults report.old) (R.held report.old) in
         let new = port_of (R.got report.new) (R.faults report.new) (R.held report.new) in
@@ -123,6 +129,7 @@ fn write_report<R: Sink>(report: &mut R, job: &Job, made: &Made) -> Result<(), F
 {
     let outcome = &made.outcome;
     put_report(
+        rt,
         report,
         &made.h,
         job,
@@ -204,6 +211,6 @@ pub(crate) fn partition<H: Threads + Sync, S: Source, X: Source, K: Sink, R: Sin
     let _vertices = flat.vertices();
     let job = job_of(p);
     let made = run_in(rt, alloc, p.mode, &job, flat, refiners)?;
-    deliver(&job, &made, out, report)?;
+    deliver(rt, &job, &made, out, report)?;
     Ok(made.outcome)
 }

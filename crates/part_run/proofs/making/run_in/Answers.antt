@@ -67,7 +67,7 @@ returns-clause-answer g c =
         blocks = omega arith;
         placed = placed.placed;
       };
-      greedy = c.cost_of-greedy.ensures.value ∙ ap (cost h) (c.slice.ensures ∙ placed.greedy);
+      greedy = c.cost_with-greedy.ensures.value ∙ ap (cost h) (c.slice.ensures ∙ placed.greedy);
       outcome =
           outcome_over refl c.in_ok-h.ensures
           (outcome_of c.args.mode _ j c.in_ok-h.h c.in_ok-reached.reached c.into_blocks.result c.cost-cost.result r c.into_blocks.ensures
