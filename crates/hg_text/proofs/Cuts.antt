@@ -3,10 +3,12 @@ use Rattle.std.proofs.Common.{◌||◌, ◌≡◌, ℕ, zero, suc, ◌+◌, ◌<
 use Rattle.std.proofs.Common.{drop, get_or, filter, refl, sym, ◌∙◌, ap, arith, add-one, eqb, inl, inr}
 use Rattle.std.proofs.lemmas.Bool.{cases_lt, ne_eqb}
 use Rattle.std.proofs.Math.Seq.{drop-cons}
-use Rattle.std.proofs.lemmas.List.{take_all, drop_all}
+use Rattle.std.proofs.Common.{◌-◌}
+use Rattle.std.proofs.lemmas.List.{take_all, drop_all, take_rest, drop-take, get_or-drop, length-drop}
 use Rattle.std.specs.List.{slice_split, onto_first}
 use Rattle.hg_text.specs.Kept.{is_line_feed, is_blank, is_filled, lines, fields}
-use Rattle.hg_text.specs.Cut.{FailsBelow, EndsField, ends_field}
+use Rattle.std.specs.Char.{is_ascii_digit}
+use Rattle.hg_text.specs.Cut.{FailsBelow, EndsField, ends_field, IsTrimmed, StopsAt}
 
 -- F ends a part at each element that passes, as `lines` and `slice_split` do
 abbrev pub IsCutting : (ℕ → Bool) → (List ℕ → List (List ℕ)) → Type 0
@@ -76,3 +78,28 @@ fields_cut (x ∷ line) (suc j) low high miss ends =
 
 pub fields_front : (line : List ℕ) (i : ℕ) → EndsField line i → fields line ≡ take i line ∷ fields (drop i line)
 fields_front line i end = fields_cut line i end.low end.high end.inside (ends_blank line i end.ends)
+
+-- a blank between fields is passed
+pub fields_next : (line : List ℕ) (i : ℕ) → i < length line → is_blank (get_or line i 0) ≡ true → fields (drop (i + 1) line) ≡ fields (drop i line)
+fields_next line i h hit = rw add-one (sym (ap fields (drop-cons line i 0 h) ∙ fields_blank (get_or line i 0) (drop (suc i) line) hit))
+
+pub trimmed_at : (line : List ℕ) (i : ℕ) → (i < length line → is_blank (get_or line i 0) ≡ false) → IsTrimmed (drop i line)
+trimmed_at [] zero h = tt
+trimmed_at [] (suc i) h = tt
+trimmed_at (x ∷ line) zero h = h (omega arith)
+trimmed_at (x ∷ line) (suc i) h = trimmed_at line i (λ l. h (omega arith))
+
+-- what is left of a line, after some of it was passed
+pub rest_of : (text : List ℕ) (len passed : ℕ) → passed ≤ len → take (len - passed) (drop passed text) ≡ drop passed (take len text)
+rest_of text len passed h =
+    let e : len ≡ passed + (len - passed) = omega arith in
+    sym (ap (λ (k : ℕ). drop passed (take k text)) e ∙ drop-take passed (len - passed) text)
+
+pub rest_of_line : (text : List ℕ) (len passed : ℕ) → passed ≤ len → take (len - passed) (take (length text - passed) (drop passed text)) ≡ drop passed
+    (take len text)
+rest_of_line text len passed h = ap (take (len - passed)) (take_rest text passed) ∙ rest_of text len passed h
+
+pub stops_on : (text : List ℕ) (len passed : ℕ) → passed ≤ len → StopsAt text len → StopsAt (drop passed text) (len - passed)
+stops_on text len passed h stops inside =
+    let e : passed + (len - passed) ≡ len = omega arith in
+    ap is_ascii_digit (get_or-drop passed text (len - passed) 0 ∙ ap (λ (k : ℕ). get_or text k 0) e) ∙ stops (omega (arith, length-drop passed text))

@@ -1,19 +1,19 @@
 -- The number that a line begins with.
 use Rattle.std.proofs.Common.{◌≡◌, ℕ, ◌<◌, ◌≤◌, ◌^◌, ◌⊎◌, true, false, List, length, take, drop, get_or, Option, Some}
-use Rattle.std.proofs.Common.{None, Err, nat_lt, if◌then◌else◌, sym, ◌∙◌, ap, arith, inl, inr}
+use Rattle.std.proofs.Common.{None, Err, Ok, ◌+◌, min, refl, nat_lt, if◌then◌else◌, sym, ◌∙◌, ap, arith, inl, inr}
 use Rattle.std.specs.List.{prefix_len}
 use Rattle.std.specs.Char.{is_ascii_digit}
 use Rattle.std.specs.Option.{ok_or}
 use Rattle.std.specs.Str.Parse.{digits_value}
 use Rattle.std.proofs.lemmas.Bool.Decides.{nat_tests}
 use Rattle.std.proofs.lemmas.Bool.{cases_lt, both_ways}
-use Rattle.std.proofs.lemmas.List.{get_or-take, length-take-le}
+use Rattle.std.proofs.lemmas.List.{get_or-take, length-take-le, take-take}
 use Rattle.std.proofs.lemmas.List.Sums.{prefix_len-le-length, prefix_len_passes, prefix_len_stops, prefix_len_is}
 use Rattle.hg_text.specs.Kept.{is_blank, fields, SpellsFirst}
-use Rattle.hg_text.specs.Cut.{EndsField, ends_field}
+use Rattle.hg_text.specs.Cut.{EndsField, ends_field, StopsAt}
 use Rattle.hg_text.specs.declared.numeral.BadNumber.TheVariants.{NotDigits, TooBig}
-use Rattle.hg_text.proofs.Cuts.{fields_front, ends_blank}
-use Rattle.hg_text.proofs.Digits.{number_not_digits, number_digits, fitting_option}
+use Rattle.hg_text.proofs.Cuts.{fields_front, ends_blank, fields_next}
+use Rattle.hg_text.proofs.Digits.{number_not_digits, number_digits, fitting_option, prefix_len-take}
 
 digit_not_blank : (c : ℕ) → is_ascii_digit c ≡ true → is_blank c ≡ false
 digit_not_blank c hit = grind (arith, nat_tests)
@@ -76,3 +76,58 @@ spells_none line count end e ends early =
 
     stops : count < length line → is_ascii_digit (get_or line count 0) ≡ false
     stops h = ap (λ (n : ℕ). is_ascii_digit (get_or line n 0)) e ∙ prefix_len_stops is_ascii_digit line 0 (omega arith)
+
+-- few digits that a text begins with stand in its line
+pub few_in_line : (text : List ℕ) (len count : ℕ) → len ≤ length text → StopsAt text len → count ≡ min 8 (prefix_len is_ascii_digit text) → count < 8 →
+    (count ≤ len) × (count ≡ prefix_len is_ascii_digit (take len text))
+few_in_line text len count inside stops e few =
+    let within : count ≤ len = elim (cases_lt len count) [
+      | inl past ↦ absurd (both_ways (is_ascii_digit (get_or text len 0)) (stops (omega (arith, prefix_len-le-length is_ascii_digit text)))
+          (prefix_len_passes is_ascii_digit text len 0 (omega arith)))
+      | inr less ↦ less
+    ] in
+    (within, omega (arith, prefix_len-take is_ascii_digit len text))
+
+-- they spell its first field, where they end with it
+pub spells_few : (text : List ℕ) (len count value : ℕ) → len ≤ length text → StopsAt text len → count ≡ min 8 (prefix_len is_ascii_digit text) →
+    0 < count → count < 8 → value ≡ digits_value 10 (take count text) → value < 2 ^ 64 → ends_field (take len text) count ≡ true →
+    SpellsFirst (fields (take len text)) (fields (drop count (take len text))) (Ok value)
+spells_few text len count value inside stops e some few v small ends =
+    let line : List ℕ = take len text in
+    let f = few_in_line text len count inside stops e few in
+    let same : digits_value 10 (take count line) ≡ value = ap (digits_value 10) (take-take count len text f.0) ∙ sym v in
+    let fits : nat_lt value (2 ^ 64) ≡ true = grind (arith, nat_tests) in
+    let whole : Some value ≡ (if nat_lt (digits_value 10 (take count line)) (2 ^ 64) then Some (digits_value 10 (take count line)) else None) =
+    rw (same, fits) refl in
+    spells_digits line count (Some value) f.1 (digits_end line count f.1 some ends) whole
+
+-- and so where a blank follows them, which is passed too
+pub spells_blank : (text : List ℕ) (len count value : ℕ) → len ≤ length text → StopsAt text len → count ≡ min 8 (prefix_len is_ascii_digit text) →
+    0 < count → count < 8 → value ≡ digits_value 10 (take count text) → value < 2 ^ 64 → count < len → is_blank (get_or text count 0) ≡ true →
+    SpellsFirst (fields (take len text)) (fields (drop (count + 1) (take len text))) (Ok value)
+spells_blank text len count value inside stops e some few v small within blank =
+    let line : List ℕ = take len text in
+    let size : length line ≡ len = length-take-le len text inside in
+    let here : is_blank (get_or line count 0) ≡ true = ap is_blank (get_or-take len text count 0 within) ∙ blank in
+    let ends : ends_field line count ≡ true = ends_at line count here in
+    rw (fields_next line count (omega arith) here) (spells_few text len count value inside stops e some few v small ends)
+  where
+    ends_at : (line : List ℕ) (count : ℕ) → is_blank (get_or line count 0) ≡ true → ends_field line count ≡ true
+    ends_at line count here = grind (arith, nat_tests)
+
+-- and where they end the line
+pub spells_last : (text : List ℕ) (len count value : ℕ) → len ≤ length text → StopsAt text len → count ≡ min 8 (prefix_len is_ascii_digit text) →
+    0 < count → count < 8 → value ≡ digits_value 10 (take count text) → value < 2 ^ 64 → count ≡ len →
+    SpellsFirst (fields (take len text)) (fields (drop count (take len text))) (Ok value)
+spells_last text len count value inside stops e some few v small last =
+    let size : length (take len text) ≡ len = length-take-le len text inside in
+    spells_few text len count value inside stops e some few v small (ends_at (take len text) count (omega arith))
+  where
+    ends_at : (line : List ℕ) (count : ℕ) → count ≡ length line → ends_field line count ≡ true
+    ends_at line count here = grind (arith, nat_tests)
+
+pub feed_no_digit : (c : ℕ) → c ≡ 10 → is_ascii_digit c ≡ false
+feed_no_digit c e = ap is_ascii_digit e
+
+pub return_no_digit : (c : ℕ) → c ≡ 13 → is_ascii_digit c ≡ false
+return_no_digit c e = ap is_ascii_digit e

@@ -7,6 +7,7 @@
 
 mod cut;
 mod decimal;
+mod eight;
 mod lines;
 mod numeral;
 #[cfg(test)]

@@ -1,8 +1,7 @@
 ghost use Rattle.std.specs.Prelude.{◌≡◌, ℕ, ◌^◌, ◌<◌, ◌≤◌, length, [], ◌∷◌, MatchOption, IfSome};
-ghost use Rattle.hg_text.specs.Kept.{reading, lines, fields, SpellsFirst};
-ghost use Rattle.hg_text.specs.Cut.{IsTrimmed};
+ghost use Rattle.hg_text.specs.Kept.{reading, lines, fields, is_kept, SpellsFirst};
 
-use crate::cut::{skip_blanks, split_field, split_line, split_number, trim_return};
+use crate::cut::{blanks, skip_blanks, split_field, split_line, take_number, trim_return};
 use crate::numeral::BadNumber;
 use std::marker::Model;
 
@@ -50,14 +49,16 @@ impl<'a> Lines<'a> {
         ensures count { self.new.count ≡ self.old.count }
     {
         while !self.rest.is_empty() {
-            let (line, rest) = split_line(self.rest);
+            let text = self.rest;
+            let (line, rest) = split_line(text);
             self.rest = rest;
             self.passed += 1;
-            let rest = skip_blanks(trim_return(line));
-            if !rest.is_empty() && rest[0] != b'%' {
+            let line = trim_return(line);
+            if is_kept_line(line) {
                 return Some(Kept {
                     number: self.passed,
-                    rest,
+                    text,
+                    len: line.len(),
                 });
             }
         }
@@ -71,6 +72,15 @@ impl<'a> Lines<'a> {
     {
         self.passed + lines_of(self.rest)
     }
+}
+
+// Whether the line is kept.
+#[inline]
+fn is_kept_line(line: &[u8]) -> bool
+    ensures { result ≡ is_kept (record { number = 0; fields = fields line.now }) }
+{
+    let rest = skip_blanks(line);
+    !rest.is_empty() && rest[0] != b'%'
 }
 
 // The number of lines.
@@ -92,19 +102,22 @@ fn lines_of(text: &[u8]) -> u32
 #[derive(Drop)]
 pub struct Kept<'a> {
     number: u32,
-    rest: &'a [u8],
+    // What is left of the line has this length, and is followed by what follows the line.
+    text: &'a [u8],
+    len: usize,
 }
 
 impl<'a> Model for Kept<'a> {
-    ghost use Rattle.std.specs.Prelude.{◌^◌, ◌≤◌, length};
+    ghost use Rattle.std.specs.Prelude.{◌^◌, ◌≤◌, length, take};
     ghost use Rattle.hg_text.specs.Kept.{Line, fields};
-    ghost use Rattle.hg_text.specs.Cut.{IsTrimmed};
+    ghost use Rattle.hg_text.specs.Cut.{StopsAt};
 
     ghost Value = { Line };
 
-    ghost view = { λ k. record { number = k.number; fields = fields k.rest.now } };
+    ghost view = { λ k. record { number = k.number; fields = fields (take k.len k.text.now) } };
 
-    ghost invariant = { λ k. IsTrimmed k.rest.now × (length k.rest.now ≤ 2 ^ 29) };
+    ghost invariant = { λ k. (k.len ≤ length k.text.now) × (length k.text.now ≤ 2 ^ 29)
+        × StopsAt k.text.now k.len };
 }
 
 impl<'a> Kept<'a> {
@@ -120,7 +133,7 @@ impl<'a> Kept<'a> {
     pub fn fields(&self) -> u32
         ensures { result ≡ length self.now.fields }
     {
-        fields_of(self.rest)
+        fields_of(&self.text[..self.len])
     }
 
     /// The next field, or None where none is left. A field isn't empty.
@@ -129,38 +142,40 @@ impl<'a> Kept<'a> {
             (λ field. self.old.fields ≡ field.now ∷ self.new.fields) }
         ensures line { self.new.number ≡ self.old.number }
     {
-        if self.rest.is_empty() {
+        let (text, len) = (self.text, self.len);
+        let start = blanks(&text[..len]);
+        if start == len {
             return None;
         }
-        let (field, rest) = split_field(self.rest);
-        self.rest = skip_blanks(rest);
+        let (field, _) = split_field(&text[start..len]);
+        let passed = start + field.len();
+        self.text = &text[passed..];
+        self.len = len - passed;
         Some(field)
     }
 
     /// What the next field spells, or None where none is left. It takes the field as `next_field`
     /// does, and answers what `number` says of it, but reads its bytes once.
-    #[inline]
+    #[inline(always)]
     pub fn next_number(&mut self) -> Option<Result<u64, BadNumber>>
         ensures spelt { MatchOption result ((self.old.fields ≡ []) × (self.new.fields ≡ []))
             (λ value. SpellsFirst self.old.fields self.new.fields value) }
         ensures line { self.new.number ≡ self.old.number }
     {
-        if self.rest.is_empty() {
-            return None;
-        }
-        let (value, rest) = split_number(self.rest);
-        self.rest = skip_blanks(rest);
-        Some(value)
+        let (text, len) = (self.text, self.len);
+        let (number, passed) = take_number(text, len);
+        self.text = &text[passed..];
+        self.len = len - passed;
+        number
     }
 }
 
 // The number of fields.
 fn fields_of(line: &[u8]) -> u32
-    requires trimmed { IsTrimmed line.now }
-    requires short { length line.now ≤ 2 ^ 29 }
+    requires { length line.now ≤ 2 ^ 29 }
     ensures { result ≡ length (fields line.now) }
 {
-    let mut rest = line;
+    let mut rest = skip_blanks(line);
     let mut count = 0;
     while !rest.is_empty() {
         rest = skip_blanks(split_field(rest).1);

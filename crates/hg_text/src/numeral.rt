@@ -1,9 +1,11 @@
-ghost use Rattle.std.specs.Prelude.{◌≡◌, ◌≤◌, length, take};
+ghost use Rattle.std.specs.Prelude.{◌≡◌, ◌≤◌, length, min, take};
 ghost use Rattle.std.specs.List.{prefix_len};
 ghost use Rattle.std.specs.Char.{is_ascii_digit};
 ghost use Rattle.std.specs.Str.Parse.{digits_value};
 ghost use Rattle.hg_text.specs.Kept.{number_of};
 ghost use Rattle.hg_text.specs.Cut.{IsFitting};
+
+use crate::eight::eight_digits;
 
 /// Why a field spells no number.
 #[derive(Clone, Copy, Debug, PartialEq, Eq)]
@@ -14,13 +16,12 @@ pub enum BadNumber {
     TooBig,
 }
 
-/// So many digits spell a number below 2^64.
-const SAFE_DIGITS: usize = 19;
+/// So many bytes are read at once.
+pub(crate) const FEW: usize = 8;
 
 // How many digits a short text begins with, and the number that they spell.
-#[inline]
 fn short_digits(text: &[u8]) -> (usize, u64)
-    requires { length text.now ≤ SAFE_DIGITS }
+    requires { length text.now ≤ FEW }
     ensures count { result.0 ≡ prefix_len is_ascii_digit text.now }
     ensures value { result.1 ≡ digits_value 10 (take result.0 text.now) }
 {
@@ -33,29 +34,40 @@ fn short_digits(text: &[u8]) -> (usize, u64)
     (count, value)
 }
 
+// How many digits the text begins with, but for those behind the first few bytes, and the number
+// that they spell.
+#[inline(always)]
+pub(crate) fn few_digits(text: &[u8]) -> (usize, u64)
+    ensures count { result.0 ≡ min FEW (prefix_len is_ascii_digit text.now) }
+    ensures value { result.1 ≡ digits_value 10 (take result.0 text.now) }
+{
+    match text.split_first_chunk::<FEW>() {
+        Some((head, _)) => eight_digits(head),
+        None => short_digits(text),
+    }
+}
+
 // How many digits the text begins with, and the number that they spell, where it is below 2^64.
-#[inline]
 pub(crate) fn leading_digits(text: &[u8]) -> (usize, Option<u64>)
     ensures count { result.0 ≡ prefix_len is_ascii_digit text.now }
     ensures value { IsFitting (digits_value 10 (take result.0 text.now)) result.1 }
 {
-    let (count, value) = short_digits(&text[..text.len().min(SAFE_DIGITS)]);
-    if count < SAFE_DIGITS {
+    let (count, value) = few_digits(text);
+    if count < FEW {
         return (count, Some(value));
     }
     more_digits(text, value)
 }
 
 // The same of a text whose first digits spell this value.
-#[cold]
 fn more_digits(text: &[u8], first: u64) -> (usize, Option<u64>)
-    requires digits { SAFE_DIGITS ≤ prefix_len is_ascii_digit text.now }
-    requires value { first ≡ digits_value 10 (take SAFE_DIGITS text.now) }
+    requires digits { FEW ≤ prefix_len is_ascii_digit text.now }
+    requires value { first ≡ digits_value 10 (take FEW text.now) }
     ensures count { result.0 ≡ prefix_len is_ascii_digit text.now }
     ensures value { IsFitting (digits_value 10 (take result.0 text.now)) result.1 }
 {
     let mut value = first;
-    let mut count = SAFE_DIGITS;
+    let mut count = FEW;
     while count < text.len() && text[count].is_ascii_digit() {
         let digit = u64::from(text[count] - b'0');
         if value > (u64::MAX - digit) / 10 {

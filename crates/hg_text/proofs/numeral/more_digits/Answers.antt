@@ -34,6 +34,6 @@ pub loop-count-init : goal.loop-count-init
 loop-count-init c = (
   omega (arith, prefix_len-le-length is_ascii_digit c.args.text.now),
   c.requires.value,
-  prefix_len_split is_ascii_digit 19 c.args.text.now
+  prefix_len_split is_ascii_digit 8 c.args.text.now
       c.requires.digits,
 )
