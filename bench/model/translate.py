@@ -479,7 +479,8 @@ def main():
                     print("in %s/%s: %s" % (folder, file, e), file=sys.stderr)
                     raise
                 write(target, text)
-        need = "".join('%s = { path = "../%s" }\n' % (d, d) for d in ds + ["rstd"])
+        # `core` is there for its lemmas alone
+        need = "".join('%s = { path = "../%s" }\n' % (d, d) for d in ds + ["rstd"] if d != "core")
         kind = '[[bin]]\nname = "%s"\npath = "src/main.rs"\n' % name if is_main else '[lib]\npath = "src/lib.rs"\n'
         cargo = '[package]\nname = "%s"\nversion = "0.0.0"\nedition = "2024"\n\n%s\n[dependencies]\n%s' % (name, kind, need)
         write(os.path.join(here, "Cargo.toml"), cargo)
