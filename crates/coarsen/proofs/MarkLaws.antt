@@ -1,13 +1,14 @@
 -- Laws of the marks of single vertices.
 use Rattle.std.proofs.Common.{◌≡◌, ◌≢◌, ◌⊎◌, inl, inr, ⊎_elim, ◌↔◌, ℕ, ◌+◌, ◌<◌, ◌≤◌, Bool, true, false, true≢false, nat_eq, List, length, get_or, set}
 use Rattle.std.proofs.Common.{slice_index, refl, sym, ap, ◌∙◌, subst, arith, length-set, get_or-set_same, get_or-set_other}
-use Rattle.std.proofs.lemmas.Bool.{cases_eq, eqb-true, eq-eqb}
+use Rattle.std.proofs.lemmas.Bool.{cases_eq, cases_lt, eqb-true, eq-eqb}
+use Rattle.std.proofs.lemmas.List.{get_or_past}
 use Rattle.hg_defs.specs.declared.objective.TheConstants.{FREE}
 use Rattle.hg_defs.specs.Hypergraph.{Hyper, vertex_count, fix_of, is_free, IsFree}
 use Rattle.hg_defs.specs.Clustering.{IsSingleton, is_single}
 use Rattle.hg_defs.proofs.JoinLaws.{single_is, is_single_from}
 use Rattle.coarsen.specs.Numbers.{AreRoots}
-use Rattle.coarsen.specs.Marks.{AreMarked}
+use Rattle.coarsen.specs.Marks.{AreMarked, AreFewer}
 
 -- none of the first vertices follows u, or is u and follows another
 abbrev pub IsUntouched : List ℕ → ℕ → ℕ → Type 0
@@ -76,7 +77,7 @@ module _ (h : Hyper) (roots : List ℕ) (i : ℕ) (single : List Bool) (m : AreM
       was : (u : ℕ) → get_or (set (set single i false) (slice_index roots i) false) u false ≡ true → get_or single u false ≡ true
       was u e = sym (kept u (not_root u e) (not_i u e)) ∙ e
 
-same_tests : (a b : Bool) → (a ≡ true → b ≡ true) → (b ≡ true → a ≡ true) → a ≡ b
+pub same_tests : (a b : Bool) → (a ≡ true → b ≡ true) → (b ≡ true → a ≡ true) → a ≡ b
 same_tests true b f g = sym (f refl)
 same_tests false true f g = g refl
 same_tests false false f g = refl
@@ -123,3 +124,15 @@ marked_all h roots single are long m = record {
         not_root w k other e =
             let same : w ≡ u = s.alone w k (sym (are.own w k) ∙ ap (slice_index roots) (sym e)) in
             other (sym e ∙ sym same)
+
+-- a mark that was taken away
+pub fewer_marks : (marks : List Bool) (i : ℕ) → AreFewer marks (set marks i false)
+fewer_marks marks i v e = by (cases_eq v i)
+  where
+    cleared : (i < length marks) ⊎ (length marks ≤ i) → get_or (set marks i false) i false ≡ false
+    cleared (inl l) = get_or-set_same marks i false false l
+    cleared (inr l) = get_or_past (set marks i false) i false (let n = length-set marks i false in omega arith)
+
+    by : (v ≡ i) ⊎ (v ≢ i) → get_or marks v false ≡ true
+    by (inl s) = absurd (true≢false (sym e ∙ ap (λ (x : ℕ). get_or (set marks i false) x false) s ∙ cleared (cases_lt i (length marks))))
+    by (inr n) = sym (get_or-set_other marks i v false false n) ∙ e

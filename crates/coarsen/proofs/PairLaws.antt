@@ -24,7 +24,8 @@ use Rattle.hg_defs.proofs.SortLaws.{sort_is, lower_first_total, lower_first_exac
 use Rattle.hg_defs.proofs.KeyLaws.{by_key-distinct}
 use Rattle.hg_defs.proofs.JoinLaws.{single_is, is_single_from, joined-rooted, joined-fewer, joined-stays}
 use Rattle.coarsen.specs.Numbers.{AreRoots}
-use Rattle.coarsen.specs.Marks.{AreMarked, weighed}
+use Rattle.coarsen.specs.Marks.{AreMarked, AreFewer, weighed}
+use Rattle.coarsen.proofs.MarkLaws.{same_tests, fewer_marks}
 
 abbrev Rank : Type 0
 Rank = ℕ × ℕ
@@ -39,11 +40,6 @@ pub are_roots : (h : Hyper) (cap : ℕ) (roots : List ℕ) → IsRooted h cap ro
 are_roots h cap roots r = record { vertices = r.vertices; below = r.below; own = r.own }
 
 -- ---- one pair
-
-same_tests : (a b : Bool) → (a ≡ true → b ≡ true) → (b ≡ true → a ≡ true) → a ≡ b
-same_tests true b f g = sym (f refl)
-same_tests false true f g = g refl
-same_tests false false f g = refl
 
 -- two single vertices that are joined aren't single any longer
 module _ (h : Hyper) (cap : ℕ) (roots : List ℕ) (single : List Bool) (r : IsRooted h cap roots) (m : AreMarked h roots single) (u v : ℕ)
@@ -150,16 +146,22 @@ pub record IsReady (h : Hyper) (cap : ℕ) (ranks : List Rank) (i : ℕ) (roots 
   pub singles : All (λ rank. IsSingleton h roots rank.1) (drop i ranks)
 
 -- the ranks before i were joined
-pub record IsJoining (h : Hyper) (cap : ℕ) (ranks : List Rank) (start : List ℕ) (i : ℕ) (roots : List ℕ) (single : List Bool) : Type 0 where
+pub record IsJoining (h : Hyper) (cap : ℕ) (ranks : List Rank) (start : List ℕ) (marks : List Bool) (i : ℕ) (roots : List ℕ)
+    (single : List Bool) : Type 0 where
   pub ready : IsReady h cap ranks i roots single
+  pub fewer : AreFewer marks single
   pub rest : pair_up h cap 1 no_block roots (vertices_of (drop i ranks)) ≡ pair_up h cap 1 no_block start (vertices_of ranks)
 
 pub joining_none : (h : Hyper) (cap : ℕ) (ranks : List Rank) (roots : List ℕ) (single : List Bool) → IsRooted h cap roots → AreMarked h roots single →
-    All (λ rank. IsSingleton h roots rank.1) ranks → IsJoining h cap ranks roots 0 roots single
-joining_none h cap ranks roots single r m s = record { ready = record { within = omega arith; rooted = r; marked = m; singles = s }; rest = refl }
+    All (λ rank. IsSingleton h roots rank.1) ranks → IsJoining h cap ranks roots single 0 roots single
+joining_none h cap ranks roots single r m s = record {
+  ready = record { within = omega arith; rooted = r; marked = m; singles = s };
+  fewer = λ v e. e;
+  rest = refl;
+}
 
-module _ (h : Hyper) (cap : ℕ) (ranks : List Rank) (start : List ℕ) (i : ℕ) (roots : List ℕ) (single : List Bool)
-    (j : IsJoining h cap ranks start i roots single) where
+module _ (h : Hyper) (cap : ℕ) (ranks : List Rank) (start : List ℕ) (marks : List Bool) (i : ℕ) (roots : List ℕ) (single : List Bool)
+    (j : IsJoining h cap ranks start marks i roots single) where
   -- at the end at most one rank is left
   pub joining_end : length ranks ≤ i + 1 → roots ≡ pair_up h cap 1 no_block start (vertices_of ranks)
   joining_end short = by (cases_lt i (length ranks))
@@ -214,7 +216,7 @@ module _ (h : Hyper) (cap : ℕ) (ranks : List Rank) (start : List ℕ) (i : ℕ
       differ e = apart i (i + 1) (0, 0) (omega arith) low (sym first ∙ e ∙ second)
 
       -- the two are joined
-      pub joining_more : weight_of h u + weight_of h v ≤ cap → IsJoining h cap ranks start (i + 2) (set roots (max u v) (min u v))
+      pub joining_more : weight_of h u + weight_of h v ≤ cap → IsJoining h cap ranks start marks (i + 2) (set roots (max u v) (min u v))
           (set (set single u false) v false)
       joining_more light = record {
         ready = record {
@@ -223,6 +225,7 @@ module _ (h : Hyper) (cap : ℕ) (ranks : List Rank) (start : List ℕ) (i : ℕ
           marked = joined_marked h cap roots single j.ready.rooted j.ready.marked u v first_single second_single differ;
           singles = later;
         };
+        fewer = λ x e. j.fewer x (fewer_marks single u x (fewer_marks (set single u false) v x e));
         rest = tested true (le-leb (weight_of h u + weight_of h v) cap light);
       }
         where

@@ -16,7 +16,7 @@ use Rattle.std.proofs.lemmas.List.Sorted.{All-permutation, length_permutation}
 use Rattle.std.proofs.lemmas.Map.Keys.{sorted_from_strictly_increasing}
 use Rattle.std.proofs.lemmas.Map.Made.{AllPairs-from_IsDistinct}
 use Rattle.hg_defs.specs.Sorting.{sorted, lower_first}
-use Rattle.hg_defs.specs.Hypergraph.{Net, Hyper, vertex_count, net_count, net_of, weight_of}
+use Rattle.hg_defs.specs.Hypergraph.{Net, Hyper, IsHypergraph, vertex_count, net_count, net_of, weight_of}
 use Rattle.hg_defs.specs.Partition.{block_of}
 use Rattle.hg_defs.specs.Clustering.{IsSingleton, is_single, is_small}
 use Rattle.hg_defs.specs.Numbering.{IsRooted}
@@ -24,15 +24,26 @@ use Rattle.hg_defs.specs.Pairing.{lightest_first, pair_up, pair_blocks, pair_net
 use Rattle.hg_defs.proofs.SortLaws.{sort_is, sorted_permutation, strict_pairs, lower_first_total, lower_first_exact}
 use Rattle.hg_defs.proofs.KeyLaws.{by_key-distinct}
 use Rattle.hg_defs.proofs.JoinLaws.{single_is}
-use Rattle.coarsen.specs.Marks.{AreMarked, weighed}
+use Rattle.coarsen.specs.Marks.{AreMarked, AreFewer, marked_pins, weighed}
 use Rattle.coarsen.proofs.PairLaws.{vertices_of, no_block}
 
-filter_same : (p q : ℕ → Bool) (xs : List ℕ) → All (λ x. p x ≡ q x) xs → filter p xs ≡ filter q xs
+pub filter_same : (p q : ℕ → Bool) (xs : List ℕ) → All (λ x. p x ≡ q x) xs → filter p xs ≡ filter q xs
 filter_same p q [] a = refl
 filter_same p q (x ∷ xs) a = by (p x) (q x) (All-head (λ y. p y ≡ q y) x xs a) (filter_same p q xs (All-tail (λ y. p y ≡ q y) x xs a))
   where
     by : (b c : Bool) → b ≡ c → filter p xs ≡ filter q xs → cond b (x ∷ filter p xs) (filter p xs) ≡ cond c (x ∷ filter q xs) (filter q xs)
     by b c e f = ap₂ (λ (t : Bool) (ys : List ℕ). cond t (x ∷ ys) ys) e f
+
+filter_le : (p q : ℕ → Bool) → ((x : ℕ) → p x ≡ true → q x ≡ true) → (xs : List ℕ) → length (filter p xs) ≤ length (filter q xs)
+filter_le p q all [] = omega arith
+filter_le p q all (x ∷ xs) = by (p x) (q x) (all x) (filter_le p q all xs)
+  where
+    by : (b c : Bool) → (b ≡ true → c ≡ true) → length (filter p xs) ≤ length (filter q xs) → length (cond b (x ∷ filter p xs) (filter p xs)) ≤
+        length (cond c (x ∷ filter q xs) (filter q xs))
+    by true true f h = omega arith
+    by true false f h = absurd (true≢false (sym (f refl)))
+    by false true f h = omega arith
+    by false false f h = h
 
 filter_both_le : (p q : ℕ → Bool) (xs : List ℕ) → length (filter (λ x. p x && q x) xs) ≤ length (filter p xs)
 filter_both_le p q [] = omega arith
@@ -134,30 +145,32 @@ module _ (h : Hyper) (cap k : ℕ) (blocks pins : List ℕ) where
       omega arith
 
   -- the blocks before b were paired
-  pub record IsPairing (start : List ℕ) (b : ℕ) (roots : List ℕ) (single : List Bool) : Type 0 where
+  pub record IsPairing (start : List ℕ) (first : List Bool) (b : ℕ) (roots : List ℕ) (single : List Bool) : Type 0 where
     pub rooted : IsRooted h cap roots
     pub marked : AreMarked h roots single
+    pub fewer : AreFewer first single
     pub rest : pair_blocks h cap k (block_of blocks) roots pins (range_with_len b (k - b)) ≡ pair_blocks h cap k (block_of blocks) start pins
         (range_with_len 0 k)
 
   range_next : (b : ℕ) → b < k → range_with_len b (k - b) ≡ b ∷ range_with_len (b + 1) (k - (b + 1))
   range_next b l = ap (range_with_len b) (let e : k - b ≡ suc (k - (b + 1)) = omega arith in e)
 
-  pub pairing_more : (start roots next : List ℕ) (single marks : List Bool) (b : ℕ) → IsPairing start b roots single → b < k
+  pub pairing_more : (start roots next : List ℕ) (first single marks : List Bool) (b : ℕ) → IsPairing start first b roots single → b < k
       → next ≡ pair_up h cap 1 no_block roots (lightest_first h cap 1 (block_of blocks) roots b pins) → IsRooted h cap next → AreMarked h next marks →
-      IsPairing start (b + 1) next marks
-  pairing_more start roots next single marks b p l made r m = record {
+      AreFewer single marks → IsPairing start first (b + 1) next marks
+  pairing_more start roots next first single marks b p l made r m f = record {
     rooted = r;
     marked = m;
+    fewer = λ v e. p.fewer v (f v e);
     rest = ap (λ (rs : List ℕ). pair_blocks h cap k (block_of blocks) rs pins (range_with_len (b + 1) (k - (b + 1))))
         (made ∙ pair_up_any h cap k (block_of blocks) (lightest_first h cap 1 (block_of blocks) roots b pins) roots)
         ∙ ap (pair_blocks h cap k (block_of blocks) roots pins) (sym (range_next b l))
         ∙ p.rest;
   }
 
-  pub pairing_end : (start roots : List ℕ) (single : List Bool) (b : ℕ) → IsPairing start b roots single → k ≤ b → roots ≡ pair_blocks h cap k
+  pub pairing_end : (start roots : List ℕ) (first single : List Bool) (b : ℕ) → IsPairing start first b roots single → k ≤ b → roots ≡ pair_blocks h cap k
       (block_of blocks) start pins (range_with_len 0 k)
-  pairing_end start roots single b p l =
+  pairing_end start roots first single b p l =
       ap (λ (n : ℕ). pair_blocks h cap k (block_of blocks) roots pins (range_with_len b n)) (let e : 0 ≡ k - b = omega arith in e) ∙ p.rest
 
 -- ---- all nets
@@ -175,26 +188,47 @@ module _ (h : Hyper) (cap k : ℕ) (blocks : List ℕ) where
   large_net roots e large = ap (λ (b : Bool). if b then pair_blocks h cap k (block_of blocks) roots e.pins (range_with_len 0 k) else roots)
       (sym (lt-leb (length e.pins) 1000 large))
 
+  -- a net with fewer than two marked pins stays, whatever its size
+  pub few_net : (roots : List ℕ) (single : List Bool) (e : Net) → AreMarked h roots single → All (λ v. v < vertex_count h) e.pins →
+      length (filter (λ v. get_or single v false) e.pins) < 2 → roots ≡ pair_nets h cap k (block_of blocks) roots (e ∷ [])
+  few_net roots single e m below few = by (cases_lt 1000 (length e.pins))
+    where
+      by : (1000 < length e.pins) ⊎ (length e.pins ≤ 1000) → roots ≡ pair_nets h cap k (block_of blocks) roots (e ∷ [])
+      by (inl large) = large_net roots e large
+      by (inr small) = small_net roots e roots small
+          (sym (pair_blocks_few h cap k blocks e.pins roots (range_with_len 0 k) (few_marked h cap k blocks e.pins roots single m below few)))
+
   -- the nets before e were visited
-  pub record IsSweeping (start : List ℕ) (e : ℕ) (roots : List ℕ) (single : List Bool) : Type 0 where
+  pub record IsSweeping (start : List ℕ) (first : List Bool) (e : ℕ) (roots : List ℕ) (single : List Bool) : Type 0 where
     pub rooted : IsRooted h cap roots
     pub marked : AreMarked h roots single
+    pub fewer : AreFewer first single
     pub rest : pair_nets h cap k (block_of blocks) roots (drop e h.nets) ≡ pair_nets h cap k (block_of blocks) start h.nets
 
-  pub sweeping_more : (start roots next : List ℕ) (single marks : List Bool) (e : ℕ) → IsSweeping start e roots single → e < net_count h
-      → next ≡ pair_nets h cap k (block_of blocks) roots (net_of h e ∷ []) → IsRooted h cap next → AreMarked h next marks → IsSweeping start (e + 1) next
-      marks
-  sweeping_more start roots next single marks e s l made r m = record {
+  pub sweeping_more : (start roots next : List ℕ) (first single marks : List Bool) (e : ℕ) → IsSweeping start first e roots single → e < net_count h
+      → next ≡ pair_nets h cap k (block_of blocks) roots (net_of h e ∷ []) → IsRooted h cap next → AreMarked h next marks → AreFewer single marks
+      → IsSweeping start first (e + 1) next marks
+  sweeping_more start roots next first single marks e s l made r m f = record {
     rooted = r;
     marked = m;
+    fewer = λ v q. s.fewer v (f v q);
     rest = ap (λ (rs : List ℕ). pair_nets h cap k (block_of blocks) rs (drop (e + 1) h.nets)) made
         ∙ ap (pair_nets h cap k (block_of blocks) roots) (sym (drop_more h.nets e (record { weight = 0; pins = [] }) l))
         ∙ s.rest;
   }
 
-  pub sweeping_end : (start roots : List ℕ) (single : List Bool) (e : ℕ) → IsSweeping start e roots single → net_count h ≤ e → roots ≡ pair_nets h cap k
+  -- a net that had fewer than two single pins at first is passed over
+  pub sweeping_past : (start roots : List ℕ) (first single : List Bool) (e : ℕ) → IsHypergraph h → IsSweeping start first e roots single → e < net_count h
+      → marked_pins h first e < 2 → IsSweeping start first (e + 1) roots single
+  sweeping_past start roots first single e sound s l few =
+      let less = filter_le (λ v. get_or single v false) (λ v. get_or first v false) s.fewer (net_of h e).pins in
+      let net = sound.nets e (record { weight = 0; pins = [] }) l in
+      sweeping_more start roots roots first single single e s l (few_net roots single (net_of h e) s.marked net.pins (omega arith)) s.rooted s.marked
+      (λ v q. q)
+
+  pub sweeping_end : (start roots : List ℕ) (first single : List Bool) (e : ℕ) → IsSweeping start first e roots single → net_count h ≤ e → roots ≡ pair_nets h cap k
       (block_of blocks) start h.nets
-  sweeping_end start roots single e s l = ap (pair_nets h cap k (block_of blocks) roots) (sym (drop_all e h.nets l)) ∙ s.rest
+  sweeping_end start roots first single e s l = ap (pair_nets h cap k (block_of blocks) roots) (sym (drop_all e h.nets l)) ∙ s.rest
 
 -- ---- one block for all
 

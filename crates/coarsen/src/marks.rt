@@ -1,13 +1,17 @@
 //! Marks of the single vertices of a clustering: free vertices that are alone in their clusters.
 
-ghost use Rattle.std.specs.Prelude.{◌≡◌, ◌<◌, ◌≤◌, ℕ, length, filter, All, false, slice_index_or, replicate};
+ghost use Rattle.std.specs.Prelude.{◌≡◌, ◌+◌, ◌<◌, ◌≤◌, ℕ, length, filter, All, IfOk, false, nat_eq, min};
+ghost use Rattle.std.specs.Prelude.{slice_index, slice_index_or, replicate, if◌then◌else◌};
+ghost use Rattle.std.specs.List.Sorted.{IsStrictlyIncreasing};
+ghost use Rattle.std.specs.Set.{is_member};
 ghost use Rattle.hg_defs.specs.Hypergraph.{vertex_count, is_free};
 ghost use Rattle.hg_defs.specs.Clustering.{is_single};
 ghost use Rattle.coarsen.specs.Numbers.{AreRoots};
-ghost use Rattle.coarsen.specs.Marks.{AreMarked};
+ghost use Rattle.coarsen.specs.Marks.{AreMarked, AreCounted};
 
 use hg_base::FREE;
 use incidence::Hypergraph;
+use std::alloc::{AllocError, Global};
 
 /// Marks the single vertices of a clustering by roots, in a list of an entry a vertex.
 pub(crate) fn mark_singles(h: &Hypergraph, roots: &[u32], single: &mut [bool])
@@ -47,4 +51,32 @@ pub(crate) fn count_singles(pins: &[u32], single: &[bool]) -> usize
         }
     }
     count
+}
+
+/// How many pins of each net are single, where the top of a byte stands for all that are more.
+///
+/// The nets of single vertices alone are looked at: after a clustering few vertices are single.
+pub(crate) fn count_on_nets(alloc: Global, h: &Hypergraph, single: &[bool]) -> Result<Vec<u8>, AllocError>
+    requires { length single.now ≡ vertex_count h.now }
+    ensures { IfOk result (λ counts. AreCounted h.now single.now counts.items) }
+{
+    let mut counts = vec![in alloc; 0u8; h.nets() as usize]?;
+    for v in 0..h.vertices() {
+        if single[v as usize] {
+            count_once_more(h.nets_of(v), counts.as_mut_slice());
+        }
+    }
+    Ok(counts)
+}
+
+/// Adds one to the counts of the listed nets, up to the top of a byte.
+fn count_once_more(nets: &[u32], counts: &mut [u8])
+    requires rising { IsStrictlyIncreasing nets.now }
+    requires below { All (λ e. e < length counts.old) nets.now }
+    ensures { (e : ℕ) → slice_index counts.new e ≡ (if is_member nat_eq nets.now e then
+        min (slice_index counts.old e + 1) 255 else slice_index counts.old e) }
+{
+    for e in nets {
+        counts[*e as usize] = counts[*e as usize].saturating_add(1);
+    }
 }

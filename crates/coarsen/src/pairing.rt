@@ -11,10 +11,10 @@ ghost use Rattle.hg_defs.specs.Numbering.{IsRooted, numbered};
 ghost use Rattle.hg_defs.specs.Pairing.{lightest_first, pair_up, paired_from, paired_inside, paired};
 ghost use Rattle.hg_defs.specs.Pairing as pairing;
 ghost use Rattle.hg_defs.specs.Sorting.{sorted, lower_first};
-ghost use Rattle.coarsen.specs.Marks.{AreMarked, weighed};
+ghost use Rattle.coarsen.specs.Marks.{AreMarked, AreFewer, weighed};
 ghost use Rattle.coarsen.specs.Numbers.{IsByRoot};
 
-use crate::marks::{count_singles, mark_singles};
+use crate::marks::{count_on_nets, count_singles, mark_singles};
 use crate::numbering::number_clusters;
 use hg_base::{MapList, NoMemory};
 use incidence::Hypergraph;
@@ -88,6 +88,8 @@ pub(crate) fn pair_within(
 }
 
 /// Pairs single vertices of a clustering by roots, net by net.
+///
+/// Pairing makes no vertex single, so a net with fewer than two single vertices at first is never looked at.
 fn pair_nets(
     alloc: Global,
     h: &Hypergraph,
@@ -102,18 +104,21 @@ fn pair_nets(
 {
     let mut single = vec![in alloc; false; h.vertices() as usize]?;
     mark_singles(h, roots, single.as_mut_slice());
+    let counts = count_on_nets(alloc, h, single.as_slice())?;
     let mut ranks = Vec::new(alloc);
     for e in 0..h.nets() {
-        pair_net(
-            h,
-            cap,
-            k,
-            blocks,
-            e,
-            roots,
-            single.as_mut_slice(),
-            &mut ranks,
-        )?;
+        if counts[e as usize] >= 2 {
+            pair_net(
+                h,
+                cap,
+                k,
+                blocks,
+                e,
+                roots,
+                single.as_mut_slice(),
+                &mut ranks,
+            )?;
+        }
     }
     Ok(())
 }
@@ -137,6 +142,7 @@ fn pair_net(
         (net_of h.now e ∷ [])) }
     ensures rooted { OnOk result (IsRooted h.now cap roots.new) }
     ensures marked { OnOk result (AreMarked h.now roots.new single.new) }
+    ensures fewer { OnOk result (AreFewer single.old single.new) }
 {
     let pins = h.pins(e);
     if pins.len() > MOST_PINS || count_singles(pins, single) < 2 {
@@ -168,6 +174,7 @@ fn pair_block(
         (lightest_first h.now cap 1 (block_of blocks.now) roots.old b pins.now)) }
     ensures rooted { OnOk result (IsRooted h.now cap roots.new) }
     ensures marked { OnOk result (AreMarked h.now roots.new single.new) }
+    ensures fewer { OnOk result (AreFewer single.old single.new) }
 {
     rank_singles(h, blocks, b, pins, single, ranks)?;
     ranks.sort_unstable();
@@ -208,6 +215,7 @@ fn join_ranks(h: &Hypergraph, cap: u64, ranks: &[Rank], roots: &mut [u32], singl
     ensures paired { roots.new ≡ pair_up h.now cap 1 (λ v. 0) roots.old (map (λ rank. rank.1) ranks.now) }
     ensures rooted { IsRooted h.now cap roots.new }
     ensures marked { AreMarked h.now roots.new single.new }
+    ensures fewer { AreFewer single.old single.new }
 {
     let mut i = 0;
     while i + 1 < ranks.len() {
