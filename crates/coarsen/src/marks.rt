@@ -56,7 +56,11 @@ pub(crate) fn count_singles(pins: &[u32], single: &[bool]) -> usize
 /// How many pins of each net are single, where the top of a byte stands for all that are more.
 ///
 /// The nets of single vertices alone are looked at: after a clustering few vertices are single.
-pub(crate) fn count_on_nets(alloc: Global, h: &Hypergraph, single: &[bool]) -> Result<Vec<u8>, AllocError>
+pub(crate) fn count_on_nets(
+    alloc: Global,
+    h: &Hypergraph,
+    single: &[bool],
+) -> Result<Vec<u8>, AllocError>
     requires { length single.now ≡ vertex_count h.now }
     ensures { IfOk result (λ counts. AreCounted h.now single.now counts.items) }
 {

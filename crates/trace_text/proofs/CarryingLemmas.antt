@@ -121,12 +121,12 @@ on_table h trace i maps first clusters table printable low all is here room writ
   within = omega arith;
   all = long ∙ ap length here ∙ (printable.levels i low).full.vertices;
   each = λ v inside. (
-    let in_list = below v inside in
-    get_or-take (length clusters) table v 0 in_list
-    ∙ written v in_list
-    ∙ ap (λ (p : List ℕ). slice_index p (carried (take (trace.start - i) (drop i maps)) v)) is
-    ∙ ap (λ (ms : List (List ℕ)). slice_index trace.first (carried (take (trace.start - i) (drop i ms)) v)) all
-    ∙ ap (λ (ms : List (List ℕ)). slice_index trace.first (carried ms v)) (sym (above trace i (omega arith))));
+      let in_list = below v inside in
+      get_or-take (length clusters) table v 0 in_list
+      ∙ written v in_list
+      ∙ ap (λ (p : List ℕ). slice_index p (carried (take (trace.start - i) (drop i maps)) v)) is
+      ∙ ap (λ (ms : List (List ℕ)). slice_index trace.first (carried (take (trace.start - i) (drop i ms)) v)) all
+      ∙ ap (λ (ms : List (List ℕ)). slice_index trace.first (carried ms v)) (sym (above trace i (omega arith))));
 }
   where
     long : length (take (length clusters) table) ≡ length clusters
@@ -166,9 +166,9 @@ pub all_lead : (h : Hyper) (trace : Trace) (i : ℕ) (maps : List (List ℕ)) (b
 all_lead h trace i maps blocks printable all on = subst (λ (ms : List (List ℕ)). AllLead (vertex_count h) (take i ms) blocks) (sym all) (record {
   leads = λ v inside. leads_to_level h trace i v blocks printable on inside;
   small = λ v inside. (
-    let same = block-on_level h trace i v blocks printable on inside in
-    let small = block-small h trace v printable inside in
-    omega (arith, same, small));
+      let same = block-on_level h trace i v blocks printable on inside in
+      let small = block-small h trace v printable inside in
+      omega (arith, same, small));
 })
 
 -- carried down they cost what the first partition costs on its level

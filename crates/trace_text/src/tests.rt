@@ -223,17 +223,7 @@ fn report<H: Threads + Sync>(
     let cycles = cycles_of(alloc, blocks.copy()?, cycle)?;
     let main = trace(alloc, blocks.copy()?, kinds, Chosen::Greedy)?;
     let cost = cost_of(h.flat(), placed.slice(), k);
-    Ok(put_report(
-        rt,
-        sink,
-        &h,
-        &job,
-        cost,
-        &main,
-        &cycles,
-        blocks.slice(),
-    )
-    .is_ok())
+    Ok(put_report(rt, sink, &h, &job, cost, &main, &cycles, blocks.slice()).is_ok())
 }
 
 #[test]
