@@ -72,13 +72,16 @@ marked_once p q v off on others (x ∷ xs) apart =
     later e = list_any_none (nat_eq v) xs (λ k d l. let less = apart 0 (suc k) d (omega arith) (omega arith) in ne_eqb v (get_or xs k d)
         (λ s. absurd (omega arith)))
 
+    not_later : v ≡ x → 0 + (if is_member nat_eq xs v then 1 else 0) ≡ 0
+    not_later e = ap (λ (b : Bool). 0 + (if b then 1 else 0)) (later e)
+
     by : (t a b : Bool) → nat_eq v x ≡ t → p x ≡ a → q x ≡ b → length (filter q xs) ≡ length (filter p xs) + (if is_member nat_eq xs v then 1 else 0)
         → length (cond b (x ∷ filter q xs) (filter q xs)) ≡ length (cond a (x ∷ filter p xs) (filter p xs)) +
         (if t || is_member nat_eq xs v then 1 else 0)
     by true true b e f g rest = absurd (true≢false (sym f ∙ ap p (sym (eqb-true v x e)) ∙ off))
     by true false false e f g rest = absurd (true≢false (sym on ∙ ap q (eqb-true v x e) ∙ g))
     by true false true e f g rest =
-        let none : (if is_member nat_eq xs v then 1 else 0) ≡ 0 = ap (λ (b : Bool). if b then 1 else 0) (later (eqb-true v x e)) in
+        let none = not_later (eqb-true v x e) in
         omega arith
     by false true true e f g rest = omega arith
     by false false false e f g rest = rest
