@@ -42,12 +42,10 @@ returns-in_err-made-clause-answer g c =
       unwritten = refl;
     })))
 
-pub deliver-requires : goal.deliver-requires
-deliver-requires g c = record {
-  reportable =
-      made_reportable c.args.p.now.mode _ c.job_of-job.result c.in_ok-flat.flat c.in_ok-made.made c.job_of-job.ensures.bounds
-      c.in_ok-made.ensures.answer;
-}
+pub deliver-requires-clause-reportable : goal.deliver-requires-clause-reportable
+deliver-requires-clause-reportable g c κs within =
+    made_reportable c.args.p.now.mode _ c.job_of-job.result c.in_ok-flat.flat c.in_ok-made.made c.job_of-job.ensures.bounds
+    c.in_ok-made.ensures.answer
 
 pub returns-in_err-deliver-clause-answer : goal.returns-in_err-deliver-clause-answer
 returns-in_err-deliver-clause-answer g c =

@@ -1,9 +1,8 @@
 -- The table has the blocks of its level.
-use Rattle.std.proofs.Common.{◌≡◌, ◌≢◌, ℕ, ◌-◌, ◌<◌, ◌≤◌, ◌^◌, List, [], length, take, drop, sym, ap, ◌∙◌, subst, arith}
+use Rattle.std.proofs.Common.{◌≡◌, ◌≢◌, ℕ, ◌-◌, ◌<◌, ◌^◌, List, [], length, take, drop, sym, ap, ◌∙◌, subst, arith}
 use Rattle.std.proofs.lemmas.List.{get_or_default}
 use Rattle.hg_defs.specs.Levels.{map_of}
 use Rattle.exact_cost.specs.Carrying.{LeadsInto}
-use Rattle.trace_text.specs.Report.{AreOnLevel}
 use Rattle.trace_text.proofs.CarryingLemmas.{leads_from, on_first, on_table, all_lead, cost_from_level}
 use Rattle.trace_text.proofs.first.first_cost.Goals as goal
 

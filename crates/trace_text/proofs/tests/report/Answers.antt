@@ -17,18 +17,18 @@ printable h k t p start first good = record {
 }
 
 pub put_report-requires-clause-greedy : goal.put_report-requires-clause-greedy
-put_report-requires-clause-greedy g c =
+put_report-requires-clause-greedy g c κs within =
     c.cost_of-cost.ensures.value
     ∙ ap₂ cost c.flat-2.ensures (c.slice.ensures ∙ c.in_ok-placed.ensures.ok ∙ ap (λ (h : Hyper). greedy h c.args.k) c.flat.ensures)
 
 pub put_report-requires-clause-trace : goal.put_report-requires-clause-trace
-put_report-requires-clause-trace g c =
+put_report-requires-clause-trace g c κs within =
     printable c.in_ok-h.h c.args.k c.in_ok-main.main c.in_ok-blocks.blocks c.in_ok-main.ensures.start
     (c.in_ok-main.ensures.first ∙ c.in_ok-copy-2.ensures)
     (record { vertices = c.in_ok-blocks.ensures.vertices ∙ c.vertices.ensures.count; blocks = c.in_ok-blocks.ensures.blocks })
 
 pub put_report-requires-clause-cycles : goal.put_report-requires-clause-cycles
-put_report-requires-clause-cycles g c i d low =
+put_report-requires-clause-cycles g c κs within i d low =
     let t = c.in_ok-cycles.ensures i d low in
     printable c.in_ok-h.h c.args.k _ c.in_ok-blocks.blocks t.1.0 (t.1.1 ∙ c.in_ok-copy.ensures)
     (record { vertices = c.in_ok-blocks.ensures.vertices ∙ c.vertices.ensures.count; blocks = c.in_ok-blocks.ensures.blocks })

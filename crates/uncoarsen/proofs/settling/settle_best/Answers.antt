@@ -11,7 +11,7 @@ use Rattle.uncoarsen.proofs.settling.settle_best.Goals as goal
 use Rattle.uncoarsen.proofs.settling.settle_best.Goals.{then-cheaper+in_ok-best, else-cheaper}
 
 pub cost_with-requires-clause-partition : goal.cost_with-requires-clause-partition
-cost_with-requires-clause-partition g c =
+cost_with-requires-clause-partition g c κs within =
     let parted = c.blocks-blocks.ensures.parted in
     let p = greedy-partition c.args.last.hyper c.args.last.k parted.sound parted.fixed (let some = parted.some in omega arith) in
     let here : IsPartition c.args.h.now c.args.last.k c.args.greedy =
