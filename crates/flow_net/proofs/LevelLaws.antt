@@ -5,7 +5,7 @@ use Rattle.std.proofs.lemmas.Bool.{cases_eq, eq-eqb, ne_eqb}
 use Rattle.hg_defs.specs.Sums.{sum_below}
 use Rattle.hg_defs.proofs.SumLaws.{sum_below-change, sum_below-constant, sum_below-le, sum_below-zero}
 use Rattle.flow_net.specs.Residual.{mate, head, tail, mark, reached_count, IsLinked, IsStep, IsTree, IsOpen}
-use Rattle.flow_net.specs.Residual.{IsClosed, IsDone, IsAbsent, IsSearched, IsScanned}
+use Rattle.flow_net.specs.Residual.{IsClosed, IsDone, IsAbsent, IsLined, IsSpread, IsSearched, IsScanned}
 
 -- ---- halves
 
@@ -59,6 +59,39 @@ reached-lt levels u l e =
     let b = reached-le (set levels u 1) in
     let c = length-set levels u 1 in
     omega arith
+
+-- a node more with a level stands in the queue
+pub lined_set : (levels queue : List ℕ) (end u x : ℕ) → IsLined levels queue end → length queue ≡ length levels → u < length levels
+    → slice_index levels u ≡ 0 → 0 < x → IsLined (set levels u x) (set queue end u) (end + 1)
+lined_set levels queue end u x s long l e p = record {
+  count = reached-set levels u x l e p ∙ ap (λ n. n + 1) s.count;
+  within = λ j k. by j k (cases_eq j end);
+}
+  where
+    size : length (set levels u x) ≡ length levels
+    size = length-set levels u x
+
+    by : (j : ℕ) → j < end + 1 → (j ≡ end) ⊎ (j ≢ end) → slice_index (set queue end u) j < length (set levels u x)
+    by j k (inl q) =
+        let room = reached-lt levels u l e in
+        let count = s.count in
+        let new : slice_index (set queue end u) j ≡ u = ap (slice_index (set queue end u)) q ∙ get_or-set_same queue end u 0 (omega arith) in
+        let same = size in
+        omega arith
+    by j k (inr q) =
+        let old = get_or-set_other queue end j u 0 q in
+        let within = s.within j (omega arith) in
+        let same = size in
+        omega arith
+
+-- a node alone
+pub lined_begin : (zeros queue : List ℕ) (u x : ℕ) → ((v : ℕ) → v < length zeros → slice_index zeros v ≡ 0) → u < length zeros
+    → length queue ≡ length zeros → 0 < x → IsLined (set zeros u x) (set queue 0 u) 1
+lined_begin zeros queue u x none l long p =
+    lined_set zeros queue 0 u x
+    (record { count = sum_below-zero (λ v. mark (slice_index zeros v)) (length zeros) (λ i k. mark-zero (slice_index zeros i) (none i k));
+    within = λ j k. absurd (omega arith) })
+    long l (none u l) p
 
 -- ---- a node more with a level
 
@@ -138,12 +171,7 @@ module _ (heads nexts firsts rests : List ℕ) (linked : IsLinked heads nexts fi
   scan_skip levels ways queue sink start end node at s p here =
       let next = linked.next (at - 1) (let a = s.last in omega arith) in
       record {
-        tree = s.tree;
-        opens = s.opens;
-        count = s.count;
-        within = s.within;
-        reached = s.reached;
-        low = s.low;
+        spread = s.spread;
         order = s.order;
         here = s.here;
         last = let a = next.within in let b = s.last in omega arith;
@@ -154,18 +182,19 @@ module _ (heads nexts firsts rests : List ℕ) (linked : IsLinked heads nexts fi
 
   pub node_level : (levels ways queue : List ℕ) (sink start end node at : ℕ) → IsScanned heads rests levels ways queue sink start end node at →
       0 < slice_index levels node
-  node_level levels ways queue sink start end node at s = subst (λ v. 0 < slice_index levels v) s.here (s.reached start s.order)
+  node_level levels ways queue sink start end node at s = subst (λ v. 0 < slice_index levels v) s.here (s.spread.reached start s.order)
 
   module _ (levels ways queue : List ℕ) (sink start end node at u x : ℕ)
       (long_levels : length levels ≡ length firsts) (long_ways : length ways ≡ length levels) (long_queue : length queue ≡ length levels)
-      (s : IsScanned heads rests levels ways queue sink start end node at) (p : 0 < at)
+      (s : IsSpread heads rests levels ways queue sink end) (order : start < end) (here : slice_index queue start ≡ node)
+      (p : 0 < at) (last : at ≤ length heads) (leaves : tail heads (at - 1) ≡ node)
       (u_is : head heads (at - 1) ≡ u) (x_is : x ≡ slice_index levels node + 1) (e : slice_index levels u ≡ 0) (r : 0 < slice_index rests (mate (at - 1)))
     where
       taken_in : u < length levels
-      taken_in = let l = s.last in let a = linked.nodes (at - 1) (omega arith) in omega arith
+      taken_in = let a = linked.nodes (at - 1) (omega arith) in omega arith
 
       taken_room : end < length queue
-      taken_room = let a = reached-lt levels u taken_in e in let b = s.count in omega arith
+      taken_room = let a = reached-lt levels u taken_in e in let b = s.lined.count in omega arith
 
       old_place : (j : ℕ) → j < end → slice_index (set queue end u) j ≡ slice_index queue j
       old_place j k = get_or-set_other queue end j u 0 (λ q. absurd (omega arith))
@@ -187,14 +216,13 @@ module _ (heads nexts firsts rests : List ℕ) (linked : IsLinked heads nexts fi
       kept_level w l = level_kept heads levels ways sink u x (mate (at - 1)) w e l
 
       node_low : slice_index levels node ≤ start + 1
-      node_low = subst (λ v. slice_index levels v ≤ start + 1) s.here (s.low start s.order)
+      node_low = subst (λ v. slice_index levels v ≤ start + 1) here (s.low start order)
 
       taken_low : (j : ℕ) → j < end + 1 → slice_index (set levels u x) (slice_index (set queue end u) j) ≤ j + 1
       taken_low j k = by (cases_eq j end)
         where
           by : (j ≡ end) ⊎ (j ≢ end) → slice_index (set levels u x) (slice_index (set queue end u) j) ≤ j + 1
           by (inl q) =
-              let order = s.order in
               let low = node_low in
               let level : slice_index (set levels u x) (slice_index (set queue end u) j) ≡ x =
               ap (slice_index (set levels u x)) (ap (slice_index (set queue end u)) q ∙ new_place) ∙ taken_level in
@@ -206,51 +234,55 @@ module _ (heads nexts firsts rests : List ℕ) (linked : IsLinked heads nexts fi
               let low = s.low j before in
               omega arith
 
-      taken_done : (v : ℕ) → v < length (set levels u x) → v ≢ node → 0 < slice_index (set levels u x) v → IsAbsent (set queue end u) (start + 1) (end + 1)
-          v
-          → IsDone heads rests (set levels u x) 0 v
-      taken_done v k ne q absent = by (cases_eq v u)
-        where
-          by : (v ≡ u) ⊎ (v ≢ u) → IsDone heads rests (set levels u x) 0 v
-          by (inl same) = absurd (absent end (let a = s.order in omega arith) (omega arith) (new_place ∙ sym same))
-          by (inr other) =
-              done-set heads levels ways sink u x (mate (at - 1)) rests 0 v taken_in (omega arith)
-              (s.done v (subst (λ n. v < n) (length-set levels u x) k) ne (let a = get_or-set_other levels u v x 0 other in omega arith)
-              (λ j a b z. absent j a (omega arith) (old_place j b ∙ z)))
+      node_level_pos : 0 < slice_index levels node
+      node_level_pos = subst (λ v. 0 < slice_index levels v) here (s.reached start order)
 
-      pub scan_take : IsScanned heads rests (set levels u x) (set ways u (mate (at - 1))) (set queue end u) sink start (end + 1) node
-          (slice_index nexts (at - 1))
-      scan_take =
+      pub spread_take : IsSpread heads rests (set levels u x) (set ways u (mate (at - 1))) (set queue end u) sink (end + 1)
+      spread_take =
           let back = mate (at - 1) in
-          let last = s.last in
           let l : at - 1 < length heads = omega arith in
-          let next = linked.next (at - 1) l in
-          let to_node : head heads back ≡ node = s.leaves p in
-          let size = length-set levels u x in
+          let to_node : head heads back ≡ node = leaves in
           record {
             tree =
                 tree-set heads levels ways sink u x back taken_in long_ways e s.tree (mate-within (length heads) (at - 1) linked.pairs l)
                 (tail-mate heads (at - 1) ∙ u_is)
-                (ap (λ v. slice_index levels v + 1) to_node ∙ sym x_is) (subst (λ v. 0 < slice_index levels v) (sym to_node)
-                (node_level levels ways queue sink start end node at s));
+                (ap (λ v. slice_index levels v + 1) to_node ∙ sym x_is) (subst (λ v. 0 < slice_index levels v) (sym to_node) node_level_pos);
             opens = open-set heads levels ways sink u x back rests taken_in long_ways s.opens r;
-            count = reached-set levels u x taken_in e (omega arith) ∙ ap (λ n. n + 1) s.count;
-            within = each_place (λ v. v < length (set levels u x)) (λ i m. subst (λ n. slice_index queue i < n) (sym size) (s.within i m))
-                (subst (λ n. u < n) (sym size) taken_in);
+            lined = lined_set levels queue end u x s.lined long_queue taken_in e (omega arith);
             reached = each_place (λ v. 0 < slice_index (set levels u x) v)
                 (λ i m. subst (λ n. 0 < n) (sym (kept_level (slice_index queue i) (s.reached i m))) (s.reached i m))
                 (subst (λ n. 0 < n) (sym taken_level) (omega arith));
             low = taken_low;
-            order = let a = s.order in omega arith;
-            here = old_place start s.order ∙ s.here;
+          }
+
+      taken_done : IsScanned heads rests levels ways queue sink start end node at → (v : ℕ) → v < length (set levels u x) → v ≢ node → 0 < slice_index (set levels u x) v → IsAbsent (set queue end u) (start + 1) (end + 1)
+          v
+          → IsDone heads rests (set levels u x) 0 v
+      taken_done scanned v k ne q absent = by (cases_eq v u)
+        where
+          by : (v ≡ u) ⊎ (v ≢ u) → IsDone heads rests (set levels u x) 0 v
+          by (inl same) = absurd (absent end (omega arith) (omega arith) (new_place ∙ sym same))
+          by (inr other) =
+              done-set heads levels ways sink u x (mate (at - 1)) rests 0 v taken_in (omega arith)
+              (scanned.done v (subst (λ n. v < n) (length-set levels u x) k) ne (let a = get_or-set_other levels u v x 0 other in omega arith)
+              (λ j a b z. absent j a (omega arith) (old_place j b ∙ z)))
+
+      pub scan_take : IsScanned heads rests levels ways queue sink start end node at
+          → IsScanned heads rests (set levels u x) (set ways u (mate (at - 1))) (set queue end u) sink start (end + 1) node (slice_index nexts (at - 1))
+      scan_take scanned =
+          let back = mate (at - 1) in
+          let next = linked.next (at - 1) (omega arith) in
+          record {
+            spread = spread_take;
+            order = omega arith;
+            here = old_place start order ∙ here;
             last = let a = next.within in omega arith;
-            leaves = λ q. next.leaves q ∙ s.leaves p;
+            leaves = λ q. next.leaves q ∙ leaves;
             part =
-                part-next (set levels u x) node at p s.last (s.leaves p) (done-set heads levels ways sink u x back rests at node taken_in (omega arith)
-                s.part)
+                part-next (set levels u x) node at p last leaves (done-set heads levels ways sink u x back rests at node taken_in (omega arith) scanned.part)
                 (λ z. absurd (let a : slice_index (set levels u x) u ≡ 0 = ap (slice_index (set levels u x)) (sym u_is) ∙ z in let b = taken_level in
                 omega arith));
-            done = taken_done;
+            done = taken_done scanned;
           }
 
   pub scan_begin : (levels ways queue : List ℕ) (sink start end : ℕ) → length levels ≡ length firsts → start < end → IsSearched heads rests levels ways
@@ -259,15 +291,10 @@ module _ (heads nexts firsts rests : List ℕ) (linked : IsLinked heads nexts fi
       → IsScanned heads rests levels ways queue sink start end (slice_index queue start) (slice_index firsts (slice_index queue start))
   scan_begin levels ways queue sink start end long order s =
       let node = slice_index queue start in
-      let node_in = s.within start order in
+      let node_in = s.spread.lined.within start order in
       let first = linked.first node (omega arith) in
       record {
-        tree = s.tree;
-        opens = s.opens;
-        count = s.count;
-        within = s.within;
-        reached = s.reached;
-        low = s.low;
+        spread = s.spread;
         order = order;
         here = refl;
         last = first.within;
@@ -284,12 +311,7 @@ module _ (heads nexts firsts rests : List ℕ) (linked : IsLinked heads nexts fi
   pub scan_end : (levels ways queue : List ℕ) (sink start end node at : ℕ) → at ≡ 0 → IsScanned heads rests levels ways queue sink start end node at
       → IsSearched heads rests levels ways queue sink (start + 1) end
   scan_end levels ways queue sink start end node at z s = record {
-    tree = s.tree;
-    opens = s.opens;
-    count = s.count;
-    within = s.within;
-    reached = s.reached;
-    low = s.low;
+    spread = s.spread;
     done = λ v k p absent. by v k p absent (cases_eq v node);
   }
     where
@@ -304,17 +326,16 @@ module _ (heads nexts firsts rests : List ℕ) (linked : IsLinked heads nexts fi
   search_begin zeros ways queue sink none l long =
       let first : slice_index (set queue 0 sink) 0 ≡ sink = get_or-set_same queue 0 sink 0 (omega arith) in
       let root : slice_index (set zeros sink 1) sink ≡ 1 = get_or-set_same zeros sink 1 0 l in
-      let size = length-set zeros sink 1 in
       let at : (j : ℕ) → j < 1 → slice_index (set queue 0 sink) j ≡ sink = λ j k. ap (slice_index (set queue 0 sink)) (let z : j ≡ 0 = omega arith in z) ∙
       first in
       record {
-        tree = record { root = root; steps = λ v k ne p. absurd (zero_at v k ne p) };
-        opens = λ v k ne p. absurd (zero_at v k ne p);
-        count = reached-set zeros sink 1 l (none sink l) (omega arith) ∙ ap (λ n. n + 1) (sum_below-zero (λ v. mark (slice_index zeros v)) (length zeros)
-            (λ i k. mark-zero (slice_index zeros i) (none i k)));
-        within = λ j k. subst (λ v. v < length (set zeros sink 1)) (sym (at j k)) (omega arith);
-        reached = λ j k. subst (λ v. 0 < slice_index (set zeros sink 1) v) (sym (at j k)) (omega arith);
-        low = λ j k. subst (λ v. slice_index (set zeros sink 1) v ≤ j + 1) (sym (at j k)) (omega arith);
+        spread = record {
+          tree = record { root = root; steps = λ v k ne p. absurd (zero_at v k ne p) };
+          opens = λ v k ne p. absurd (zero_at v k ne p);
+          lined = lined_begin zeros queue sink 1 none l long (omega arith);
+          reached = λ j k. subst (λ v. 0 < slice_index (set zeros sink 1) v) (sym (at j k)) (omega arith);
+          low = λ j k. subst (λ v. slice_index (set zeros sink 1) v ≤ j + 1) (sym (at j k)) (omega arith);
+        };
         done = λ v k p absent. absurd (by v k p absent (cases_eq v sink));
       }
     where

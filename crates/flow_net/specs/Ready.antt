@@ -14,3 +14,4 @@ pub record IsReady (space : Workspace) (nodes halves : ℕ) : Type 0 where
   pub currents : nodes ≤ length space.currents.items
   pub entries : nodes ≤ length space.entries.items
   pub queue : nodes ≤ length space.queue.items
+  pub line : nodes ≤ length space.line.items

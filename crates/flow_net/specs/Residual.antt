@@ -83,24 +83,27 @@ IsDone heads rests levels at v =
 abbrev pub IsAbsent : List ℕ → ℕ → ℕ → ℕ → Type 0
 IsAbsent queue start end v = (j : ℕ) → start ≤ j → j < end → slice_index queue j ≢ v
 
--- the nodes with a level stand in the queue up to its end, and those before its start are done
-pub record IsSearched (heads rests levels ways queue : List ℕ) (sink start end : ℕ) : Type 0 where
-  pub tree : IsTree heads levels ways sink
-  pub opens : IsOpen rests levels ways sink
+-- the nodes with a level stand in the queue up to its end
+pub record IsLined (levels queue : List ℕ) (end : ℕ) : Type 0 where
   pub count : reached_count levels ≡ end
   pub within : (j : ℕ) → j < end → slice_index queue j < length levels
+
+-- they have a step towards the sink that may take more flow, and no level is higher than its place
+pub record IsSpread (heads rests levels ways queue : List ℕ) (sink end : ℕ) : Type 0 where
+  pub tree : IsTree heads levels ways sink
+  pub opens : IsOpen rests levels ways sink
+  pub lined : IsLined levels queue end
   pub reached : (j : ℕ) → j < end → 0 < slice_index levels (slice_index queue j)
   pub low : (j : ℕ) → j < end → slice_index levels (slice_index queue j) ≤ j + 1
+
+-- those before the start of the queue are done
+pub record IsSearched (heads rests levels ways queue : List ℕ) (sink start end : ℕ) : Type 0 where
+  pub spread : IsSpread heads rests levels ways queue sink end
   pub done : (v : ℕ) → v < length levels → 0 < slice_index levels v → IsAbsent queue start end v → IsDone heads rests levels 0 v
 
 -- the same while the halves of the node at the start of the queue are gone through, down to a place in their list
 pub record IsScanned (heads rests levels ways queue : List ℕ) (sink start end node at : ℕ) : Type 0 where
-  pub tree : IsTree heads levels ways sink
-  pub opens : IsOpen rests levels ways sink
-  pub count : reached_count levels ≡ end
-  pub within : (j : ℕ) → j < end → slice_index queue j < length levels
-  pub reached : (j : ℕ) → j < end → 0 < slice_index levels (slice_index queue j)
-  pub low : (j : ℕ) → j < end → slice_index levels (slice_index queue j) ≤ j + 1
+  pub spread : IsSpread heads rests levels ways queue sink end
   pub order : start < end
   pub here : slice_index queue start ≡ node
   pub last : at ≤ length heads

@@ -7,7 +7,7 @@ use crate::residual::{Halves, clear, mate};
 
 /// Gives a level to each node without one from which a half with a rest leads to the node at place `start`
 /// of the queue, and appends it to the queue. Answers the queue's new end.
-fn scan(
+pub(crate) fn scan(
     halves: Halves<'_>,
     rests: &[u64],
     start: usize,

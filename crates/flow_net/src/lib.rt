@@ -2,6 +2,7 @@
 #![tactic(auto)]
 
 mod cut;
+mod ends;
 pub mod laws;
 mod layout;
 mod levels;

@@ -7,8 +7,8 @@ ghost use Rattle.flow_net.specs.Residual.{IsTree, IsClosed, IsBounded, IsRaised,
 ghost use Rattle.flow_net.specs.Ready.{IsReady};
 
 use crate::cut::{Cut, flag_near, flag_unreached, flow_from, write_flows};
+use crate::ends::search_both;
 use crate::layout::{lay, link};
-use crate::levels::search;
 use crate::network::{Arc, Network};
 use crate::paths::{block, least_rest, push};
 use crate::residual::{Halves, clear};
@@ -25,6 +25,7 @@ fn maximize(
     currents: &mut [u32],
     entries: &mut [u32],
     queue: &mut [u32],
+    line: &mut [u32],
 )
     requires rests { length rests.old ≡ length halves.heads.now }
     requires levels { length levels.old ≡ length halves.firsts.now }
@@ -32,6 +33,7 @@ fn maximize(
     requires currents { length currents.old ≡ length levels.old }
     requires entries { length entries.old ≡ length levels.old }
     requires queue { length queue.old ≡ length levels.old }
+    requires line { length line.old ≡ length levels.old }
     requires bounded { IsBounded rests.old }
     ensures raised { IsRaised halves.entry.heads.now halves.entry.source halves.entry.sink 0 rests.old rests.new }
     ensures source { slice_index levels.new halves.entry.source ≡ 0 }
@@ -39,7 +41,8 @@ fn maximize(
     ensures closed { IsClosed halves.entry.heads.now rests.new levels.new }
 {
     clear(entries);
-    while search(halves, rests, levels, ways, queue) {
+    // Nothing that matters stands in the currents then, so they hold the marks.
+    while search_both(halves, rests, levels, ways, queue, currents, line) {
         let amount = least_rest(halves, levels, ways, rests);
         push(halves, levels, ways, amount, rests);
         block(halves, levels, ways, currents, entries, rests);
@@ -58,6 +61,7 @@ pub struct Workspace {
     currents: Vec<u32>,
     entries: Vec<u32>,
     queue: Vec<u32>,
+    line: Vec<u32>,
 }
 
 /// Makes a list at least so long. What stands in it then doesn't matter.
@@ -83,6 +87,7 @@ impl Workspace {
             currents: Vec::new(alloc),
             entries: Vec::new(alloc),
             queue: Vec::new(alloc),
+            line: Vec::new(alloc),
         }
     }
 
@@ -100,7 +105,8 @@ impl Workspace {
         lengthen(&mut self.ways, nodes)?;
         lengthen(&mut self.currents, nodes)?;
         lengthen(&mut self.entries, nodes)?;
-        lengthen(&mut self.queue, nodes)
+        lengthen(&mut self.queue, nodes)?;
+        lengthen(&mut self.line, nodes)
     }
 }
 
@@ -156,6 +162,7 @@ fn solve(
         &mut space.currents.as_mut_slice()[..nodes],
         &mut space.entries.as_mut_slice()[..nodes],
         queue,
+        &mut space.line.as_mut_slice()[..nodes],
     );
     flag_unreached(levels, side);
     write_flows(rests, flows);

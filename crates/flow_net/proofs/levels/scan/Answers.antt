@@ -8,18 +8,18 @@ use Rattle.flow_net.proofs.levels.scan.Goals.{else-rests-back-gt0-via-else-rests
 
 pub offset_bounds-queue-start : goal.offset_bounds-queue-start
 offset_bounds-queue-start c =
-    let a = queue_room c.args.levels.now c.args.end c.requires.searched.count in
+    let a = queue_room c.args.levels.now c.args.end c.requires.searched.spread.lined.count in
     let few = c.args.halves.linked.few in
     omega arith
 
 pub bounds-queue-start : goal.bounds-queue-start
-bounds-queue-start c = let a = queue_room c.args.levels.now c.args.end c.requires.searched.count in omega arith
+bounds-queue-start c = let a = queue_room c.args.levels.now c.args.end c.requires.searched.spread.lined.count in omega arith
 
 pub overflow_add-level : goal.overflow_add-level
 overflow_add-level c =
-    let a = queue_room c.args.levels.now c.args.end c.requires.searched.count in
+    let a = queue_room c.args.levels.now c.args.end c.requires.searched.spread.lined.count in
     let few = c.args.halves.linked.few in
-    let low = c.requires.searched.low c.args.start c.requires.waiting in
+    let low = c.requires.searched.spread.low c.args.start c.requires.waiting in
     omega arith
 
 pub loop-at-init : goal.loop-at-init
@@ -34,7 +34,7 @@ loop-at-init c = record {
 pub offset_bounds-queue-end : goal.offset_bounds-queue-end
 offset_bounds-queue-end c =
     let s = c.loop-at.invariant.scanned in
-    let a = queue_room c.loop-at.levels c.loop-at.end s.count in
+    let a = queue_room c.loop-at.levels c.loop-at.end s.spread.lined.count in
     let few = c.args.halves.linked.few in
     omega arith
 
@@ -44,13 +44,13 @@ bounds-queue-end c =
     let last = s.last in
     let half : c.loop-at.at - 1 < length c.args.halves.heads.now = omega arith in
     let node = c.args.halves.linked.nodes (c.loop-at.at - 1) half in
-    let a = queue_more c.loop-at.levels c.loop-at.end (head c.args.halves.heads.now (c.loop-at.at - 1)) s.count (omega arith) c.if-levels-from-eq0.true in
+    let a = queue_more c.loop-at.levels c.loop-at.end (head c.args.halves.heads.now (c.loop-at.at - 1)) s.spread.lined.count (omega arith) c.if-levels-from-eq0.true in
     omega arith
 
 pub overflow_add-end : goal.overflow_add-end
 overflow_add-end c =
     let s = c.loop-at.invariant.scanned in
-    let a = queue_room c.loop-at.levels c.loop-at.end s.count in
+    let a = queue_room c.loop-at.levels c.loop-at.end s.spread.lined.count in
     let few = c.args.halves.linked.few in
     omega arith
 
@@ -76,7 +76,7 @@ loop-at-preserved c =
                 c.loop-at.end node at u x
                 (c.loop-at.auto.levels ∙ c.requires.levels) (c.loop-at.auto.ways ∙ c.requires.ways ∙ sym c.loop-at.auto.levels) (c.loop-at.auto.queue ∙
                 c.requires.queue ∙ sym c.loop-at.auto.levels)
-                s c.loop-at-test.true refl c.loop-at.invariant.level e r);
+                s.spread s.order s.here c.loop-at-test.true s.last (s.leaves c.loop-at-test.true) refl c.loop-at.invariant.level e r s);
             level =
                 c.loop-at.invariant.level ∙ ap (λ n. n + 1)
                 (sym (ap (λ xs. slice_index xs node) w.levels-is ∙ level_kept g.heads.now c.loop-at.levels c.loop-at.ways g.sink u x 0 node e node_level));

@@ -25,7 +25,7 @@ pub overflow_add-start : goal.overflow_add-start
 overflow_add-start c =
     let g = c.args.halves in
     let few = g.linked.few in
-    let room = queue_room c.loop-levels.levels c.loop-levels.end c.loop-levels.invariant.searched.count in
+    let room = queue_room c.loop-levels.levels c.loop-levels.end c.loop-levels.invariant.searched.spread.lined.count in
     let order = c.loop-levels.invariant.order in
     let long : length c.loop-levels.levels ≡ length g.firsts.now =
     c.loop-levels.auto.levels ∙ length-set c.clear.new.list g.sink 1 ∙ c.clear.auto.list ∙ c.requires.levels in
@@ -33,7 +33,7 @@ overflow_add-start c =
 
 pub loop-levels-smaller : goal.loop-levels-smaller
 loop-levels-smaller c =
-    let room = queue_room c.loop-levels.levels c.loop-levels.end c.loop-levels.invariant.searched.count in
+    let room = queue_room c.loop-levels.levels c.loop-levels.end c.loop-levels.invariant.searched.spread.lined.count in
     let order = c.loop-levels.invariant.order in
     let waits = c.if-start-end.false in
     let long : length c.scan-end.new.levels ≡ length c.loop-levels.levels = c.scan-end.auto.levels in
