@@ -4,6 +4,15 @@ use Rattle.flow_net.proofs.LevelLaws.{queue_room, queue_more, lined_set}
 use Rattle.flow_net.proofs.ends.spread.Goals as goal
 use Rattle.flow_net.proofs.ends.spread.Goals.{then-marks-to-eq0+then-rests-half-gt0, else-marks-to-eq0}
 
+pub offset_bounds-line-start : goal.offset_bounds-line-start
+offset_bounds-line-start c =
+    let a = queue_room c.args.marks.now c.args.end c.requires.lined.count in
+    let few = c.args.halves.linked.few in
+    omega arith
+
+pub bounds-line-start : goal.bounds-line-start
+bounds-line-start c = let a = queue_room c.args.marks.now c.args.end c.requires.lined.count in omega arith
+
 pub offset_bounds-line-end : goal.offset_bounds-line-end
 offset_bounds-line-end c =
     let a = queue_room c.loop-at.marks c.loop-at.end c.loop-at.invariant.lined.count in
