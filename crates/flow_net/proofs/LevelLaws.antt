@@ -89,8 +89,10 @@ pub lined_begin : (zeros queue : List ℕ) (u x : ℕ) → ((v : ℕ) → v < le
     → length queue ≡ length zeros → 0 < x → IsLined (set zeros u x) (set queue 0 u) 1
 lined_begin zeros queue u x none l long p =
     lined_set zeros queue 0 u x
-    (record { count = sum_below-zero (λ v. mark (slice_index zeros v)) (length zeros) (λ i k. mark-zero (slice_index zeros i) (none i k));
-    within = λ j k. absurd (omega arith) })
+    (record {
+      count = sum_below-zero (λ v. mark (slice_index zeros v)) (length zeros) (λ i k. mark-zero (slice_index zeros i) (none i k));
+      within = λ j k. absurd (omega arith);
+    })
     long l (none u l) p
 
 -- ---- a node more with a level

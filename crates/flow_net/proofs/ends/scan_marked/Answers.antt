@@ -1,4 +1,4 @@
-use Rattle.std.proofs.Common.{◌≡◌, ◌+◌, ◌-◌, ◌<◌, ◌≤◌, ◌∙◌, length, slice_index, get_or-set_other, refl, sym, ap, subst, arith}
+use Rattle.std.proofs.Common.{◌≡◌, ◌+◌, ◌-◌, ◌<◌, ◌∙◌, length, slice_index, get_or-set_other, refl, sym, ap, subst, arith}
 use Rattle.flow_net.specs.Residual.{head, mate}
 use Rattle.flow_net.proofs.LevelLaws.{queue_room, queue_more, level_kept, spread_take}
 use Rattle.flow_net.proofs.ends.scan_marked.Goals as goal
@@ -79,11 +79,11 @@ loop-at-preserved c =
                 (sym (ap (λ xs. slice_index xs node) w.levels-is ∙ level_kept g.heads.now c.loop-at.levels c.loop-at.ways g.sink u x 0 node e node_level));
           }
       | else-lower w ↦ record {
-          order = let a = w.end-is in omega arith;
-          here = ap (λ xs. slice_index xs c.args.start) w.queue-is ∙ i.here;
-          within = omega arith;
-          leaves = leaves;
-          spread = rw (w.levels-is, w.ways-is, w.queue-is, w.end-is) i.spread;
-          level = i.level ∙ ap (λ xs. slice_index xs node + 1) (sym w.levels-is);
-        }
+        order = let a = w.end-is in omega arith;
+        here = ap (λ xs. slice_index xs c.args.start) w.queue-is ∙ i.here;
+        within = omega arith;
+        leaves = leaves;
+        spread = rw (w.levels-is, w.ways-is, w.queue-is, w.end-is) i.spread;
+        level = i.level ∙ ap (λ xs. slice_index xs node + 1) (sym w.levels-is);
+      }
     ]

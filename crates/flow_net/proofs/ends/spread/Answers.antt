@@ -1,4 +1,4 @@
-use Rattle.std.proofs.Common.{◌≡◌, ◌+◌, ◌-◌, ◌<◌, ◌≤◌, ◌∙◌, length, sym, arith}
+use Rattle.std.proofs.Common.{◌≡◌, ◌-◌, ◌<◌, ◌∙◌, length, sym, arith}
 use Rattle.flow_net.specs.Residual.{head}
 use Rattle.flow_net.proofs.LevelLaws.{queue_room, queue_more, lined_set}
 use Rattle.flow_net.proofs.ends.spread.Goals as goal
@@ -47,16 +47,16 @@ loop-at-preserved c =
     let long : length c.loop-at.line ≡ length c.loop-at.marks = c.loop-at.auto.line ∙ c.requires.line ∙ sym c.loop-at.auto.marks in
     elim c.if-marks-to-eq0.branch [
       | then-marks-to-eq0+then-rests-half-gt0 w ↦ record {
-          order = let e = w.end-is in omega arith;
-          within = omega arith;
-          lined =
-              rw (w.marks-is, w.line-is, w.end-is)
-              (lined_set c.loop-at.marks c.loop-at.line c.loop-at.end (head g.heads.now (c.loop-at.at - 1)) c.args.mark s long (omega arith)
-              w.if-marks-to-eq0.true c.requires.positive);
-        }
+        order = let e = w.end-is in omega arith;
+        within = omega arith;
+        lined =
+            rw (w.marks-is, w.line-is, w.end-is)
+            (lined_set c.loop-at.marks c.loop-at.line c.loop-at.end (head g.heads.now (c.loop-at.at - 1)) c.args.mark s long (omega arith)
+            w.if-marks-to-eq0.true c.requires.positive);
+      }
       | else-marks-to-eq0 w ↦ record {
-          order = let e = w.end-is in omega arith;
-          within = omega arith;
-          lined = rw (w.marks-is, w.line-is, w.end-is) s;
-        }
+        order = let e = w.end-is in omega arith;
+        within = omega arith;
+        lined = rw (w.marks-is, w.line-is, w.end-is) s;
+      }
     ]
