@@ -1,27 +1,30 @@
 -- Lists of cut nets.
-use Rattle.std.proofs.Common.{◌≡◌, ◌≢◌, ◌⊎◌, inl, inr, ℕ, zero, suc, ◌<◌, Bool, true, false, ◌&&◌, not, nat_eq, List, [], ◌∷◌, ◌++◌, filter, length, All}
-use Rattle.std.proofs.Common.{Contains}
+use Rattle.std.proofs.Common.{◌≡◌, ◌≢◌, ◌⊎◌, inl, inr, ℕ, zero, suc, ◌+◌, ◌<◌, ◌≤◌, Bool, true, false, ◌&&◌, not, nat_eq, nat_lt, List, [], ◌∷◌, ◌++◌}
+use Rattle.std.proofs.Common.{filter, length, All, Contains}
 use Rattle.std.proofs.Common.{◌||◌, if◌then◌else◌, refl, sym, ap, subst, ◌∙◌, arith, true≢false, slice_index, slice_index_or, slice_set, replicate}
 use Rattle.std.proofs.Common.{length-set, get_or-set_same, get_or-set_other}
 use Rattle.std.specs.List.{list_any, flat_map, range_with_len}
 use Rattle.std.specs.Ordering.{nat_cmp}
 use Rattle.std.specs.Set.{is_member}
-use Rattle.std.proofs.lemmas.Bool.{and_parts, or_cases, eqb-true, eq-eqb, cases_eq}
+use Rattle.std.proofs.lemmas.Bool.{and_parts, or_cases, eqb-true, eq-eqb, cases_eq, cases_lt, lt-ltb, le-ltb}
 use Rattle.std.proofs.lemmas.Cmp.{nat_cmp_total}
+use Rattle.std.proofs.lemmas.List.{append-nil, length-replicate}
 use Rattle.std.proofs.lemmas.List.Elements.{All-nil, All-cons, All-append, All-contains, Contains-append_left, Contains-append_right, Contains-append_cases}
 use Rattle.hg_defs.specs.declared.moves.Move.{Move}
 use Rattle.hg_defs.specs.Hypergraph.{Hyper, net_count, net_of}
 use Rattle.hg_defs.specs.Incidence.{nets_of, is_on}
 use Rattle.hg_defs.specs.Partition.{block_of}
+use Rattle.hg_defs.specs.Pins.{pins_in}
 use Rattle.hg_defs.specs.Replay.{replay}
 use Rattle.hg_defs.specs.Sorting.{set_of}
+use Rattle.hg_defs.proofs.DistinctLaws.{pins_in-le}
 use Rattle.hg_defs.proofs.NumberingLaws.{Contains-from_filter, Contains_range}
 use Rattle.hg_defs.proofs.PlacementLaws.{Contains_filter}
 use Rattle.hg_defs.proofs.ReplayLaws.{replay-apart}
 use Rattle.hg_defs.proofs.SortLaws.{nat_cmp_exact, Contains-nil, Contains_head, Contains_later, increasing-set_of, Contains-set_of, Contains-from_set_of}
 use Rattle.round_log.specs.Rounds.{has_pin, touching}
 use Rattle.flow_pair.specs.Sides.{touching_nets}
-use Rattle.flow_pair.specs.CutNets.{HoldsTouching, HoldsCutOf, HoldsCut, AreCutLists, KeepNets, with_nets}
+use Rattle.flow_pair.specs.CutNets.{HoldsTouching, HoldsCutOf, HoldsCutIn, AreCutLists, AreCutListsBelow, KeepNets, with_nets}
 use Rattle.flow_pair.proofs.MemberLaws.{any_is, any_from, member_true, Contains-flat_map, Contains-from_flat_map, Contains-from_range, rising_is_filter}
 use Rattle.flow_pair.proofs.NetLaws.{all_of, touching_some, touching_none}
 use Rattle.flow_pair.proofs.PairLaws.{in_pair, IsRearranged}
@@ -88,23 +91,73 @@ unmixed p pins v none c = by (nat_eq (block_of p v) (block_of p (slice_index pin
     by false e =
         absurd (true≢false (sym (any_from (λ u. not (nat_eq (block_of p u) (block_of p (slice_index pins 0)))) pins v c (ap not e)) ∙ none))
 
-pub mixed_found : (h : Hyper) (p : List ℕ) → HoldsCut h p (filter (is_mixed h p) (range_with_len 0 (net_count h)))
-mixed_found h p = record {
-  nets = all_of (λ e. e < net_count h) (filter (is_mixed h p) (range_with_len 0 (net_count h)))
-      (λ e c. Contains-from_range (net_count h) e (Contains-from_filter (is_mixed h p) (range_with_len 0 (net_count h)) e c).0);
-  all = λ a b other e low t. Contains_filter (is_mixed h p) (range_with_len 0 (net_count h)) e
-      (Contains_range 0 (net_count h) e (omega arith) (omega arith)) (mixed e a b other (is_mixed h p e) refl t);
-}
+-- a net that touches two blocks is mixed
+touching_mixed : (h : Hyper) (p : List ℕ) (e a b : ℕ) → b ≢ a → (has_pin p (net_of h e) a && has_pin p (net_of h e) b) ≡ true → is_mixed h p e ≡ true
+touching_mixed h p e a b other t = by (is_mixed h p e) refl
   where
-    mixed : (e a b : ℕ) → b ≢ a → (m : Bool) → is_mixed h p e ≡ m → (has_pin p (net_of h e) a && has_pin p (net_of h e) b) ≡ true
-        → is_mixed h p e ≡ true
-    mixed e a b other true f t = f
-    mixed e a b other false f t =
+    by : (m : Bool) → is_mixed h p e ≡ m → is_mixed h p e ≡ true
+    by true f = f
+    by false f =
         let both = and_parts (has_pin p (net_of h e) a) (has_pin p (net_of h e) b) t in
         let u = any_is (λ v. nat_eq (block_of p v) a) (net_of h e).pins both.0 in
         let v = any_is (λ v. nat_eq (block_of p v) b) (net_of h e).pins both.1 in
         absurd (other (sym (eqb-true (block_of p v.0) b v.2) ∙ unmixed p (net_of h e).pins v.0 f v.1
         ∙ sym (unmixed p (net_of h e).pins u.0 f u.1) ∙ eqb-true (block_of p u.0) a u.2))
+
+-- not all pins are in a block where fewer are there than there are
+pub outside_count : (p pins : List ℕ) (b : ℕ) → list_any (λ v. not (nat_eq (block_of p v) b)) pins ≡ nat_lt (pins_in p pins b) (length pins)
+outside_count p [] b = refl
+outside_count p (v ∷ pins) b = by (nat_eq (block_of p v) b) (outside_count p pins b)
+  where
+    later : (m n : ℕ) → nat_lt m n ≡ nat_lt (1 + m) (suc n)
+    later m n = go (cases_lt m n)
+      where
+        go : (m < n) ⊎ (n ≤ m) → nat_lt m n ≡ nat_lt (1 + m) (suc n)
+        go (inl l) = lt-ltb m n l ∙ sym (lt-ltb (1 + m) (suc n) (omega arith))
+        go (inr l) = le-ltb m n l ∙ sym (le-ltb (1 + m) (suc n) (omega arith))
+
+    by : (t : Bool) → list_any (λ u. not (nat_eq (block_of p u) b)) pins ≡ nat_lt (pins_in p pins b) (length pins)
+        → (not t || list_any (λ u. not (nat_eq (block_of p u) b)) pins) ≡ nat_lt ((if t then 1 else 0) + pins_in p pins b) (suc (length pins))
+    by true e = e ∙ later (pins_in p pins b) (length pins)
+    by false e = sym (lt-ltb (0 + pins_in p pins b) (suc (length pins)) (let l = pins_in-le p pins b in omega arith))
+
+-- ---- those of a run
+
+pub hold_none : (h : Hyper) (p : List ℕ) (from : ℕ) → HoldsCutIn h p from from []
+hold_none h p from = record {
+  nets = All-nil (λ e. e < net_count h);
+  all = λ a b other e first last t. absurd (let l : from < from = omega arith in omega arith);
+}
+
+pub hold_more : (h : Hyper) (p : List ℕ) (from e : ℕ) (t : Bool) (now next : List ℕ) → e < net_count h → t ≡ is_mixed h p e
+    → next ≡ now ++ (if t then e ∷ [] else []) → HoldsCutIn h p from e now → HoldsCutIn h p from (e + 1) next
+hold_more h p from e t now next low is n s = subst (HoldsCutIn h p from (e + 1)) (sym n) (by t is)
+  where
+    by : (u : Bool) → u ≡ is_mixed h p e → HoldsCutIn h p from (e + 1) (now ++ (if u then e ∷ [] else []))
+    by true f = record {
+      nets = All-append (λ i. i < net_count h) now (e ∷ []) s.nets (All-cons (λ i. i < net_count h) e [] low (All-nil (λ i. i < net_count h)));
+      all = λ a b other i first last g. one a b other i first last g (cases_eq i e);
+    }
+      where
+        one : (a b : ℕ) → b ≢ a → (i : ℕ) → from ≤ i → i < e + 1 → (has_pin p (net_of h i) a && has_pin p (net_of h i) b) ≡ true
+            → (i ≡ e) ⊎ (i ≢ e) → Contains (now ++ e ∷ []) i
+        one a b other i first last g (inl same) =
+            subst (Contains (now ++ e ∷ [])) (sym same) (Contains-append_right now (e ∷ []) e (Contains_head e []))
+        one a b other i first last g (inr apart) = Contains-append_left now (e ∷ []) i (s.all a b other i first (omega arith) g)
+    by false f = record {
+      nets = subst (All (λ i. i < net_count h)) (sym (append-nil now)) s.nets;
+      all = λ a b other i first last g. one a b other i first last g (cases_eq i e);
+    }
+      where
+        one : (a b : ℕ) → b ≢ a → (i : ℕ) → from ≤ i → i < e + 1 → (has_pin p (net_of h i) a && has_pin p (net_of h i) b) ≡ true
+            → (i ≡ e) ⊎ (i ≢ e) → Contains (now ++ []) i
+        one a b other i first last g (inl same) = absurd (true≢false
+            (sym (touching_mixed h p e a b other (subst (λ x. (has_pin p (net_of h x) a && has_pin p (net_of h x) b) ≡ true) same g)) ∙ sym f))
+        one a b other i first last g (inr apart) =
+            subst (λ xs. Contains xs i) (sym (append-nil now)) (s.all a b other i first (omega arith) g)
+
+pub hold_all : (h : Hyper) (p : List ℕ) (from to e : ℕ) (list : List ℕ) → to ≤ e → HoldsCutIn h p from e list → HoldsCutIn h p from to list
+hold_all h p from to e list l s = record { nets = s.nets; all = λ a b other i first last t. s.all a b other i first (omega arith) t }
 
 -- ---- after some vertices moved
 
@@ -229,24 +282,40 @@ empty_at zero a none = refl
 empty_at (suc k) zero none = refl
 empty_at (suc k) (suc a) none = empty_at k a none
 
--- each cut net is in the lists of the blocks of its pins
-pub lists_found : (h : Hyper) (k : ℕ) (p : List ℕ) (cut : List ℕ) (lists : List (List ℕ)) → HoldsCut h p cut → length lists ≡ k
-    → ((a : ℕ) → All (λ e. e < net_count h) (slice_index_or lists a []))
-    → All (λ e. All (λ v. Contains (slice_index_or lists (block_of p v) []) e) (net_of h e).pins) cut → AreCutLists h k p lists
-lists_found h k p cut lists s long below noted = record {
-  count = long;
-  each = λ a l. record { nets = below a; all = λ b other e low t. found a b other e low t };
+pub lists_none : (h : Hyper) (k : ℕ) (p : List ℕ) (lists : List (List ℕ)) → lists ≡ replicate k [] → AreCutListsBelow h k p 0 lists
+lists_none h k p lists is = record {
+  count = ap length is ∙ length-replicate k [];
+  nets = λ a. subst (All (λ e. e < net_count h)) (sym (ap (λ (xs : List (List ℕ)). slice_index_or xs a []) is ∙ empty_at k a []))
+      (All-nil (λ (e : ℕ). e < net_count h));
+  all = λ a b other e low t. absurd (let l : e < 0 = low in omega arith);
+}
+
+-- each cut net of one more run is in the lists of the blocks of its pins
+pub lists_more : (h : Hyper) (k : ℕ) (p : List ℕ) (from to : ℕ) (cut : List ℕ) (lists lists' : List (List ℕ)) → HoldsCutIn h p from to cut
+    → KeepNets (net_count h) lists lists' → All (λ e. All (λ v. Contains (slice_index_or lists' (block_of p v) []) e) (net_of h e).pins) cut
+    → AreCutListsBelow h k p from lists → AreCutListsBelow h k p to lists'
+lists_more h k p from to cut lists lists' s kept noted were = record {
+  count = kept.count ∙ were.count;
+  nets = λ a. kept.below a (were.nets a);
+  all = λ a b other e low t. found a b other e low t (cases_lt e from);
 }
   where
-    found : (a b : ℕ) → b ≢ a → (e : ℕ) → e < net_count h → (has_pin p (net_of h e) a && has_pin p (net_of h e) b) ≡ true
-        → Contains (slice_index_or lists a []) e
-    found a b other e low t =
+    found : (a b : ℕ) → b ≢ a → (e : ℕ) → e < to → (has_pin p (net_of h e) a && has_pin p (net_of h e) b) ≡ true
+        → (e < from) ⊎ (from ≤ e) → Contains (slice_index_or lists' a []) e
+    found a b other e low t (inl before) = kept.kept a e (were.all a b other e before t)
+    found a b other e low t (inr first) =
         let both = and_parts (has_pin p (net_of h e) a) (has_pin p (net_of h e) b) t in
         let u = any_is (λ v. nat_eq (block_of p v) a) (net_of h e).pins both.0 in
-        let all = All-contains (λ f. All (λ v. Contains (slice_index_or lists (block_of p v) []) f) (net_of h f).pins) cut e noted
-        (s.all a b other e low t) in
-        subst (λ x. Contains (slice_index_or lists x []) e) (eqb-true (block_of p u.0) a u.2)
-        (All-contains (λ v. Contains (slice_index_or lists (block_of p v) []) e) (net_of h e).pins u.0 all u.1)
+        let all = All-contains (λ f. All (λ v. Contains (slice_index_or lists' (block_of p v) []) f) (net_of h f).pins) cut e noted
+        (s.all a b other e first low t) in
+        subst (λ x. Contains (slice_index_or lists' x []) e) (eqb-true (block_of p u.0) a u.2)
+        (All-contains (λ v. Contains (slice_index_or lists' (block_of p v) []) e) (net_of h e).pins u.0 all u.1)
+
+pub lists_all : (h : Hyper) (k : ℕ) (p : List ℕ) (lists : List (List ℕ)) → AreCutListsBelow h k p (net_count h) lists → AreCutLists h k p lists
+lists_all h k p lists are = record {
+  count = are.count;
+  each = λ a l. record { nets = are.nets a; all = λ b other e low t. are.all a b other e low t };
+}
 
 -- a pair's nets are in the list of its second block, too
 pub second_holds : (h : Hyper) (p : List ℕ) (a b : ℕ) (list : List ℕ) → a ≢ b → HoldsCutOf h p b list → HoldsTouching h p a b list

@@ -5,10 +5,10 @@ ghost use Rattle.std.specs.Prelude.{replicate, slice_index_or, IsTrue, false, �
 ghost use Rattle.hg_defs.specs.Hypergraph.{vertex_count, net_count, net_of};
 ghost use Rattle.hg_defs.specs.Partition.{block_of};
 ghost use Rattle.round_log.specs.Rounds.{touching};
-ghost use Rattle.flow_pair.specs.CutNets.{AreCutLists, KeepNets, with_nets};
+ghost use Rattle.flow_pair.specs.CutNets.{AreCutLists, AreCutListsBelow, HoldsCutOfRun, KeepNets, with_nets};
 ghost use Rattle.flow_pair.specs.Sides.{touching_nets};
 
-use crate::cut::{add_nets_of, any_between, cut_nets_of, nets_between};
+use crate::cut::{add_nets_of, any_between, cut_nets_by_run, cut_nets_in, nets_between};
 use crate::distinct::common_of;
 use flow_net::NoMemory;
 use hg_base::{Move, Verts};
@@ -17,6 +17,7 @@ use pin_plain::Partition;
 use std::alloc::Global;
 use std::marker::Model;
 use std::mem;
+use std::thread::Threads;
 
 /// A list for each block without nets.
 fn empty_lists(alloc: Global, k: u32) -> Result<Vec<Verts>, NoMemory>
@@ -85,6 +86,31 @@ fn note_nets(
     Ok(())
 }
 
+/// Notes the nets of all runs for the blocks of their pins, run by run. There is no memory where there was none for a
+/// run.
+fn note_runs(
+    lists: &mut Vec<Verts>,
+    h: &Hypergraph,
+    p: &Partition,
+    runs: &[Result<Vec<u32>, NoMemory>],
+) -> Result<(), NoMemory>
+    requires belongs { p.now.hyper ≡ h.now }
+    requires some { 0 < length runs.now }
+    requires cut { (i : ℕ) (d : _) → i < length runs.now → IfOk (slice_index_or runs.now i d) (λ cut. HoldsCutOfRun
+        h.now p.now.blocks (length runs.now) i cut.items) }
+    requires none { AreCutListsBelow h.now p.now.k p.now.blocks 0 lists.old.items }
+    ensures { OnOk result (AreCutListsBelow h.now p.now.k p.now.blocks (net_count h.now) lists.new.items) }
+{
+    let blocks = p.blocks();
+    for run in runs {
+        let Ok(cut) = run else {
+            return Err(NoMemory);
+        };
+        note_nets(lists, h, blocks, cut.as_slice())?;
+    }
+    Ok(())
+}
+
 /// Appends the nets of the vertices that moved to the list of a block.
 fn extend_list(
     alloc: Global,
@@ -124,10 +150,42 @@ impl CutNets {
         requires { p.now.hyper ≡ h.now }
         ensures { IfOk result (AreCutLists h.now p.now.k p.now.blocks) }
     {
-        let blocks = p.blocks();
+        let cut = cut_nets_in(alloc, h, p, 0, h.nets());
+        Self::of_runs(alloc, h, p, &[cut])
+    }
+
+    /// The cut nets of a partition, for which the workers look all at once, each in a run of the nets. There are as
+    /// many runs as workers, or fewer where the nets are few.
+    pub fn of_with<R: Threads + Sync>(
+        rt: &R,
+        alloc: Global,
+        h: &Hypergraph,
+        p: &Partition,
+        workers: u32,
+    ) -> Result<Self, NoMemory>
+        requires belongs { p.now.hyper ≡ h.now }
+        requires workers { (1 ≤ workers) × (workers ≤ 64) }
+        ensures { IfOk result (AreCutLists h.now p.now.k p.now.blocks) }
+    {
+        let runs = cut_nets_by_run(rt, alloc, h, p, workers)?;
+        Self::of_runs(alloc, h, p, runs.as_slice())
+    }
+
+    /// The cut nets of a partition, of which each run of the nets has a list.
+    fn of_runs(
+        alloc: Global,
+        h: &Hypergraph,
+        p: &Partition,
+        runs: &[Result<Vec<u32>, NoMemory>],
+    ) -> Result<Self, NoMemory>
+        requires belongs { p.now.hyper ≡ h.now }
+        requires some { 0 < length runs.now }
+        requires cut { (i : ℕ) (d : _) → i < length runs.now → IfOk (slice_index_or runs.now i d) (λ cut. HoldsCutOfRun
+            h.now p.now.blocks (length runs.now) i cut.items) }
+        ensures { IfOk result (AreCutLists h.now p.now.k p.now.blocks) }
+    {
         let mut lists = empty_lists(alloc, p.k())?;
-        let cut = cut_nets_of(alloc, h, p)?;
-        note_nets(&mut lists, h, blocks, cut.as_slice())?;
+        note_runs(&mut lists, h, p, runs)?;
         Ok(CutNets { lists })
     }
 

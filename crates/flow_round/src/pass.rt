@@ -22,7 +22,6 @@ use pin_plain::Partition;
 use refiner::{Log, Tally, Task};
 use round_log::{LoggedRound, Moves, RoundList};
 use std::alloc::Global;
-use std::thread;
 use std::thread::Threads;
 
 /// Records the round of a pair, where it has an end, and writes where it leads. Answers the cost afterwards.
@@ -120,7 +119,7 @@ fn workers_of(alloc: Global, h: &Hypergraph, count: u32) -> Result<Vec<Worker>, 
     Ok(workers)
 }
 
-/// The cut nets of a partition, and its cost. Where there is more than one worker, two threads find them.
+/// The cut nets of a partition, for which all workers look, and its cost.
 fn cut_and_cost<R: Threads + Sync>(
     rt: &R,
     alloc: Global,
@@ -128,27 +127,14 @@ fn cut_and_cost<R: Threads + Sync>(
     p: &Partition,
     workers: u32,
 ) -> Result<(CutNets, u64), NoMemory>
-    requires { p.now.hyper ≡ h.now }
+    requires belongs { p.now.hyper ≡ h.now }
+    requires workers { (1 ≤ workers) × (workers ≤ 64) }
     ensures cut { IfOk result (λ found. AreCutLists h.now p.now.k p.now.blocks found.0) }
     ensures cost { IfOk result (λ found. found.1 ≡ cost h.now p.now.blocks) }
     ensures bound { IfOk result (λ found. found.1 < 2 ^ 57) }
 {
-    if workers == 1 {
-        let cut = CutNets::of(alloc, h, p)?;
-        return Ok((cut, p.cost(h)));
-    }
-    let (cut, cost) = thread::join(
-        rt,
-        || -> Result<CutNets, NoMemory>
-            requires { p.now.hyper ≡ h.now }
-            ensures { IfOk result (AreCutLists h.entry.now p.entry.now.k p.entry.now.blocks) }
-        { CutNets::of(alloc, h, p) },
-        || -> u64
-            requires { p.now.hyper ≡ h.now }
-            ensures { (result ≡ cost h.entry.now p.entry.now.blocks) × (result < 2 ^ 57) }
-        { p.cost(h) },
-    );
-    Ok((cut?, cost))
+    let cut = CutNets::of_with(rt, alloc, h, p, workers)?;
+    Ok((cut, p.cost(h)))
 }
 
 /// Makes a flow pass over one level. The pairs of blocks are solved in waves of those with one sum,

@@ -1,4 +1,4 @@
-use Rattle.std.proofs.Common.{◌≡◌, ◌≤◌, List, Option, ◌++◌, ◌∙◌, [], length, sym, ap, ap₂, subst, arith, ◌+◌, ◌-◌, ◌*◌, false, Result, Ok, Err, OnErr}
+use Rattle.std.proofs.Common.{◌≡◌, List, Option, ◌++◌, ◌∙◌, [], length, sym, ap, ap₂, subst, arith, ◌+◌, ◌-◌, false, Result, Ok, Err, OnErr}
 use Rattle.std.proofs.lemmas.List.{append-nil}
 use Rattle.std.proofs.lemmas.List.Elements.{All-nil}
 use Rattle.hg_defs.specs.declared.moves.Move.{Move}
