@@ -61,14 +61,15 @@ fn open(
     Ok((table, Pass { seat }))
 }
 
-/// Makes a worker with this pass.
+/// Makes a worker with this pass. Its room is taken here, since the memory that a thread takes stays with
+/// the thread's arena; the worker fills it.
 fn worker_of(alloc: Global, words: &Words, h: &Hypergraph, pass: Pass) -> Result<Worker, NoMemory>
     requires { IsPass words.now.table_id stage.Idle pass }
     ensures { IfOk result (λ worker. IsWorker words.now.table_id (vertex_count h.now) worker) }
 {
     Ok(Worker {
         pass,
-        ratings: Ratings::make(alloc, h.vertices())?,
+        ratings: Ratings::room(alloc, h.vertices())?,
         lone: None,
         failed: false,
     })

@@ -1,6 +1,6 @@
 //! The ratings of the vertices that the neighbours of one vertex name.
 
-ghost use Rattle.std.specs.Prelude.{◌≡◌, ◌<◌, IfOk, IfSome, OnErr, All, vec_len};
+ghost use Rattle.std.specs.Prelude.{◌≡◌, ◌<◌, IfSome, OnOk, All, vec_len};
 
 use hg_base::NoMemory;
 use std::alloc::Global;
@@ -26,8 +26,8 @@ pub(crate) struct Named {
     pub(crate) own: bool,
 }
 
-/// The ratings of a worker: one for each vertex, which counts where its stamp is that of the visit,
-/// and the vertices that were named and not tried at this visit.
+/// The ratings of a worker: once filled, one for each vertex, which counts where its stamp is that of
+/// the visit, and the vertices that were named and not tried at this visit.
 #[derive(Drop)]
 pub(crate) struct Ratings {
     pub(crate) ratings: Vec<Rating>,
@@ -36,19 +36,28 @@ pub(crate) struct Ratings {
 }
 
 impl Ratings {
-    /// Makes room for the ratings of so many vertices.
-    pub(crate) fn make(alloc: Global, vertices: u32) -> Result<Self, NoMemory>
-        ensures { IfOk result (λ r. vec_len r.ratings ≡ vertices) }
+    /// Takes room for the ratings of so many vertices, which is filled later: who writes to a page
+    /// first waits for it.
+    pub(crate) fn room(alloc: Global, vertices: u32) -> Result<Self, NoMemory> {
+        Ok(Ratings {
+            ratings: Vec::with_capacity(alloc, vertices as usize)?,
+            named: Vec::with_capacity(alloc, vertices as usize)?,
+        })
+    }
+
+    /// Gives each of so many vertices a rating that counts at no visit.
+    pub(crate) fn fill(&mut self, vertices: u32) -> Result<(), NoMemory>
+        ensures { OnOk result (vec_len self.new.ratings ≡ vertices) }
     {
         let unnamed = Rating {
             visit: NOBODY,
             net: NOBODY,
             sum: 0,
         };
-        Ok(Ratings {
-            ratings: vec![in alloc; unnamed; vertices as usize]?,
-            named: Vec::with_capacity(alloc, vertices as usize)?,
-        })
+        self.named.clear();
+        self.ratings.clear();
+        self.ratings.resize(vertices as usize, unnamed)?;
+        Ok(())
     }
 
     /// Begins a visit.

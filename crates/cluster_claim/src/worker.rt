@@ -213,8 +213,10 @@ impl Worker {
     ) -> Result<(), NoMemory>
         requires board { IsBoard words.now.key words.now.table_id h.now cap }
         requires worker { IsWorker words.now.table_id (vertex_count h.now) self.old }
+        requires ratings { vec_len self.old.ratings.ratings ≡ vertex_count h.now }
         requires vertex { vertex < vertex_count h.now }
-        ensures { IsWorker words.now.table_id (vertex_count h.now) self.new }
+        ensures worker { IsWorker words.now.table_id (vertex_count h.now) self.new }
+        ensures ratings { vec_len self.new.ratings.ratings ≡ vertex_count h.now }
     {
         if !take(words, &mut self.pass, h, cap, vertex) {
             return Ok(());
@@ -237,8 +239,8 @@ impl Worker {
         Ok(())
     }
 
-    /// Visits the vertices of a run in rising number, from a place that the seed tells on, and goes
-    /// round. It passes the gate before each.
+    /// Fills the ratings, and visits the vertices of a run in rising number, from a place that the
+    /// seed tells on, and goes round. It passes the gate before each.
     pub(crate) fn run<G: Gate>(
         &mut self,
         words: &Words,
@@ -257,6 +259,10 @@ impl Worker {
     {
         let count = span.to - span.from;
         if count == 0 {
+            return;
+        }
+        if self.ratings.fill(h.vertices()).is_err() {
+            self.failed = true;
             return;
         }
         let mut place = Lcg64Xsh32::new(seed, u64::from(number)).next_word() % count;
