@@ -1,24 +1,15 @@
 -- The passes of a round, and the workers that have them.
 use Rattle.std.proofs.Common.{◌≡◌, ℕ, ◌<◌, List, [], ◌∷◌, ◌++◌, length, map, take, drop, get_or, All, sym, ap, ◌∙◌, arith}
 use Rattle.std.proofs.lemmas.List.{length-map, get_or-map, append-nil, take_all, drop_all}
-use Rattle.hg_defs.specs.Hypergraph.{Hyper, vertex_count, net_count}
 use Rattle.move_core.specs.declared.account.Account.{Account}
 use Rattle.move_core.specs.declared.account.Stage.TheVariants.{Idle}
 use Rattle.move_table.specs.Calls.{RacedRound, RacedPass, AreFresh, IsPassOf}
 use Rattle.move_table.specs.Closing.{ArePassesOf}
 use Rattle.fm_search.specs.declared.worker.Worker.{Worker}
-use Rattle.fm_search.specs.Standing.{Standing, Size, standing_of, size_for, IsOf, IsFit}
+use Rattle.fm_search.specs.Standing.{Standing, standing_of}
 use Rattle.fm_search.specs.Workers.{IsFreshAt, AreWorkers, AreFreshWorkers}
 
-fits : (r : RacedRound) (h : Hyper) (k : ℕ) (s : Standing) (d : Size) → IsOf r s → d ≡ size_for h k → IsFit r h k s d
-fits r h k s d belongs size = record {
-  belongs = belongs;
-  vertices = ap (λ (x : Size). x.vertices) size;
-  nets = ap (λ (x : Size). x.nets) size;
-  blocks = ap (λ (x : Size). x.blocks) size;
-}
-
-module _ (r : RacedRound) (h : Hyper) (k : ℕ) (workers : List Worker) where
+module _ (r : RacedRound) (k : ℕ) (workers : List Worker) where
   pub as_many : (passes : List RacedPass) → map (λ w. w.mover) workers ≡ map standing_of passes → length workers ≡ length passes
   as_many passes movers = sym (length-map workers (λ w. w.mover)) ∙ ap length movers ∙ length-map passes standing_of
 
@@ -31,38 +22,32 @@ module _ (r : RacedRound) (h : Hyper) (k : ℕ) (workers : List Worker) where
       ∙ get_or-map standing_of passes i p (standing_of p) l
 
   pub fresh_workers : (passes : List RacedPass) → AreFresh r.table r.terms passes → map (λ w. w.mover) workers ≡ map standing_of passes
-      → All (λ w. w.desk ≡ size_for h k) workers → AreFreshWorkers r h k workers
-  fresh_workers passes fresh movers sizes i w l = by passes fresh movers (let n = as_many passes movers in omega arith)
+      → All (λ w. w.desk.blocks ≡ k) workers → AreFreshWorkers r k workers
+  fresh_workers passes fresh movers blocks i w l = by passes fresh movers (let n = as_many passes movers in omega arith)
     where
       by : (passes : List RacedPass) → AreFresh r.table r.terms passes → map (λ w. w.mover) workers ≡ map standing_of passes → i < length passes
-          → IsFreshAt r h k i (get_or workers i w)
+          → IsFreshAt r k i (get_or workers i w)
       by [] fresh movers low = absurd (omega arith)
       by (p ∷ passes) fresh movers low =
           let f = fresh.each i p low in
           let s = standing_at (p ∷ passes) movers i w p low in
           record {
             at = record {
-              fit = fits r h k (get_or workers i w).mover (get_or workers i w).desk
-                  (record { same_table = ap (λ (x : Standing). x.table) s ∙ f.same_table; same_terms = ap (λ (x : Standing). x.terms) s ∙ f.same_terms })
-                  (sizes i w l);
+              belongs = record {
+                same_table = ap (λ (x : Standing). x.table) s ∙ f.same_table;
+                same_terms = ap (λ (x : Standing). x.terms) s ∙ f.same_terms;
+              };
+              blocks = blocks i w l;
               number = ap (λ (x : Standing). x.number) s ∙ f.number;
             };
             seeds = ap (λ (x : Standing). x.seeds) s ∙ ap (λ (a : Account). a.seeds) f.account;
           }
 
-  -- the memory of each is as large as it was
-  pub same_sizes : AreWorkers r h k workers → All (λ w. w.desk ≡ size_for h k) workers
-  same_sizes s i w l =
-      let f = (s i w l).fit in
-      sized (get_or workers i w).desk f.vertices f.nets f.blocks
-    where
-      sized : (d : Size) → d.vertices ≡ vertex_count h → d.nets ≡ net_count h → d.blocks ≡ k → d ≡ size_for h k
-      sized d a b c =
-          ap (λ v. record { vertices = v; nets = d.nets; blocks = d.blocks }) a
-          ∙ ap (λ n. record { vertices = vertex_count h; nets = n; blocks = d.blocks }) b
-          ∙ ap (λ m. record { vertices = vertex_count h; nets = net_count h; blocks = m }) c
+  -- the memory of each is for as many blocks as it was
+  pub same_blocks : AreWorkers r k workers → All (λ w. w.desk.blocks ≡ k) workers
+  same_blocks s i w l = (s i w l).blocks
 
-  pub passes_again : (passes : List RacedPass) → AreWorkers r h k workers → map standing_of passes ≡ map (λ w. w.mover) workers
+  pub passes_again : (passes : List RacedPass) → AreWorkers r k workers → map standing_of passes ≡ map (λ w. w.mover) workers
       → All (λ p. p.view.account.stage ≡ Idle) passes → length workers ≡ r.terms.workers → ArePassesOf r passes
   passes_again passes s movers idle all =
       let many = as_many passes (sym movers) in
@@ -84,8 +69,8 @@ module _ (r : RacedRound) (h : Hyper) (k : ℕ) (workers : List Worker) where
           let e : (get_or workers i w).mover ≡ standing_of (get_or passes i p) = standing_at passes (sym movers) i w p l in
           let f = s i w (omega arith) in (
             record {
-              same_table = sym (ap (λ (x : Standing). x.table) e) ∙ f.fit.belongs.same_table;
-              same_terms = sym (ap (λ (x : Standing). x.terms) e) ∙ f.fit.belongs.same_terms;
+              same_table = sym (ap (λ (x : Standing). x.table) e) ∙ f.belongs.same_table;
+              same_terms = sym (ap (λ (x : Standing). x.terms) e) ∙ f.belongs.same_terms;
             },
             sym (ap (λ (x : Standing). x.number) e) ∙ f.number,
           )

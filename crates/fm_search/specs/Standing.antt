@@ -38,6 +38,6 @@ pub record IsFit (r : RacedRound) (h : Hyper) (k : ℕ) (s : Standing) (d : Size
   pub nets : d.nets ≡ net_count h
   pub blocks : d.blocks ≡ k
 
--- the memory of workers for searches of a hypergraph and so many blocks
+-- memory that is filled for searches of a hypergraph and so many blocks
 abbrev pub size_for : Hyper → ℕ → Size
 size_for h k = record { vertices = vertex_count h; nets = net_count h; blocks = k }

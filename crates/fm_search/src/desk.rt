@@ -1,8 +1,8 @@
 //! What a worker remembers while it searches. It is made once a pass, and used for all its searches.
 
 ghost use Rattle.std.specs.Prelude.{◌≡◌, ◌≢◌, ◌*◌, ◌<◌, ◌≤◌, IfOk, IfSome, OnOk, vec_len};
-ghost use Rattle.hg_defs.specs.Hypergraph.{vertex_count, net_count};
-ghost use Rattle.fm_search.specs.Standing.{IsOf};
+ghost use Rattle.hg_defs.specs.Hypergraph.{vertex_count};
+ghost use Rattle.fm_search.specs.Standing.{IsOf, size_for};
 
 use crate::cells::{BLANK, Cell, Used};
 use crate::change::Change;
@@ -66,6 +66,7 @@ fn reach_rows(used: &mut Vec<Used>, count: usize) -> Result<(), NoMemory>
 /// it is.
 #[derive(Drop)]
 pub(crate) struct Desk {
+    alloc: Global,
     k: u32,
     search: u32,
     round: u32,
@@ -93,29 +94,48 @@ impl Model for Desk {
 }
 
 impl Desk {
-    /// Makes room for searches of a hypergraph and so many blocks.
+    /// Takes room for searches of a hypergraph and so many blocks, and leaves it to the worker to fill it.
     pub(crate) fn make(alloc: Global, h: &Hypergraph, k: u32) -> Result<Self, NoMemory>
         requires { k ≤ 256 }
-        ensures { IfOk result (λ d. d ≡ record { vertices = vertex_count h.now; nets = net_count h.now; blocks = k }) }
+        ensures { IfOk result (λ d. d.blocks ≡ k) }
     {
+        Ok(Desk {
+            alloc,
+            k,
+            search: 0,
+            round: 0,
+            next: 0,
+            marks: Vec::with_capacity(alloc, h.vertices() as usize)?,
+            walked: Vec::with_capacity(alloc, h.nets() as usize)?,
+            cells: Vec::new(alloc),
+            used: Vec::new(alloc),
+            listed: Vec::new(alloc),
+            queue: GainHeap::start(alloc, 0),
+        })
+    }
+
+    /// Fills its room for the vertices and nets of a hypergraph, unless it is filled by now.
+    pub(crate) fn fill(&mut self, h: &Hypergraph) -> Result<(), NoMemory>
+        ensures blocks { self.new.blocks ≡ self.old.blocks }
+        ensures full { OnOk result (self.new ≡ size_for h.now self.old.blocks) }
+    {
+        let (vertices, nets) = (h.vertices() as usize, h.nets() as usize);
+        if self.marks.len() == vertices && self.walked.len() == nets {
+            return Ok(());
+        }
         let mark = Mark {
             search: 0,
             row: 0,
             round: 0,
             listed: false,
         };
-        Ok(Desk {
-            k,
-            search: 0,
-            round: 0,
-            next: 0,
-            marks: vec![in alloc; mark; h.vertices() as usize]?,
-            walked: vec![in alloc; 0u32; h.nets() as usize]?,
-            cells: vec![in alloc; BLANK; k as usize]?,
-            used: vec![in alloc; Used::none(); 1]?,
-            listed: Vec::new(alloc),
-            queue: GainHeap::start(alloc, h.vertices()),
-        })
+        reach(&mut self.cells, self.k as usize)?;
+        reach_rows(&mut self.used, 1)?;
+        self.walked.resize(nets, 0)?;
+        self.listed.clear();
+        self.marks.resize(vertices, mark)?;
+        self.queue = GainHeap::start(self.alloc, h.vertices());
+        Ok(())
     }
 
     /// Begins a round, in which no vertex is gone yet.

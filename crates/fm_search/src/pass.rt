@@ -6,7 +6,6 @@ ghost use Rattle.round_log.specs.declared.record.Kind.TheVariants.{Search};
 ghost use Rattle.round_log.specs.declared.record.LoggedRound.{LoggedRound};
 ghost use Rattle.round_log.specs.Passes.{saved};
 ghost use Rattle.refiner.specs.Logging.{LogsPass, LogsRounds};
-ghost use Rattle.fm_search.specs.Standing.{size_for};
 ghost use Rattle.fm_search.specs.Possible.{IsFirst};
 ghost use Rattle.fm_search.specs.Logging.{LogsSearchRound, TalliesRound, last_of};
 
@@ -42,10 +41,10 @@ fn log_round<H: Threads + Sync, G: Gate>(
     requires belongs { p.hyper ≡ h.now }
     requires fits { Fits h.now p.k p.limit p.blocks }
     requires workers { (1 ≤ task.now.workers) × (task.now.workers ≤ 64) }
-    requires desks { All (λ d. d ≡ size_for h.now p.k) desks.old.items }
+    requires desks { All (λ d. d.blocks ≡ p.k) desks.old.items }
     requires first { IsFirst h.now p.k p.limit p.blocks first.0 first.1 }
     ensures round { IfOk result (λ q. LogsSearchRound h.now task.now p q log.old log.new) }
-    ensures desks { All (λ d. d ≡ size_for h.now p.k) desks.new.items }
+    ensures desks { All (λ d. d.blocks ≡ p.k) desks.new.items }
     ensures err { OnErr result (log.new ≡ log.old) }
 {
     let _parted = p.blocks();
@@ -94,11 +93,11 @@ fn search_round<H: Threads + Sync, G: Gate>(
     requires belongs { p.hyper ≡ h.now }
     requires fits { Fits h.now p.k p.limit p.blocks }
     requires workers { (1 ≤ task.now.workers) × (task.now.workers ≤ 64) }
-    requires desks { All (λ d. d ≡ size_for h.now p.k) desks.old.items }
+    requires desks { All (λ d. d.blocks ≡ p.k) desks.old.items }
     requires first { IsFirst h.now p.k p.limit p.blocks first.0 first.1 }
     requires tallied { (tally.old.rounds < 2 ^ 62 + 4) × (tally.old.gain < 2 ^ 62 + 2 ^ 59) }
     ensures round { IfOk result (λ r. TalliesRound h.now task.now p r.0 log.old log.new tally.old tally.new r.1) }
-    ensures desks { All (λ d. d ≡ size_for h.now p.k) desks.new.items }
+    ensures desks { All (λ d. d.blocks ≡ p.k) desks.new.items }
     ensures err { OnErr result ((log.new ≡ log.old) × (tally.new ≡ tally.old)) }
 {
     let part = log_round(rt, gate, alloc, h, task, p, log, desks, first)?;

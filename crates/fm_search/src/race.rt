@@ -4,7 +4,7 @@ ghost use Rattle.std.specs.Prelude.{◌≡◌, ◌<◌, ◌≤◌, IfOk, All, le
 ghost use Rattle.hg_defs.specs.Partition.{Fits};
 ghost use Rattle.hg_defs.specs.Replay.{replay};
 ghost use Rattle.move_core.specs.declared.account.Stage.TheVariants.{Idle};
-ghost use Rattle.fm_search.specs.Standing.{standing_of, size_for};
+ghost use Rattle.fm_search.specs.Standing.{standing_of};
 ghost use Rattle.fm_search.specs.Workers.{AreWorkers, AreFreshWorkers, IsWorkerAt, IsFreshAt};
 
 use crate::desk::Desk;
@@ -25,9 +25,9 @@ use std::thread::Threads;
 /// The memory of a worker: one that was used before, or else a new one.
 fn desk_for(alloc: Global, h: &Hypergraph, k: u32, desks: &mut Vec<Desk>) -> Result<Desk, NoMemory>
     requires few { k ≤ 256 }
-    requires desks { All (λ d. d ≡ size_for h.now k) desks.old.items }
-    ensures desk { IfOk result (λ d. d ≡ size_for h.now k) }
-    ensures desks { All (λ d. d ≡ size_for h.now k) desks.new.items }
+    requires desks { All (λ d. d.blocks ≡ k) desks.old.items }
+    ensures desk { IfOk result (λ d. d.blocks ≡ k) }
+    ensures desks { All (λ d. d.blocks ≡ k) desks.new.items }
 {
     match desks.pop() {
         Some(desk) => Ok(desk),
@@ -45,10 +45,10 @@ fn workers_of(
 ) -> Result<Vec<Worker>, NoMemory>
     requires few { k ≤ 256 }
     requires idle { All (λ p. p.view.account.stage ≡ Idle) passes }
-    requires desks { All (λ d. d ≡ size_for h.now k) desks.old.items }
+    requires desks { All (λ d. d.blocks ≡ k) desks.old.items }
     ensures movers { IfOk result (λ workers. map (λ w. w.mover) workers.items ≡ map standing_of passes) }
-    ensures sizes { IfOk result (λ workers. All (λ w. w.desk ≡ size_for h.now k) workers.items) }
-    ensures desks { All (λ d. d ≡ size_for h.now k) desks.new.items }
+    ensures blocks { IfOk result (λ workers. All (λ w. w.desk.blocks ≡ k) workers.items) }
+    ensures desks { All (λ d. d.blocks ≡ k) desks.new.items }
 {
     let mut workers = Vec::with_capacity(alloc, passes.len())?;
     'passes: for pass in passes.into_vec() {
@@ -66,15 +66,14 @@ fn workers_of(
 fn passes_of(
     alloc: Global,
     workers: Vec<Worker>,
-    h: &Hypergraph,
     k: u32,
     desks: &mut Vec<Desk>,
 ) -> Result<Passes, NoMemory>
-    requires sizes { All (λ w. w.desk ≡ size_for h.now k) workers.items }
-    requires desks { All (λ d. d ≡ size_for h.now k) desks.old.items }
+    requires blocks { All (λ w. w.desk.blocks ≡ k) workers.items }
+    requires desks { All (λ d. d.blocks ≡ k) desks.old.items }
     ensures movers { IfOk result (λ passes. map standing_of passes ≡ map (λ w. w.mover) workers.items) }
     ensures idle { IfOk result (λ passes. All (λ p. p.view.account.stage ≡ Idle) passes) }
-    ensures desks { All (λ d. d ≡ size_for h.now k) desks.new.items }
+    ensures desks { All (λ d. d.blocks ≡ k) desks.new.items }
 {
     let mut passes = Vec::with_capacity(alloc, workers.len())?;
     'workers: for worker in workers {
@@ -96,18 +95,17 @@ fn search_all<H: Threads + Sync, G: Gate>(
     shared: &Shared<'_>,
     workers: &mut [Worker],
 )
-    requires fresh { AreFreshWorkers shared.now.round.now shared.now.h.now shared.now.k workers.old }
+    requires fresh { AreFreshWorkers shared.now.round.now shared.now.k workers.old }
     requires few { length workers.old ≤ 64 }
-    ensures workers { AreWorkers shared.now.round.now shared.now.h.now shared.now.k workers.new }
+    ensures workers { AreWorkers shared.now.round.now shared.now.k workers.new }
     ensures same { length workers.new ≡ length workers.old }
 {
     each(
         rt,
         workers,
         &|i, worker: &mut Worker|
-            requires { (i < 64) × IsFreshAt shared.now.round.now shared.now.h.now shared.now.k i worker.now }
-            ensures { IsWorkerAt shared.entry.now.round.now shared.entry.now.h.now shared.entry.now.k i
-                worker.exit.now }
+            requires { (i < 64) × IsFreshAt shared.now.round.now shared.now.k i worker.now }
+            ensures { IsWorkerAt shared.entry.now.round.now shared.entry.now.k i worker.exit.now }
         { worker.run(shared, gate, i as u32) },
     );
 }
@@ -125,11 +123,11 @@ pub(crate) fn race<H: Threads + Sync, G: Gate>(
     requires belongs { p.hyper ≡ h.now }
     requires fits { Fits h.now p.k p.limit p.blocks }
     requires workers { (1 ≤ task.now.workers) × (task.now.workers ≤ 64) }
-    requires desks { All (λ d. d ≡ size_for h.now p.k) desks.old.items }
+    requires desks { All (λ d. d.blocks ≡ p.k) desks.old.items }
     ensures opening { IfOk result (λ c. c.opening ≡ p.blocks) }
     ensures part { IfOk result (λ c. c.part ≡ record p { blocks = replay c.opening c.moves }) }
     ensures gains { IfOk result (λ c. length c.gains ≡ task.now.workers) }
-    ensures desks { All (λ d. d ≡ size_for h.now p.k) desks.new.items }
+    ensures desks { All (λ d. d.blocks ≡ p.k) desks.new.items }
 {
     let (k, limit) = (p.k(), p.limit());
     let seeds = cut_vertices(rt, alloc, h, &p, task.workers)?;
@@ -153,7 +151,7 @@ pub(crate) fn race<H: Threads + Sync, G: Gate>(
     if progress.is_stopped() {
         return Err(NoMemory);
     }
-    let passes = passes_of(alloc, workers, h, k, desks)?;
+    let passes = passes_of(alloc, workers, k, desks)?;
     match round.close(rt, alloc, passes) {
         Ok(closed) => Ok(closed),
         Err(_) => Err(NoMemory),

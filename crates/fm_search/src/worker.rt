@@ -3,7 +3,7 @@
 ghost use Rattle.std.specs.Prelude.{◌≡◌, ◌≢◌, ◌<◌, ◌≤◌, IfOk, IfSome, length};
 ghost use Rattle.hg_defs.specs.Hypergraph.{vertex_count, net_count, net_of, IsFree};
 ghost use Rattle.hg_defs.specs.Partition.{block_of};
-ghost use Rattle.fm_search.specs.Standing.{IsFit};
+ghost use Rattle.fm_search.specs.Standing.{IsFit, IsOf};
 
 use crate::change::Change;
 use crate::desk::Desk;
@@ -203,7 +203,7 @@ impl Worker {
     }
 
     /// Draws lots of seeds, and grows a search from each lot. It passes the gate before each draw.
-    pub(crate) fn run<G: Gate>(&mut self, shared: &Shared<'_>, gate: &G, number: u32)
+    fn draw_lots<G: Gate>(&mut self, shared: &Shared<'_>, gate: &G, number: u32)
         requires fit { IsFit shared.now.round.now shared.now.h.now shared.now.k self.old.mover self.old.desk }
         requires fresh { self.old.mover.seeds ≡ 0 }
         ensures mover { self.new.mover ≡ record self.old.mover { seeds = self.new.mover.seeds } }
@@ -225,5 +225,20 @@ impl Worker {
                 return;
             }
         }
+    }
+
+    /// Fills its memory where it is new, and then draws lots of seeds and searches from them.
+    pub(crate) fn run<G: Gate>(&mut self, shared: &Shared<'_>, gate: &G, number: u32)
+        requires belongs { IsOf shared.now.round.now self.old.mover }
+        requires blocks { self.old.desk.blocks ≡ shared.now.k }
+        requires fresh { self.old.mover.seeds ≡ 0 }
+        ensures mover { self.new.mover ≡ record self.old.mover { seeds = self.new.mover.seeds } }
+        ensures blocks { self.new.desk.blocks ≡ self.old.desk.blocks }
+    {
+        if self.desk.fill(shared.h).is_err() {
+            shared.progress.stop();
+            return;
+        }
+        self.draw_lots(shared, gate, number);
     }
 }

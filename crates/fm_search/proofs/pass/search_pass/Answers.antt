@@ -7,7 +7,6 @@ use Rattle.round_log.specs.declared.record.Kind.TheVariants.{Search}
 use Rattle.round_log.specs.declared.record.LoggedRound.{LoggedRound}
 use Rattle.pin_plain.specs.Parted.{Parted}
 use Rattle.refiner.specs.declared.pass.Tally.{Tally}
-use Rattle.fm_search.specs.Standing.{size_for}
 use Rattle.refiner.specs.Logging.{LogsRounds}
 use Rattle.fm_search.proofs.PassLaws.{IsUnderway, under_part, under_whole, under_belongs, under_room, under_more}
 use Rattle.fm_search.proofs.pass.search_pass.Goals as goal
@@ -77,6 +76,6 @@ rounds-preserved g c =
           c.rounds.invariant.underway c.rounds-test.true refl (c.in-Some.first.0, c.in-Some.first.1, first.possible) c.in_ok-next.next
           c.search_round.new.tally c.search_round.new.log c.in_ok-next.kept round);
       desks =
-          subst (λ k. All (λ d. d ≡ size_for c.args.h.now k) c.search_round.new.desks.items)
+          subst (λ k. All (λ d. d.blocks ≡ k) c.search_round.new.desks.items)
           (sym (ap (λ (x : Parted). x.k) round.logs.logged.leads)) c.in_ok-next.ensures.desks;
     }

@@ -1,10 +1,9 @@
 use Rattle.std.proofs.Common.{◌≡◌, true, All}
-use Rattle.fm_search.specs.Standing.{size_for}
 use Rattle.fm_search.proofs.PassLaws.{IsUnderway}
 use Rattle.fm_search.proofs.pass.search_pass.Given as goal
 
 abbrev pub invariant-rounds : goal.invariant-rounds
 invariant-rounds g l = record {
   underway : IsUnderway l.h l.task l.fn.p l.fn.tally l.fn.log l.counter true l.part l.tally l.log;
-  desks : All (λ d. d ≡ size_for l.h l.part.k) l.desks.items;
+  desks : All (λ d. d.blocks ≡ l.part.k) l.desks.items;
 }

@@ -2,7 +2,7 @@
 use Rattle.std.proofs.Common.{◌≡◌, ◌∷◌, [], ◌++◌, map, All, ap, ap₂, sym, ◌∙◌, subst}
 use Rattle.std.proofs.lemmas.List.{map_push}
 use Rattle.std.proofs.lemmas.List.Elements.{All-push}
-use Rattle.fm_search.specs.Standing.{standing_of, size_for}
+use Rattle.fm_search.specs.Standing.{standing_of}
 use Rattle.move_core.specs.declared.account.Stage.TheVariants.{Idle}
 use Rattle.std.specs.Vec.Iter.{into_iter_steps}
 use Rattle.fm_search.proofs.TakenLaws.{taken_item}
@@ -21,7 +21,7 @@ passes-preserved c =
           ∙ map_push (λ w. w.mover) c.passes.workers.items _
           ∙ ap₂ (λ xs x. xs ++ x ∷ []) c.passes.invariant.movers c.of.ensures
           ∙ sym (map_push standing_of c.passes.yielded c.in-Some.pass);
-      sizes = subst (All (λ w. w.desk ≡ size_for c.args.h.now c.args.k)) (sym c.in_ok-push.ensures.items)
-          (All-push (λ w. w.desk ≡ size_for c.args.h.now c.args.k) c.passes.workers.items _ c.passes.invariant.sizes c.in_ok-desk.ensures.desk);
+      blocks = subst (All (λ w. w.desk.blocks ≡ c.args.k)) (sym c.in_ok-push.ensures.items)
+          (All-push (λ w. w.desk.blocks ≡ c.args.k) c.passes.workers.items _ c.passes.invariant.blocks c.in_ok-desk.ensures.desk);
       desks = c.desk_for.ensures.desks;
     }
