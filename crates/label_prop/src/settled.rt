@@ -3,27 +3,29 @@
 //! After a raced round most of those that gain are marked, and they are few, so that one that gains is found
 //! long before all vertices are looked at.
 
-ghost use Rattle.std.specs.Prelude.{◌≡◌, ◌<◌, ◌≤◌, ◌↔◌, ℕ, All, IfOk, IsTrue, length};
-ghost use Rattle.std.specs.Prelude.{slice_index_or, true};
+ghost use Rattle.std.specs.Prelude.{◌≡◌, ◌<◌, ◌≤◌, ◌↔◌, All, IfOk, IsTrue, length};
 ghost use Rattle.hg_defs.specs.Hypergraph.{vertex_count};
 ghost use Rattle.hg_defs.specs.Moves.{IsSettled};
-ghost use Rattle.label_prop.specs.Runs.{IsSettledRun};
+ghost use Rattle.label_prop.specs.Runs.{AreNotes, IsSettledRun};
 
 use crew::{each, span_of};
 use hg_base::NoMemory;
 use incidence::Hypergraph;
 use pin_plain::Partition;
 use std::alloc::Global;
-use std::sync::atomic::AtomicBool;
 use std::sync::atomic::Ordering::SeqCst;
+use std::sync::atomic::{AtomicBool, AtomicUsize};
 use std::thread::Threads;
 
 /// So many vertices are asked at once at most.
 const MOST_LISTED: usize = 64;
 
-/// A thread is worth so many vertices or nets at least: to start it takes as long as to ask a thousand vertices of few
+/// A run has so many vertices or nets at least: to start a thread takes as long as to ask a thousand vertices of few
 /// nets, and the few vertices of a coarse level have many.
 const LEAST_ITEMS: u32 = 4096;
+
+/// There are so many runs at most.
+const MOST_RUNS: u32 = 64;
 
 /// Whether one of the listed vertices has a move that makes the partition cheaper.
 fn one_gains(alloc: Global, h: &Hypergraph, p: &Partition, listed: &[u32]) -> Result<bool, NoMemory>
@@ -73,61 +75,131 @@ fn all_set(marks: &[AtomicBool]) -> bool {
     true
 }
 
-/// Whether all answers are yes.
-fn all_true(answers: &[bool]) -> bool
-    ensures { IsTrue result ↔ ((i : ℕ) → i < length answers.now → slice_index_or answers.now i true ≡ true) }
+/// Whether none of the vertices of a run gains.
+fn ask_run(h: &Hypergraph, p: &Partition, runs: u32, place: u32) -> bool
+    requires belongs { p.now.hyper ≡ h.now }
+    requires run { (place < runs) × (runs ≤ 64) }
+    ensures { IsTrue result ↔ IsSettledRun h.now p.now.k p.now.limit p.now.blocks runs place }
 {
-    for answer in answers {
-        if !*answer {
+    let run = span_of(h.vertices(), runs, place);
+    p.settled_within(h, run.from, run.to)
+}
+
+/// Asks runs that nobody took yet, until there is none or a vertex gains, and notes which ones are settled. There are
+/// as many notes as runs.
+fn ask_some(
+    h: &Hypergraph,
+    p: &Partition,
+    runs: u32,
+    next: &AtomicUsize,
+    gains: &AtomicBool,
+    notes: &mut Vec<bool>,
+)
+    requires belongs { p.now.hyper ≡ h.now }
+    requires runs { runs ≤ 64 }
+    requires notes { AreNotes h.now p.now.k p.now.limit p.now.blocks runs notes.old.items }
+    ensures { AreNotes h.now p.now.k p.now.limit p.now.blocks runs notes.new.items }
+{
+    for _ in 0..runs {
+        if gains.load(SeqCst) {
+            return;
+        }
+        let place = next.fetch_add(1, SeqCst);
+        if place >= notes.len() {
+            return;
+        }
+        if !ask_run(h, p, runs, place as u32) {
+            gains.store(true, SeqCst);
+            return;
+        }
+        notes[place] = true;
+    }
+}
+
+/// Whether none of the vertices of a run gains. Where a list notes that none does, they aren't asked.
+fn is_settled_run(h: &Hypergraph, p: &Partition, runs: u32, lists: &[Vec<bool>], place: u32) -> bool
+    requires belongs { p.now.hyper ≡ h.now }
+    requires run { (place < runs) × (runs ≤ 64) }
+    requires lists { All (λ notes. AreNotes h.now p.now.k p.now.limit p.now.blocks runs notes.items) lists.now }
+    ensures { IsTrue result ↔ IsSettledRun h.now p.now.k p.now.limit p.now.blocks runs place }
+{
+    for notes in lists {
+        if notes[place as usize] {
+            return true;
+        }
+    }
+    ask_run(h, p, runs, place)
+}
+
+/// Whether no single allowed move makes the partition cheaper. The runs that no list notes are asked in rising order.
+fn ask_rest(h: &Hypergraph, p: &Partition, runs: u32, lists: &[Vec<bool>]) -> bool
+    requires belongs { p.now.hyper ≡ h.now }
+    requires runs { (1 ≤ runs) × (runs ≤ 64) }
+    requires lists { All (λ notes. AreNotes h.now p.now.k p.now.limit p.now.blocks runs notes.items) lists.now }
+    ensures { IsTrue result ↔ IsSettled h.now p.now.k p.now.limit p.now.blocks }
+{
+    for place in 0..runs {
+        if !is_settled_run(h, p, runs, lists, place) {
             return false;
         }
     }
     true
 }
 
-/// Asks each run of the vertices whether none of them gains, each in a thread of its own until one gains. There are
-/// as many runs as there are answers.
-fn ask_runs<H: Threads + Sync>(rt: &H, h: &Hypergraph, p: &Partition, answers: &mut [bool])
+/// Whether no single allowed move makes the partition cheaper, by a thread for each list. They take runs until a vertex
+/// gains, and then this thread asks those that none of them noted.
+fn ask_runs<H: Threads + Sync>(
+    rt: &H,
+    h: &Hypergraph,
+    p: &Partition,
+    runs: u32,
+    lists: &mut [Vec<bool>],
+) -> bool
     requires belongs { p.now.hyper ≡ h.now }
-    requires runs { (1 ≤ length answers.old) × (length answers.old ≤ 64) }
-    ensures runs { length answers.new ≡ length answers.old }
-    ensures settled { (i : ℕ) → i < length answers.old → IsTrue (slice_index_or answers.new i true) ↔ IsSettledRun h.now
-        p.now.k p.now.limit p.now.blocks (length answers.old) i }
+    requires runs { (1 ≤ runs) × (runs ≤ 64) }
+    requires lists { All (λ notes. AreNotes h.now p.now.k p.now.limit p.now.blocks runs notes.items) lists.old }
+    ensures { IsTrue result ↔ IsSettled h.now p.now.k p.now.limit p.now.blocks }
 {
-    let runs = answers.len() as u32;
+    let next = AtomicUsize::new(0);
+    let gains = AtomicBool::new(false);
     each(
         rt,
-        answers,
-        &|i, answer: &mut bool|
-            requires { (i < runs) × (runs ≤ 64) × (p.now.hyper ≡ h.now) }
-            ensures { IsTrue answer.exit.now ↔ IsSettledRun h.entry.now p.entry.now.k p.entry.now.limit
-                p.entry.now.blocks runs i }
+        lists,
+        &|_i, notes: &mut Vec<bool>|
+            requires { (runs ≤ 64) × (p.now.hyper ≡ h.now) × AreNotes h.now p.now.k p.now.limit p.now.blocks runs
+                notes.now.items }
+            ensures { AreNotes h.entry.now p.entry.now.k p.entry.now.limit p.entry.now.blocks runs
+                notes.exit.now.items }
         {
-            let run = span_of(h.vertices(), runs, i as u32);
-            *answer = p.settled_within(h, run.from, run.to);
+            ask_some(h, p, runs, &next, &gains, notes);
         },
     );
+    ask_rest(h, p, runs, lists)
 }
 
-/// Whether no single allowed move makes the partition cheaper, by so many threads.
+/// Whether no single allowed move makes the partition cheaper, by so many threads, which share so many runs.
 fn settled_in_runs<H: Threads + Sync>(
     rt: &H,
     alloc: Global,
     h: &Hypergraph,
     p: &Partition,
     threads: u32,
+    runs: u32,
 ) -> Result<bool, NoMemory>
     requires belongs { p.now.hyper ≡ h.now }
-    requires threads { (1 ≤ threads) × (threads ≤ 64) }
+    requires runs { (1 ≤ runs) × (runs ≤ 64) }
     ensures { IfOk result (λ settled. IsTrue settled ↔ IsSettled h.now p.now.k p.now.limit p.now.blocks) }
 {
-    let mut answers = vec![in alloc; true; threads as usize]?;
-    ask_runs(rt, h, p, answers.as_mut_slice());
-    Ok(all_true(answers.as_slice()))
+    let mut lists = Vec::with_capacity(alloc, threads as usize)?;
+    for _ in 0..threads {
+        lists.push(vec![in alloc; false; runs as usize]?)?;
+    }
+    Ok(ask_runs(rt, h, p, runs, lists.as_mut_slice()))
 }
 
 /// Whether no single allowed move makes the partition cheaper. Where a marked vertex gains, no other one is asked.
-/// Where all are marked, the marks tell nothing, and each vertex is asked once.
+/// Where all are marked, the marks tell nothing, and each vertex is asked once. There are more runs than threads, so
+/// that none waits long for a slower one.
 pub(crate) fn is_settled<H: Threads + Sync>(
     rt: &H,
     alloc: Global,
@@ -144,6 +216,10 @@ pub(crate) fn is_settled<H: Threads + Sync>(
     if !all_set(marks) && marked_gains(alloc, h, p, marks)? {
         return Ok(false);
     }
-    let threads = workers.min(h.vertices().max(h.nets()) / LEAST_ITEMS + 1);
-    settled_in_runs(rt, alloc, h, p, threads)
+    let runs = (h.vertices().max(h.nets()) / LEAST_ITEMS + 1).min(MOST_RUNS);
+    let threads = workers.min(runs);
+    if threads == 1 {
+        return Ok(p.settled(h));
+    }
+    settled_in_runs(rt, alloc, h, p, threads, runs)
 }
