@@ -25,7 +25,13 @@ shared_sync κ = recorded_sync _ _ _ ((shared.the_type κ).to_one) (struct_sync 
       search (sendable, crosses),
       (
         search (sendable, crosses),
-        (search (sendable, crosses), (search (sendable, crosses) depth 20, (search (sendable, crosses) depth 20, tt))),
+        (
+          search (sendable, crosses),
+          (
+            search (sendable, crosses) depth 20,
+            (search (sendable, crosses) depth 20, (search (sendable, crosses) depth 20, tt)),
+          ),
+        ),
       ),
     ),
   ),

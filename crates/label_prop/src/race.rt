@@ -1,6 +1,6 @@
 //! A raced round.
 
-ghost use Rattle.std.specs.Prelude.{◌≡◌, ◌<◌, ◌≤◌, true, length, IfOk, OnErr};
+ghost use Rattle.std.specs.Prelude.{◌≡◌, ◌<◌, ◌≤◌, true, length, vec_len, IfOk, OnErr};
 ghost use Rattle.hg_defs.specs.Hypergraph.{vertex_count};
 ghost use Rattle.hg_defs.specs.Partition.{Fits};
 ghost use Rattle.hg_defs.specs.Replay.{replay};
@@ -19,8 +19,8 @@ use pin_plain::Partition;
 use refiner::{Log, Task};
 use round_log::Kind;
 use std::alloc::Global;
-use std::sync::atomic::AtomicBool;
 use std::sync::atomic::Ordering::SeqCst;
+use std::sync::atomic::{AtomicBool, AtomicUsize};
 use std::thread::Threads;
 
 /// Lets each pass of a round visit the marked vertices of its run, all at once. Answers the passes, or none where
@@ -51,6 +51,17 @@ fn visit_all<H: Threads + Sync, G: Gate>(
     Ok(Items::from_vec(passes))
 }
 
+/// Counters of what is taken of the runs of so many workers, all 0.
+fn none_taken(alloc: Global, workers: u32) -> Result<Vec<AtomicUsize>, NoMemory>
+    ensures { IfOk result (λ taken. vec_len taken ≡ workers) }
+{
+    let mut taken = Vec::with_capacity(alloc, workers as usize)?;
+    for _ in 0..workers {
+        taken.push(AtomicUsize::new(0))?;
+    }
+    Ok(taken)
+}
+
 /// Opens a round over a partition that fits, lets the workers visit the marked vertices, and closes it.
 fn close_race<H: Threads + Sync, G: Gate>(
     rt: &H,
@@ -75,6 +86,7 @@ fn close_race<H: Threads + Sync, G: Gate>(
     let Ok((round, passes)) = Round::open(rt, alloc, h, p, workers) else {
         return Err(NoMemory);
     };
+    let taken = none_taken(alloc, workers)?;
     let shared = Shared {
         round: &round,
         h,
@@ -82,6 +94,7 @@ fn close_race<H: Threads + Sync, G: Gate>(
         workers,
         limit,
         marks,
+        taken: taken.as_slice(),
         refused: &AtomicBool::new(false),
     };
     let passes = visit_all(rt, gate, &shared, passes)?;

@@ -1,6 +1,6 @@
 //! A worker: how it visits the vertices of its run.
 
-ghost use Rattle.std.specs.Prelude.{◌≡◌, ◌<◌};
+ghost use Rattle.std.specs.Prelude.{◌≡◌, ◌<◌, ◌≤◌};
 ghost use Rattle.hg_defs.specs.Hypergraph.{vertex_count};
 ghost use Rattle.label_prop.specs.Workers.{IsIdlePass};
 
@@ -11,6 +11,9 @@ use crew::{Gate, span_of};
 use hg_base::{FREE, NoMemory};
 use move_table::Pass;
 use std::sync::atomic::Ordering::SeqCst;
+
+/// A worker takes so many vertices of a run at once.
+const SHARE: usize = 1024;
 
 /// Whether a block seems to have room for a vertex. Other workers may be there first, and a vertex that is told
 /// otherwise makes no step on the load, which all of them share.
@@ -62,29 +65,86 @@ fn visit(shared: &Shared<'_>, pass: &mut Pass, scores: &mut Scores, v: u32) -> R
     Ok(())
 }
 
-/// Visits the marked vertices of a worker's run in rising number, and passes the gate before each. Where there
-/// is no memory, it says so to the others; where another worker has said so, it stops.
-pub(crate) fn visit_run<G: Gate>(shared: &Shared<'_>, pass: &mut Pass, gate: &G, worker: u32)
+/// Visits the marked vertices from one number up to before another one, in rising number, and passes the gate before
+/// each. Where there is no memory, or another worker has said so, it stops.
+fn visit_share<G: Gate>(
+    shared: &Shared<'_>,
+    pass: &mut Pass,
+    gate: &G,
+    scores: &mut Scores,
+    turn: &mut u64,
+    from: u32,
+    to: u32,
+) -> Result<(), NoMemory>
+    requires blocks { scores.old.k ≡ shared.now.k }
     requires pass { IsIdlePass shared.now.round.now pass.old.view.number pass.old }
-    requires worker { worker < shared.now.workers }
-    ensures { IsIdlePass shared.now.round.now pass.old.view.number pass.new }
+    requires within { to ≤ vertex_count shared.now.h.now }
+    ensures blocks { scores.new.k ≡ scores.old.k }
+    ensures pass { IsIdlePass shared.now.round.now pass.old.view.number pass.new }
 {
     let number = pass.number();
-    let span = span_of(shared.h.vertices(), shared.workers, worker);
-    let mut scores = Scores::new(shared.k);
-    let mut turn = 0u64;
-    for v in span.from..span.to {
+    for v in from..to {
         let mark = &shared.marks[v as usize];
         if !mark.load(SeqCst) {
             continue;
         }
         if shared.refused.load(SeqCst) {
-            return;
+            return Err(NoMemory);
         }
-        gate.pass(number, turn);
-        turn += 1;
+        gate.pass(number, *turn);
+        *turn = turn.wrapping_add(1);
         mark.store(false, SeqCst);
-        if visit(shared, pass, &mut scores, v).is_err() {
+        visit(shared, pass, scores, v)?;
+    }
+    Ok(())
+}
+
+/// Takes shares of a run, one after the other, until all of it is taken, and visits their marked vertices.
+fn visit_shares<G: Gate>(
+    shared: &Shared<'_>,
+    pass: &mut Pass,
+    gate: &G,
+    scores: &mut Scores,
+    turn: &mut u64,
+    run: u32,
+) -> Result<(), NoMemory>
+    requires blocks { scores.old.k ≡ shared.now.k }
+    requires pass { IsIdlePass shared.now.round.now pass.old.view.number pass.old }
+    requires run { run < shared.now.workers }
+    ensures blocks { scores.new.k ≡ scores.old.k }
+    ensures pass { IsIdlePass shared.now.round.now pass.old.view.number pass.new }
+{
+    let span = span_of(shared.h.vertices(), shared.workers, run);
+    let (first, end) = (span.from as usize, span.to as usize);
+    for _ in span.from..span.to {
+        let from = shared.taken[run as usize]
+            .fetch_add(SHARE, SeqCst)
+            .saturating_add(first);
+        if from >= end {
+            return Ok(());
+        }
+        let to = from.saturating_add(SHARE).min(end);
+        visit_share(shared, pass, gate, scores, turn, from as u32, to as u32)?;
+    }
+    Ok(())
+}
+
+/// Visits the marked vertices of a worker's run in rising number, and then those of other runs that nobody has taken
+/// yet, since not all processors are equally fast. It passes the gate before each. Where there is no memory, it says
+/// so to the others; where another worker has said so, it stops.
+pub(crate) fn visit_run<G: Gate>(shared: &Shared<'_>, pass: &mut Pass, gate: &G, worker: u32)
+    requires pass { IsIdlePass shared.now.round.now pass.old.view.number pass.old }
+    requires worker { worker < shared.now.workers }
+    ensures { IsIdlePass shared.now.round.now pass.old.view.number pass.new }
+{
+    let mut scores = Scores::new(shared.k);
+    let mut turn = 0u64;
+    for others in 0..shared.workers {
+        let mut run = worker + others;
+        if run >= shared.workers {
+            run -= shared.workers;
+        }
+        if visit_shares(shared, pass, gate, &mut scores, &mut turn, run).is_err() {
             shared.refused.store(true, SeqCst);
             return;
         }

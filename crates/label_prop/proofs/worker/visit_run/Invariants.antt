@@ -1,10 +1,9 @@
-use Rattle.std.proofs.Common.{◌≡◌, ◌≤◌}
+use Rattle.std.proofs.Common.{◌≡◌}
 use Rattle.label_prop.specs.Workers.{IsIdlePass}
 use Rattle.label_prop.proofs.worker.visit_run.Given as goal
 
-abbrev pub invariant-loop-v : goal.invariant-loop-v
-invariant-loop-v g l = record {
-  turns : l.turn ≤ l.v;
+abbrev pub invariant-loop-others : goal.invariant-loop-others
+invariant-loop-others g l = record {
   blocks : l.scores.k ≡ l.shared.k;
   idle : IsIdlePass l.shared.round.now l.fn.pass.view.number l.pass;
 }
