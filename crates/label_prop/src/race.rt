@@ -23,7 +23,7 @@ use std::sync::atomic::Ordering::SeqCst;
 use std::sync::atomic::{AtomicBool, AtomicUsize};
 use std::thread::Threads;
 
-/// Lets each pass of a round visit the marked vertices of its run, all at once. Answers the passes, or none where
+/// Lets each pass of a round visit marked vertices, of its run first, all at once. Answers the passes, or none where
 /// a worker had no memory.
 fn visit_all<H: Threads + Sync, G: Gate>(
     rt: &H,

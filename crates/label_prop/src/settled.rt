@@ -24,7 +24,7 @@ const MOST_LISTED: usize = 64;
 /// nets, and the few vertices of a coarse level have many.
 const LEAST_ITEMS: u32 = 4096;
 
-/// There are so many runs at most.
+/// There are so many runs at most: `span_of` cuts no more.
 const MOST_RUNS: u32 = 64;
 
 /// Whether one of the listed vertices has a move that makes the partition cheaper.

@@ -1,4 +1,4 @@
-//! A worker: how it visits the vertices of its run.
+//! A worker: how it visits the vertices of its run, and what is left of the others.
 
 ghost use Rattle.std.specs.Prelude.{◌≡◌, ◌<◌, ◌≤◌};
 ghost use Rattle.hg_defs.specs.Hypergraph.{vertex_count};
