@@ -36,7 +36,7 @@ shared_sync κ = recorded_sync _ _ _ ((shared.the_type κ).to_one) (struct_sync 
           search (sendable, crosses),
           (
             search (sendable, crosses) depth 20,
-            (search (sendable, crosses), (progress_field_sync _ _, tt)),
+            (search (sendable, crosses), (progress_field_sync _ _, (search (sendable, crosses) depth 20, tt))),
           ),
         ),
       ),

@@ -3,7 +3,7 @@
 //! Sums and products wrap: all nets weigh less than 2^54 together, so none of them comes near the end of 64
 //! bits, and they decide nothing but which move is tried.
 
-ghost use Rattle.std.specs.Prelude.{◌≡◌, ◌<◌, ◌≤◌, length};
+ghost use Rattle.std.specs.Prelude.{◌≡◌, ◌<◌, ◌≤◌, IfSome, length};
 
 use hg_base::Objective;
 
@@ -104,11 +104,24 @@ impl Used {
         Used { words: [0; 4] }
     }
 
-    /// The bits of 64 blocks.
-    pub(crate) fn word(&self, place: u32) -> u64
-        requires { place < 4 }
+    /// The first block from a number on, and below another one, that is used.
+    pub(crate) fn next(&self, from: u32, end: u32) -> Option<u32>
+        requires { end ≤ 256 }
+        ensures { IfSome result (λ b. b < end) }
     {
-        self.words[place as usize]
+        let mut first = from;
+        'words: for _ in 0..4 {
+            if first >= end {
+                break;
+            }
+            let word = self.words[first as usize / 64] >> (first % 64);
+            if word != 0 {
+                let b = first + word.trailing_zeros();
+                return if b < end { Some(b) } else { None };
+            }
+            first = (first / 64 + 1) * 64;
+        }
+        None
     }
 
     /// Uses the cell of a block, which is blanked first where it wasn't used.

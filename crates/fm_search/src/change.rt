@@ -50,8 +50,8 @@ impl Change {
             && !self.opened
     }
 
-    /// Changes the cells of a pin in `block`, and tells whether one of its gains may have risen.
-    pub(crate) fn adjust(&self, row: &mut [Cell], used: &mut Used, block: u32) -> bool
+    /// Changes the cells of a pin in `block`.
+    pub(crate) fn adjust(&self, row: &mut [Cell], used: &mut Used, block: u32)
         requires few { length row.old ≤ 256 }
         requires from { self.now.from < length row.old }
         requires to { self.now.to < length row.old }
@@ -59,21 +59,33 @@ impl Change {
         used.reach(row, self.from);
         used.reach(row, self.to);
         let left = &mut row[self.from as usize];
-        let freed = if block == self.from {
+        if block == self.from {
             left.weight = left.weight.wrapping_add(self.lost_from);
-            self.lost_from < 0
         } else {
             left.weight = left.weight.wrapping_add(self.saved_from);
             left.nets = left.nets.saturating_sub(u32::from(self.closed));
-            self.saved_from > 0
-        };
+        }
         let entered = &mut row[self.to as usize];
         if block == self.to {
             entered.weight = entered.weight.wrapping_add(self.lost_to);
-            return freed || self.lost_to < 0;
+        } else {
+            entered.weight = entered.weight.wrapping_add(self.saved_to);
+            entered.nets = entered.nets.saturating_add(u32::from(self.opened));
         }
-        entered.weight = entered.weight.wrapping_add(self.saved_to);
-        entered.nets = entered.nets.saturating_add(u32::from(self.opened));
-        freed || self.opened || self.saved_to > 0
+    }
+
+    /// Whether one of the gains of a pin in `block` may have risen.
+    pub(crate) fn raises(&self, block: u32) -> bool {
+        let freed = if block == self.from {
+            self.lost_from < 0
+        } else {
+            self.saved_from > 0
+        };
+        let drawn = if block == self.to {
+            self.lost_to < 0
+        } else {
+            self.opened || self.saved_to > 0
+        };
+        freed || drawn
     }
 }

@@ -23,7 +23,7 @@ const MOST_CELLS: usize = 1 << 20;
 pub(crate) struct Mark {
     /// The search in which it was read last.
     search: u32,
-    /// Its row of cells.
+    /// Its row of cells; 0 where it was offered unread.
     row: u32,
     /// The round in which the worker moved it or found it taken.
     round: u32,
@@ -104,7 +104,7 @@ impl Desk {
             k,
             search: 0,
             round: 0,
-            next: 0,
+            next: 1,
             marks: Vec::with_capacity(alloc, h.vertices() as usize)?,
             walked: Vec::with_capacity(alloc, h.nets() as usize)?,
             cells: Vec::new(alloc),
@@ -150,7 +150,7 @@ impl Desk {
         ensures { self.new ≡ self.old }
     {
         self.search = self.search.wrapping_add(1);
-        self.next = 0;
+        self.next = 1;
         self.queue.clear();
     }
 
@@ -179,6 +179,17 @@ impl Desk {
             tie: pull,
             vertex: v,
         })
+    }
+
+    /// Adds an offer of a vertex that isn't read in this search yet.
+    pub(crate) fn offer_unread(&mut self, gain: i64, pull: i64, v: u32) -> Result<(), NoMemory>
+        requires { v < self.old.vertices }
+        ensures { self.new ≡ self.old }
+    {
+        let mark = &mut self.marks[v as usize];
+        mark.search = self.search;
+        mark.row = 0;
+        self.offer(gain, pull, v)
     }
 
     /// Takes the highest offer.
@@ -239,7 +250,7 @@ impl Desk {
         ensures same { self.new ≡ self.old }
         ensures mover { mover.new ≡ mover.old }
     {
-        if self.marks[v as usize].search != self.search {
+        if !self.is_read(v) {
             let row = self.next;
             let start = start_of(row, self.k);
             if start >= MOST_CELLS {
@@ -288,11 +299,25 @@ impl Desk {
     pub(crate) fn is_read(&self, v: u32) -> bool
         requires { v < self.now.vertices }
     {
-        self.marks[v as usize].search == self.search
+        let mark = &self.marks[v as usize];
+        mark.search == self.search && mark.row > 0
     }
 
-    /// Tells a vertex in `block` of a change on one of its nets, and lists it where it wasn't read yet or one of
-    /// its gains may have risen.
+    /// Changes the row of a vertex in `block` by a change on one of its nets.
+    fn adjust(&mut self, v: u32, block: u32, change: &Change)
+        requires vertex { v < self.old.vertices }
+        requires from { change.now.from < self.old.blocks }
+        requires to { change.now.to < self.old.blocks }
+        ensures { self.new ≡ self.old }
+    {
+        let number = self.marks[v as usize].row;
+        let start = start_of(number, self.k);
+        let row = &mut self.cells.as_mut_slice()[start..start + self.k as usize];
+        change.adjust(row, &mut self.used[number as usize], block);
+    }
+
+    /// Tells a vertex in `block` of a change on one of its nets, and lists it where it was neither read nor offered
+    /// yet or one of its gains may have risen.
     pub(crate) fn tell(&mut self, v: u32, block: u32, change: &Change) -> Result<(), NoMemory>
         requires vertex { v < self.old.vertices }
         requires from { change.now.from < self.old.blocks }
@@ -303,12 +328,10 @@ impl Desk {
         if mark.round == self.round {
             return Ok(());
         }
-        let mut rises = true;
-        if mark.search == self.search {
-            let start = start_of(mark.row, self.k);
-            let row = &mut self.cells.as_mut_slice()[start..start + self.k as usize];
-            rises = change.adjust(row, &mut self.used[mark.row as usize], block);
+        if self.is_read(v) {
+            self.adjust(v, block, change);
         }
+        let rises = mark.search != self.search || change.raises(block);
         if rises && !mark.listed {
             self.marks[v as usize].listed = true;
             self.listed.push(v)?;

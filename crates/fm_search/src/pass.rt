@@ -7,9 +7,10 @@ ghost use Rattle.round_log.specs.declared.record.LoggedRound.{LoggedRound};
 ghost use Rattle.round_log.specs.Passes.{saved};
 ghost use Rattle.refiner.specs.Logging.{LogsPass, LogsRounds};
 ghost use Rattle.fm_search.specs.Possible.{IsFirst};
+ghost use Rattle.fm_search.specs.Memory.{IsMemoryFor};
 ghost use Rattle.fm_search.specs.Logging.{LogsSearchRound, TalliesRound, last_of};
 
-use crate::desk::Desk;
+use crate::memory::Memory;
 use crate::possible::first_possible;
 use crate::race::race;
 use crate::single::single_round;
@@ -35,20 +36,20 @@ fn log_round<H: Threads + Sync, G: Gate>(
     task: &Task,
     p: Partition,
     log: &mut Log,
-    desks: &mut Vec<Desk>,
+    memory: &mut Memory,
     first: (u32, u32),
 ) -> Result<Partition, NoMemory>
     requires belongs { p.hyper ≡ h.now }
     requires fits { Fits h.now p.k p.limit p.blocks }
     requires workers { (1 ≤ task.now.workers) × (task.now.workers ≤ 64) }
-    requires desks { All (λ d. d.blocks ≡ p.k) desks.old.items }
+    requires memory { IsMemoryFor p.k memory.old }
     requires first { IsFirst h.now p.k p.limit p.blocks first.0 first.1 }
     ensures round { IfOk result (λ q. LogsSearchRound h.now task.now p q log.old log.new) }
-    ensures desks { All (λ d. d.blocks ≡ p.k) desks.new.items }
+    ensures memory { IsMemoryFor p.k memory.new }
     ensures err { OnErr result (log.new ≡ log.old) }
 {
     let _parted = p.blocks();
-    let closed = race(rt, gate, alloc, h, task, p, desks)?;
+    let closed = race(rt, gate, alloc, h, task, p, memory)?;
     if !closed.moves().is_empty() {
         return log.race(rt, alloc, h, Kind::Search, task.level, closed);
     }
@@ -87,20 +88,20 @@ fn search_round<H: Threads + Sync, G: Gate>(
     task: &Task,
     p: Partition,
     log: &mut Log,
-    desks: &mut Vec<Desk>,
+    memory: &mut Memory,
     first: (u32, u32),
 ) -> Result<(Partition, u32), NoMemory>
     requires belongs { p.hyper ≡ h.now }
     requires fits { Fits h.now p.k p.limit p.blocks }
     requires workers { (1 ≤ task.now.workers) × (task.now.workers ≤ 64) }
-    requires desks { All (λ d. d.blocks ≡ p.k) desks.old.items }
+    requires memory { IsMemoryFor p.k memory.old }
     requires first { IsFirst h.now p.k p.limit p.blocks first.0 first.1 }
     requires tallied { (tally.old.rounds < 2 ^ 62 + 4) × (tally.old.gain < 2 ^ 62 + 2 ^ 59) }
     ensures round { IfOk result (λ r. TalliesRound h.now task.now p r.0 log.old log.new tally.old tally.new r.1) }
-    ensures desks { All (λ d. d.blocks ≡ p.k) desks.new.items }
+    ensures memory { IsMemoryFor p.k memory.new }
     ensures err { OnErr result ((log.new ≡ log.old) × (tally.new ≡ tally.old)) }
 {
-    let part = log_round(rt, gate, alloc, h, task, p, log, desks, first)?;
+    let part = log_round(rt, gate, alloc, h, task, p, log, memory, first)?;
     let kept = tally_last(log, tally);
     Ok((part, kept))
 }
@@ -129,13 +130,22 @@ pub fn search_pass<H: Threads + Sync, G: Gate>(
     ensures part { OnErr result (LogsRounds false Search h.now task.now p tally.old tally.new log.old log.new) }
 {
     let mut part = p;
-    let mut desks = Vec::new(alloc);
+    let mut memory = Memory::new(alloc);
     'rounds: for _ in 0..MOST_ROUNDS {
         let Some(first) = first_possible(h, &part) else {
             return Ok(part);
         };
         let (next, kept) = search_round(
-            rt, gate, tally, alloc, h, task, part, log, &mut desks, first,
+            rt,
+            gate,
+            tally,
+            alloc,
+            h,
+            task,
+            part,
+            log,
+            &mut memory,
+            first,
         )?;
         part = next;
         if kept == 0 {

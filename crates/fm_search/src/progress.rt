@@ -44,6 +44,11 @@ impl Progress {
         }
     }
 
+    /// How many moves were added.
+    pub(crate) fn moves(&self) -> u64 {
+        self.moves.load(SeqCst)
+    }
+
     /// Whether further seeds are worth drawing.
     pub(crate) fn goes_on(&self) -> bool {
         let best = self.best_moves.load(SeqCst);

@@ -5,12 +5,14 @@ ghost use Rattle.hg_defs.specs.Partition.{Fits};
 ghost use Rattle.hg_defs.specs.Replay.{replay};
 ghost use Rattle.move_core.specs.declared.account.Stage.TheVariants.{Idle};
 ghost use Rattle.fm_search.specs.Standing.{standing_of};
+ghost use Rattle.fm_search.specs.Memory.{IsMemoryFor};
 ghost use Rattle.fm_search.specs.Workers.{AreWorkers, AreFreshWorkers, IsWorkerAt, IsFreshAt};
 
 use crate::desk::Desk;
+use crate::memory::Memory;
 use crate::mover::Mover;
 use crate::progress::Progress;
-use crate::seeds::{cut_vertices, first_place};
+use crate::seeds::{cut_marks, first_place, marked};
 use crate::shared::Shared;
 use crate::worker::Worker;
 use crew::{Gate, each};
@@ -56,6 +58,7 @@ fn workers_of(
         workers.push(Worker {
             mover: Mover::of(pass),
             desk,
+            made: 0,
             apart: [0; 16],
         })?;
     }
@@ -80,6 +83,7 @@ fn passes_of(
         let Worker {
             mover,
             desk,
+            made: _,
             apart: _,
         } = worker;
         passes.push(mover.into_pass())?;
@@ -118,24 +122,28 @@ pub(crate) fn race<H: Threads + Sync, G: Gate>(
     h: &Hypergraph,
     task: &Task,
     p: Partition,
-    desks: &mut Vec<Desk>,
+    memory: &mut Memory,
 ) -> Result<Closed, NoMemory>
     requires belongs { p.hyper ≡ h.now }
     requires fits { Fits h.now p.k p.limit p.blocks }
     requires workers { (1 ≤ task.now.workers) × (task.now.workers ≤ 64) }
-    requires desks { All (λ d. d.blocks ≡ p.k) desks.old.items }
+    requires memory { IsMemoryFor p.k memory.old }
     ensures opening { IfOk result (λ c. c.opening ≡ p.blocks) }
     ensures part { IfOk result (λ c. c.part ≡ record p { blocks = replay c.opening c.moves }) }
     ensures gains { IfOk result (λ c. length c.gains ≡ task.now.workers) }
-    ensures desks { All (λ d. d.blocks ≡ p.k) desks.new.items }
+    ensures memory { IsMemoryFor p.k memory.new }
 {
     let (k, limit) = (p.k(), p.limit());
-    let seeds = cut_vertices(rt, alloc, h, &p, task.workers)?;
+    let cut = cut_marks(rt, alloc, h, &p, task.workers)?;
+    memory
+        .openings
+        .read(rt, h, &p, cut.as_slice(), task.workers)?;
+    let seeds = marked(alloc, cut.as_slice())?;
     let first = first_place(seeds.len(), task.seed, task.level);
     let Ok((round, passes)) = Round::open(rt, alloc, h, p, task.workers) else {
         return Err(NoMemory);
     };
-    let mut workers = workers_of(alloc, h, k, passes, desks)?;
+    let mut workers = workers_of(alloc, h, k, passes, &mut memory.desks)?;
     let progress = Progress::new();
     let shared = Shared {
         round: &round,
@@ -146,12 +154,13 @@ pub(crate) fn race<H: Threads + Sync, G: Gate>(
         seeds: seeds.as_slice(),
         first,
         progress: &progress,
+        openings: memory.openings.all.as_slice(),
     };
     search_all(rt, gate, &shared, workers.as_mut_slice());
     if progress.is_stopped() {
         return Err(NoMemory);
     }
-    let passes = passes_of(alloc, workers, k, desks)?;
+    let passes = passes_of(alloc, workers, k, &mut memory.desks)?;
     match round.close(rt, alloc, passes) {
         Ok(closed) => Ok(closed),
         Err(_) => Err(NoMemory),

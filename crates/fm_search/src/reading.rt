@@ -14,8 +14,11 @@ use crate::shared::Shared;
 use hg_base::{field, words_of};
 use incidence::Hypergraph;
 
+/// The neighbours through nets of more pins aren't looked at.
+pub(crate) const MOST_PINS: usize = 1000;
+
 /// A net is read by its words where these are at most so many for each of its pins, and else by its pins.
-const WORDS_A_PIN: u32 = 4;
+pub(crate) const WORDS_A_PIN: u32 = 4;
 
 /// Where a vertex gains most.
 #[derive(Clone, Copy)]
@@ -40,14 +43,14 @@ pub(crate) fn scored(h: &Hypergraph, e: u32) -> Scored
 
 /// A net that is entered into the row of a vertex in `block`.
 #[derive(Clone, Copy)]
-struct Entered {
-    net: Scored,
-    share: i64,
-    block: u32,
+pub(crate) struct Entered {
+    pub(crate) net: Scored,
+    pub(crate) share: i64,
+    pub(crate) block: u32,
 }
 
 /// Enters a net into the cell of one block.
-fn enter(row: &mut [Cell], used: &mut Used, entered: &Entered, b: u32, count: u64)
+pub(crate) fn enter(row: &mut [Cell], used: &mut Used, entered: &Entered, b: u32, count: u64)
     requires few { length row.old ≤ 256 }
     requires block { b < length row.old }
     ensures same { length row.new ≡ length row.old }
@@ -270,26 +273,20 @@ pub(crate) fn best_block(
     let own = row[block as usize];
     let weight = shared.h.vertex_weight(v);
     let mut best: Option<Choice> = None;
-    'places: for place in 0..shared.k.div_ceil(64) {
-        let mut left = used.word(place);
-        'bits: for _ in 0..64 {
-            if left == 0 {
-                break;
-            }
-            let b = 64 * place + left.trailing_zeros();
-            left &= left - 1;
-            if b >= shared.k || b == block {
-                continue;
-            }
-            let cell = row[b as usize];
-            if cell.nets > 0 {
-                let choice = Choice {
-                    to: b,
-                    gain: cell.weight.wrapping_sub(own.weight),
-                    pull: cell.pull.wrapping_sub(own.pull),
-                };
-                best = higher(shared, mover, best, choice, weight);
-            }
+    let mut from = 0u32;
+    'places: for _ in 0..shared.k {
+        let Some(b) = used.next(from, shared.k) else {
+            break;
+        };
+        from = b + 1;
+        let cell = row[b as usize];
+        if b != block && cell.nets > 0 {
+            let choice = Choice {
+                to: b,
+                gain: cell.weight.wrapping_sub(own.weight),
+                pull: cell.pull.wrapping_sub(own.pull),
+            };
+            best = higher(shared, mover, best, choice, weight);
         }
     }
     best

@@ -90,7 +90,7 @@ fn blank_marks(alloc: Global, vertices: u32, lists: u32) -> Result<Vec<Vec<bool>
 }
 
 /// The places that are marked.
-fn marked(alloc: Global, cut: &[bool]) -> Result<Vec<u32>, NoMemory>
+pub(crate) fn marked(alloc: Global, cut: &[bool]) -> Result<Vec<u32>, NoMemory>
     requires { length cut.now < 2 ^ 32 }
     ensures below { IfOk result (λ seeds. All (λ v. v < length cut.now) seeds.items) }
     ensures few { IfOk result (λ seeds. vec_len seeds ≤ length cut.now) }
@@ -104,19 +104,18 @@ fn marked(alloc: Global, cut: &[bool]) -> Result<Vec<u32>, NoMemory>
     Ok(seeds)
 }
 
-/// The vertices on cut nets, in rising number. The nets are shared out to threads, of which there are no more than
-/// workers.
-pub(crate) fn cut_vertices<H: Threads + Sync>(
+/// A mark for each vertex, and those of the vertices on cut nets are set. The nets are shared out to threads, of which
+/// there are no more than workers.
+pub(crate) fn cut_marks<H: Threads + Sync>(
     rt: &H,
     alloc: Global,
     h: &Hypergraph,
     p: &Partition,
     workers: u32,
-) -> Result<Vec<u32>, NoMemory>
+) -> Result<Vec<bool>, NoMemory>
     requires belongs { p.now.hyper ≡ h.now }
     requires workers { (1 ≤ workers) × (workers ≤ 64) }
-    ensures below { IfOk result (λ seeds. All (λ v. v < vertex_count h.now) seeds.items) }
-    ensures few { IfOk result (λ seeds. vec_len seeds ≤ vertex_count h.now) }
+    ensures { IfOk result (λ cut. vec_len cut ≡ vertex_count h.now) }
 {
     let lists = workers.min(1 + h.nets() / LEAST_NETS);
     let mut cuts = blank_marks(alloc, h.vertices(), lists)?;
@@ -125,7 +124,7 @@ pub(crate) fn cut_vertices<H: Threads + Sync>(
     'lists: for more in cuts.as_slice() {
         add_marks(cut.as_mut_slice(), more.as_slice());
     }
-    marked(alloc, cut.as_slice())
+    Ok(cut)
 }
 
 /// The place of the first seed that is drawn, of so many, on a level.

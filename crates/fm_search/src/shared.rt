@@ -2,7 +2,10 @@
 
 ghost use Rattle.std.specs.Prelude.{◌≡◌, ◌<◌, ◌≤◌, ◌^◌, All, length};
 ghost use Rattle.hg_defs.specs.Hypergraph.{vertex_count};
+ghost use Rattle.std.proofs.Props.{props};
+ghost use Rattle.fm_search.specs.Opened.{IsBelow};
 
+use crate::opening::Opening;
 use crate::progress::Progress;
 use incidence::Hypergraph;
 use move_table::Round;
@@ -10,7 +13,7 @@ use move_table::Round;
 /// Room between what one worker writes and what others read, so that no line of the cache holds both.
 pub(crate) type Apart = [u64; 16];
 
-/// The rows of the seeds of a search have so many cells at most.
+/// A search starts from so many seeds times blocks at most.
 const MOST_SEED_CELLS: u64 = 1 << 16;
 
 /// So many seeds aren't shared out: searches that begin near each other take each other's moves for gains, go on
@@ -18,7 +21,7 @@ const MOST_SEED_CELLS: u64 = 1 << 16;
 const FEW_SEEDS: u64 = 2048;
 
 /// The round, its hypergraph, its number of blocks and its limit, the number of workers, the seeds with the place of
-/// the first one that is drawn, and how far the round has come.
+/// the first one that is drawn, how far the round has come, and what the vertices may do at its opening.
 #[derive(Drop)]
 pub(crate) struct Shared<'a> {
     pub(crate) round: &'a Round<'a>,
@@ -29,17 +32,20 @@ pub(crate) struct Shared<'a> {
     pub(crate) seeds: &'a [u32],
     pub(crate) first: u32,
     pub(crate) progress: &'a Progress,
+    pub(crate) openings: &'a [Opening],
     ghost hyper: { round.now.terms.part.hyper ≡ h.now },
     ghost blocks: { round.now.terms.part.k ≡ k },
     ghost few: { k ≤ 256 },
     ghost seeded: { All (λ v. v < vertex_count h.now) seeds.now },
     ghost countable: { length seeds.now < 2 ^ 31 },
     ghost begins: { first ≤ length seeds.now },
+    ghost opened: { length openings.now ≡ vertex_count h.now },
+    ghost below: { All (IsBelow k) openings.now } by { Prim.hlevel props },
 }
 
 impl Shared<'_> {
-    /// From how many seeds a search starts: from the share of a worker, or from a few where the share is less, as far
-    /// as their rows have few cells.
+    /// From how many seeds a search starts: from the share of a worker, or from a few where the share is less, and
+    /// from fewer where there are many blocks.
     fn lot_size(&self) -> u64 {
         let share = (self.seeds.len() as u64).div_ceil(u64::from(self.workers.max(1)));
         share

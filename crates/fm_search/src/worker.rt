@@ -8,27 +8,28 @@ ghost use Rattle.fm_search.specs.Standing.{IsFit, IsOf};
 use crate::change::Change;
 use crate::desk::Desk;
 use crate::mover::{Mover, Outcome};
-use crate::reading::{Choice, scored};
+use crate::opening::Opening;
+use crate::reading::{Choice, MOST_PINS, scored};
 use crate::shared::{Apart, Shared};
 use crate::streak::Streak;
 use crew::Gate;
 use gain_heap::Offer;
 use hg_base::{FREE, NoMemory};
 
-/// The neighbours through nets of more pins aren't looked at.
-const MOST_PINS: usize = 1000;
-
 /// What a worker owns.
 #[derive(Drop)]
 pub(crate) struct Worker {
     pub(crate) mover: Mover,
     pub(crate) desk: Desk,
+    /// How many moves it made in this round.
+    pub(crate) made: u64,
     pub(crate) apart: Apart,
 }
 
 impl Worker {
-    /// Reads the gains of a vertex anew, and tells where it gains most. One that another worker has moved by now
-    /// isn't read: it stands in another block than at the opening.
+    /// Tells where a vertex gains most, by its row where it has one and nobody else has moved anything in this round,
+    /// and else by gains that are read anew. One that another worker has moved by now isn't read: it stands in another
+    /// block than at the opening.
     fn look(&mut self, shared: &Shared<'_>, v: u32, block: u32) -> Result<Option<Choice>, NoMemory>
         requires fit { IsFit shared.now.round.now shared.now.h.now shared.now.k self.old.mover self.old.desk }
         requires vertex { v < vertex_count shared.now.h.now }
@@ -41,6 +42,9 @@ impl Worker {
         if shared.workers > 1 && self.mover.block(shared.round, v) != block {
             self.desk.leave(v);
             return Ok(None);
+        }
+        if self.desk.is_read(v) && shared.progress.moves() == self.made {
+            return Ok(self.desk.choose(shared, &mut self.mover, v, block));
         }
         Ok(if self.desk.read(shared, &mut self.mover, v, block)? {
             self.desk.choose(shared, &mut self.mover, v, block)
@@ -70,6 +74,26 @@ impl Worker {
             Some(choice) => self.desk.offer(choice.gain, choice.pull, v),
             None => Ok(()),
         }
+    }
+
+    /// Offers a seed, as it was read at the opening where there is room.
+    fn offer_seed(&mut self, shared: &Shared<'_>, v: u32) -> Result<(), NoMemory>
+        requires fit { IsFit shared.now.round.now shared.now.h.now shared.now.k self.old.mover self.old.desk }
+        requires vertex { v < vertex_count shared.now.h.now }
+        ensures mover { self.new.mover ≡ self.old.mover }
+        ensures desk { self.new.desk ≡ self.old.desk }
+    {
+        let Opening::Moves(choice) = shared.openings[v as usize] else {
+            return Ok(());
+        };
+        let load = self.mover.load(shared.round, choice.to);
+        if shared.h.vertex_weight(v) <= shared.limit.saturating_sub(load) {
+            return self.desk.offer_unread(choice.gain, choice.pull, v);
+        }
+        if shared.k == 2 {
+            return Ok(());
+        }
+        self.offer(shared, v)
     }
 
     /// Tells the pins of a net that one of them moved.
@@ -144,6 +168,7 @@ impl Worker {
             Outcome::Taken => self.desk.leave(v),
             Outcome::Moved(gain) => {
                 self.desk.leave(v);
+                self.made = self.made.wrapping_add(1);
                 shared.progress.add(gain);
                 streak.add(gain);
                 if !streak.is_over() {
@@ -187,7 +212,7 @@ impl Worker {
     {
         self.desk.begin_search();
         'seeds: for number in from..to {
-            self.offer(shared, shared.seed(number))?;
+            self.offer_seed(shared, shared.seed(number))?;
         }
         let mut streak = Streak::new();
         'turns: for _ in 0..u32::MAX {

@@ -1,5 +1,5 @@
 -- A pass that is under way goes on, or ends as it may.
-use Rattle.std.proofs.Common.{◌≡◌, ◌+◌, true, false, Result, Ok, Err, List, All, inl, inr, refl, sym, ap, subst, arith}
+use Rattle.std.proofs.Common.{◌+◌, true, false, Result, Ok, Err, List, inl, inr, refl, sym, ap, subst, arith}
 use Rattle.std.specs.Prelude.{nat_lt}
 use Rattle.std.proofs.lemmas.Bool.{lt-ltb}
 use Rattle.std.specs.Result.{OnErr}
@@ -8,6 +8,7 @@ use Rattle.round_log.specs.declared.record.LoggedRound.{LoggedRound}
 use Rattle.pin_plain.specs.Parted.{Parted}
 use Rattle.refiner.specs.declared.pass.Tally.{Tally}
 use Rattle.refiner.specs.Logging.{LogsRounds}
+use Rattle.fm_search.specs.Memory.{IsMemoryFor}
 use Rattle.fm_search.proofs.PassLaws.{IsUnderway, under_part, under_whole, under_belongs, under_room, under_more}
 use Rattle.fm_search.proofs.pass.search_pass.Goals as goal
 
@@ -75,7 +76,7 @@ rounds-preserved g c =
           (under_more c.args.h.now c.args.task.now c.args.p c.args.tally.now c.args.log.now c.rounds.counter true c.rounds.part c.rounds.tally c.rounds.log
           c.rounds.invariant.underway c.rounds-test.true refl (c.in-Some.first.0, c.in-Some.first.1, first.possible) c.in_ok-next.next
           c.search_round.new.tally c.search_round.new.log c.in_ok-next.kept round);
-      desks =
-          subst (λ k. All (λ d. d.blocks ≡ k) c.search_round.new.desks.items)
-          (sym (ap (λ (x : Parted). x.k) round.logs.logged.leads)) c.in_ok-next.ensures.desks;
+      memory =
+          subst (λ k. IsMemoryFor k c.search_round.new.memory)
+          (sym (ap (λ (x : Parted). x.k) round.logs.logged.leads)) c.in_ok-next.ensures.memory;
     }

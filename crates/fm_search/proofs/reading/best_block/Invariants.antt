@@ -7,10 +7,3 @@ invariant-places l = record {
   block : IfSome l.best (λ c. c.to < l.shared.k);
   other : IfSome l.best (λ c. c.to ≢ l.block);
 }
-
-abbrev pub invariant-bits : goal.invariant-bits
-invariant-bits l = record {
-  mover : l.mover ≡ l.fn.mover;
-  block : IfSome l.best (λ c. c.to < l.shared.k);
-  other : IfSome l.best (λ c. c.to ≢ l.block);
-}
