@@ -1,7 +1,7 @@
 //! Clustering by many workers at once.
 
 ghost use Rattle.std.specs.Prelude.{◌≡◌, ◌+◌, ◌-◌, ◌*◌, ◌^◌, ◌<◌, ◌≤◌, ℕ, All, IfOk, [], ◌++◌};
-ghost use Rattle.std.specs.Prelude.{length, map, replicate, slice_index};
+ghost use Rattle.std.specs.Prelude.{length, map, replicate, slice_index, vec_len};
 ghost use Rattle.std.specs.List.{range_with_len};
 ghost use Rattle.std.specs.Slots.{slots_items, slots_len, IsFull};
 ghost use Rattle.hg_defs.specs.Hypergraph.{vertex_count, IsWithinLimits};
@@ -15,13 +15,15 @@ ghost use Rattle.cluster_claim.specs.Workers.{IsWorker};
 use crate::board::{Balanced, Key, View, Words};
 use crate::pass::Pass;
 use crate::ratings::Ratings;
+use crate::shared::Shared;
 use crate::worker::Worker;
 use atomic_table::{Closed, Table};
-use crew::{Gate, each, span_of};
+use crew::{Gate, each};
 use hg_base::{MapList, NoMemory};
 use incidence::Hypergraph;
 use std::alloc::Global;
 use std::snapshot::Snapshot;
+use std::sync::atomic::AtomicUsize;
 use std::thread::Threads;
 
 /// The words at the opening: no mark, and for each vertex its weight.
@@ -71,6 +73,7 @@ fn worker_of(alloc: Global, words: &Words, h: &Hypergraph, pass: Pass) -> Result
         pass,
         ratings: Ratings::room(alloc, h.vertices())?,
         lone: None,
+        turn: 0,
         failed: false,
     })
 }
@@ -97,6 +100,65 @@ fn workers_of(
     }
     made.push(worker_of(alloc, words, h, pass)?)?;
     Ok(made)
+}
+
+/// Counters of what is taken of the runs of so many workers, all 0.
+fn none_taken(alloc: Global, workers: u32) -> Result<Vec<AtomicUsize>, NoMemory>
+    ensures { IfOk result (λ taken. vec_len taken ≡ workers) }
+{
+    let mut taken = Vec::with_capacity(alloc, workers as usize)?;
+    for _ in 0..workers {
+        taken.push(AtomicUsize::new(0))?;
+    }
+    Ok(taken)
+}
+
+/// Lets each worker make its visits, all at once.
+fn visit_all<R: Threads + Sync, G: Gate>(rt: &R, gate: &G, shared: &Shared<'_>, made: &mut [Worker])
+    requires all { All (IsWorker shared.now.words.now.table_id (vertex_count shared.now.h.now)) made.old }
+    requires count { length made.old ≡ shared.now.workers }
+    ensures all { All (IsWorker shared.now.words.now.table_id (vertex_count shared.now.h.now)) made.new }
+{
+    each(
+        rt,
+        made,
+        &|i, worker: &mut Worker|
+            requires { (i < shared.now.workers)
+                × IsWorker shared.now.words.now.table_id (vertex_count shared.now.h.now) worker.now }
+            ensures { IsWorker shared.entry.now.words.now.table_id (vertex_count shared.entry.now.h.now)
+                worker.exit.now }
+        { worker.run(shared, gate, i as u32) },
+    );
+}
+
+/// Lets the workers share out the visits of all vertices.
+fn race<R: Threads + Sync, G: Gate>(
+    rt: &R,
+    gate: &G,
+    alloc: Global,
+    words: &Words,
+    h: &Hypergraph,
+    cap: u64,
+    seed: u64,
+    made: &mut [Worker],
+) -> Result<(), NoMemory>
+    requires board { IsBoard words.now.key words.now.table_id h.now cap }
+    requires few { length made.old ≤ 64 }
+    requires all { All (IsWorker words.now.table_id (vertex_count h.now)) made.old }
+    ensures all { All (IsWorker words.now.table_id (vertex_count h.now)) made.new }
+{
+    let workers = made.len() as u32;
+    let taken = none_taken(alloc, workers)?;
+    let shared = Shared {
+        words,
+        h,
+        cap,
+        workers,
+        seed,
+        taken: taken.as_slice(),
+    };
+    visit_all(rt, gate, &shared, made);
+    Ok(())
 }
 
 /// Joins the passes of all workers.
@@ -156,8 +218,8 @@ fn close(
 ///
 /// A root is its own root. A cluster of several vertices weighs at most `cap` and has free vertices
 /// alone. Each worker visits its run of the vertices in rising number, from a place that the seed
-/// tells on, and goes round; it passes the gate before each vertex. A vertex joins the neighbour's
-/// cluster with the highest rating that has room: the sum over the nets of 2 to 1,000 pins that name
+/// tells on, and goes round, and then what is left of the others' runs; it passes the gate before
+/// each vertex. A vertex joins the neighbour's cluster with the highest rating that has room: the sum over the nets of 2 to 1,000 pins that name
 /// it, each 1,000 times its weight by its other pins. Which worker wins a vertex is left to the
 /// threads, so the answer may differ from run to run where there are several.
 pub fn cluster<R: Threads + Sync, G: Gate>(
@@ -177,18 +239,7 @@ pub fn cluster<R: Threads + Sync, G: Gate>(
     let (table, pass) = open(alloc, h, cap, workers)?;
     let words = &table.shared;
     let mut made = workers_of(alloc, words, h, cap, pass, workers)?;
-    each(
-        rt,
-        made.as_mut_slice(),
-        &|i, worker: &mut Worker|
-            requires { (i < workers) × (workers ≤ 64) × IsBoard words.now.key words.now.table_id h.now cap
-                × IsWorker words.now.table_id (vertex_count h.now) worker.now }
-        {
-            let number = i as u32;
-            let span = span_of(h.vertices(), workers, number);
-            worker.run(words, h, cap, gate, span, number, seed);
-        },
-    );
+    race(rt, gate, alloc, words, h, cap, seed, made.as_mut_slice())?;
     let failed = made.iter().any(|worker| worker.failed);
     join_all(words, h, cap, made);
     if failed {

@@ -9,6 +9,7 @@ mod board;
 mod claim;
 mod pass;
 mod ratings;
+mod shared;
 mod worker;
 
 pub use claim::cluster;

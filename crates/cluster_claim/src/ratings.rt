@@ -5,34 +5,27 @@ ghost use Rattle.std.specs.Prelude.{◌≡◌, ◌<◌, IfSome, OnOk, All, vec_l
 use hg_base::NoMemory;
 use std::alloc::Global;
 
-/// No vertex has this number.
-const NOBODY: u32 = u32::MAX;
+/// A place is a number of 32 bits, and there are fewer vertices.
+const MOST_NAMED: usize = u32::MAX as usize;
 
-/// How a vertex is rated. All nets weigh less than 2^54 together, so a sum, which is at most 1,000
-/// times that, is the same in 64 bits as in 128.
-#[derive(Clone, Copy)]
-pub(crate) struct Rating {
-    /// The vertex at whose visit it was named last.
-    visit: u32,
-    /// The net on which it was named last.
-    net: u32,
-    sum: u64,
-}
-
-/// A vertex that was named, and whether it named itself.
+/// A vertex that was named, whether it named itself, and its rating. All nets weigh less than 2^54 together, so a sum,
+/// which is at most 1,000 times that, is the same in 64 bits as in 128.
 #[derive(Clone, Copy)]
 pub(crate) struct Named {
     pub(crate) vertex: u32,
     pub(crate) own: bool,
+    /// The net on which it was named last.
+    pub(crate) net: u32,
+    pub(crate) sum: u64,
 }
 
-/// The ratings of a worker: once filled, one for each vertex, which counts where its stamp is that of
-/// the visit, and the vertices that were named and not tried at this visit.
+/// The ratings of a worker: the vertices that were named and not tried at this visit, and once filled, for each vertex
+/// the place in that list where it stands, if it stands there: a sparse set of Briggs and Torczon.
 #[derive(Drop)]
 pub(crate) struct Ratings {
-    pub(crate) ratings: Vec<Rating>,
+    pub(crate) places: Vec<u32>,
     pub(crate) named: Vec<Named>,
-    ghost below: { All (λ c. c.vertex < vec_len ratings) named.items },
+    ghost below: { All (λ c. c.vertex < vec_len places) named.items },
 }
 
 impl Ratings {
@@ -40,80 +33,59 @@ impl Ratings {
     /// first waits for it.
     pub(crate) fn room(alloc: Global, vertices: u32) -> Result<Self, NoMemory> {
         Ok(Ratings {
-            ratings: Vec::with_capacity(alloc, vertices as usize)?,
-            named: Vec::with_capacity(alloc, vertices as usize)?,
+            places: Vec::with_capacity(alloc, vertices as usize)?,
+            named: Vec::new(alloc),
         })
     }
 
-    /// Gives each of so many vertices a rating that counts at no visit.
+    /// Gives each of so many vertices a place, where none of them stands.
     pub(crate) fn fill(&mut self, vertices: u32) -> Result<(), NoMemory>
-        ensures { OnOk result (vec_len self.new.ratings ≡ vertices) }
+        ensures { OnOk result (vec_len self.new.places ≡ vertices) }
     {
-        let unnamed = Rating {
-            visit: NOBODY,
-            net: NOBODY,
-            sum: 0,
-        };
         self.named.clear();
-        self.ratings.clear();
-        self.ratings.resize(vertices as usize, unnamed)?;
+        self.places.clear();
+        self.places.resize(vertices as usize, 0)?;
         Ok(())
     }
 
     /// Begins a visit.
     pub(crate) fn clear(&mut self)
-        ensures { vec_len self.new.ratings ≡ vec_len self.old.ratings }
+        ensures { vec_len self.new.places ≡ vec_len self.old.places }
     {
         self.named.clear();
     }
 
     /// Rates a vertex that a neighbour on the net names; it is rated once a net.
-    pub(crate) fn name(
-        &mut self,
-        visit: u32,
-        net: u32,
-        named: Named,
-        score: u64,
-    ) -> Result<(), NoMemory>
-        requires { named.vertex < vec_len self.old.ratings }
-        ensures { vec_len self.new.ratings ≡ vec_len self.old.ratings }
+    pub(crate) fn name(&mut self, named: Named) -> Result<(), NoMemory>
+        requires { named.vertex < vec_len self.old.places }
+        ensures { vec_len self.new.places ≡ vec_len self.old.places }
     {
-        let rating = self.ratings[named.vertex as usize];
-        if rating.visit != visit {
-            self.named.push(named)?;
-            self.ratings[named.vertex as usize] = Rating {
-                visit,
-                net,
-                sum: score,
-            };
-        } else if rating.net != net {
-            self.ratings[named.vertex as usize] = Rating {
-                visit,
-                net,
-                sum: rating.sum.saturating_add(score),
-            };
+        let place = self.places[named.vertex as usize] as usize;
+        if place < self.named.len() && self.named[place].vertex == named.vertex {
+            let rating = &mut self.named[place];
+            if rating.net != named.net {
+                rating.net = named.net;
+                rating.sum = rating.sum.saturating_add(named.sum);
+            }
+            return Ok(());
         }
+        self.places[named.vertex as usize] = self.named.len().min(MOST_NAMED) as u32;
+        self.named.push(named)?;
         Ok(())
     }
 
     /// Takes out the vertex of the highest rating, the lowest number at a tie.
     pub(crate) fn take_best(&mut self) -> Option<Named>
-        ensures same { vec_len self.new.ratings ≡ vec_len self.old.ratings }
-        ensures below { IfSome result (λ c. c.vertex < vec_len self.new.ratings) }
+        ensures same { vec_len self.new.places ≡ vec_len self.old.places }
+        ensures below { IfSome result (λ c. c.vertex < vec_len self.new.places) }
     {
-        if self.named.is_empty() {
-            return None;
-        }
         let mut best = 0;
-        let mut vertex = self.named[0].vertex;
-        let mut most = self.ratings[vertex as usize].sum;
+        let mut most = *self.named.first()?;
         for i in 1..self.named.len() {
-            let other = self.named[i].vertex;
-            let sum = self.ratings[other as usize].sum;
-            if sum > most || sum == most && other < vertex {
+            let other = self.named[i];
+            if other.sum > most.sum || other.sum == most.sum && other.vertex < most.vertex {
                 best = i;
-                vertex = other;
-                most = sum;
+                most = other;
             }
         }
         Some(self.named.swap_remove(best))

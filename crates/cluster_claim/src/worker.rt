@@ -10,17 +10,22 @@ ghost use Rattle.cluster_claim.specs.Workers.{IsWorker};
 use crate::board::Words;
 use crate::pass::Pass;
 use crate::ratings::{Named, Ratings};
-use crew::{Gate, Span};
+use crate::shared::Shared;
+use crew::{Gate, Span, span_of};
 use hg_base::{FREE, NoMemory};
 use incidence::Hypergraph;
 use rand_core::utils::NextWord;
 use rand_pcg::Lcg64Xsh32;
+use std::sync::atomic::Ordering::SeqCst;
 
 /// Nets of more pins aren't used.
 const MOST_PINS: usize = 1000;
 
 /// So many vertices are tried at most.
 const MOST_TRIES: u32 = 8;
+
+/// A worker takes so many visits of a run at once.
+const SHARE: usize = 1024;
 
 /// What a worker owns.
 #[derive(Drop)]
@@ -29,6 +34,8 @@ pub(crate) struct Worker {
     pub(crate) ratings: Ratings,
     /// The last vertex without a neighbour that the worker made a root.
     pub(crate) lone: Option<u32>,
+    /// How many visits it made.
+    pub(crate) turn: u64,
     /// Whether there was no memory.
     pub(crate) failed: bool,
 }
@@ -112,10 +119,10 @@ fn follow_best(
     requires board { IsBoard words.now.key words.now.table_id h.now cap }
     requires pass { IsPass words.now.table_id stage.Idle pass.old }
     requires vertex { vertex < vertex_count h.now }
-    requires ratings { vec_len ratings.old.ratings ≡ vertex_count h.now }
+    requires ratings { vec_len ratings.old.places ≡ vertex_count h.now }
     requires taken { HasTaken pass.old vertex }
     ensures pass { IsPass words.now.table_id stage.Idle pass.new }
-    ensures ratings { vec_len ratings.new.ratings ≡ vertex_count h.now }
+    ensures ratings { vec_len ratings.new.places ≡ vertex_count h.now }
     ensures kept { result ≡ false → HasTaken pass.new vertex }
 {
     'tries: for _ in 0..MOST_TRIES {
@@ -142,11 +149,11 @@ fn rate_net(
 ) -> Result<(), NoMemory>
     requires board { IsBoard words.now.key words.now.table_id h.now cap }
     requires pass { IsPass words.now.table_id stage.Idle pass.old }
-    requires ratings { vec_len ratings.old.ratings ≡ vertex_count h.now }
+    requires ratings { vec_len ratings.old.places ≡ vertex_count h.now }
     requires net { net < net_count h.now }
     requires pins { 2 ≤ length (net_of h.now net).pins }
     ensures pass { IsPass words.now.table_id stage.Idle pass.new }
-    ensures ratings { vec_len ratings.new.ratings ≡ vertex_count h.now }
+    ensures ratings { vec_len ratings.new.places ≡ vertex_count h.now }
     ensures taken { (account_in pass.new).taken ≡ (account_in pass.old).taken }
 {
     let pins = h.pins(net);
@@ -154,19 +161,15 @@ fn rate_net(
     'pins: for pin in pins {
         if *pin != vertex {
             let mark = pass.peek(words, h, cap, *pin);
-            if mark >= 2 {
-                let root = (mark - 2) as u32;
-                let named = Named {
-                    vertex: root,
-                    own: false,
-                };
-                ratings.name(vertex, net, named, score)?;
-            } else if mark == 0 && h.fix(*pin) == FREE {
-                let named = Named {
-                    vertex: *pin,
-                    own: true,
-                };
-                ratings.name(vertex, net, named, score)?;
+            let own = mark == 0 && h.fix(*pin) == FREE;
+            if mark >= 2 || own {
+                let named = if own { *pin } else { (mark - 2) as u32 };
+                ratings.name(Named {
+                    vertex: named,
+                    own,
+                    net,
+                    sum: score,
+                })?;
             }
         }
     }
@@ -185,9 +188,9 @@ fn rate(
     requires board { IsBoard words.now.key words.now.table_id h.now cap }
     requires pass { IsPass words.now.table_id stage.Idle pass.old }
     requires vertex { vertex < vertex_count h.now }
-    requires ratings { vec_len ratings.old.ratings ≡ vertex_count h.now }
+    requires ratings { vec_len ratings.old.places ≡ vertex_count h.now }
     ensures pass { IsPass words.now.table_id stage.Idle pass.new }
-    ensures ratings { vec_len ratings.new.ratings ≡ vertex_count h.now }
+    ensures ratings { vec_len ratings.new.places ≡ vertex_count h.now }
     ensures taken { (account_in pass.new).taken ≡ (account_in pass.old).taken }
 {
     ratings.clear();
@@ -213,10 +216,10 @@ impl Worker {
     ) -> Result<(), NoMemory>
         requires board { IsBoard words.now.key words.now.table_id h.now cap }
         requires worker { IsWorker words.now.table_id (vertex_count h.now) self.old }
-        requires ratings { vec_len self.old.ratings.ratings ≡ vertex_count h.now }
+        requires ratings { vec_len self.old.ratings.places ≡ vertex_count h.now }
         requires vertex { vertex < vertex_count h.now }
         ensures worker { IsWorker words.now.table_id (vertex_count h.now) self.new }
-        ensures ratings { vec_len self.new.ratings.ratings ≡ vertex_count h.now }
+        ensures ratings { vec_len self.new.ratings.places ≡ vertex_count h.now }
     {
         if !take(words, &mut self.pass, h, cap, vertex) {
             return Ok(());
@@ -239,40 +242,101 @@ impl Worker {
         Ok(())
     }
 
-    /// Fills the ratings, and visits the vertices of a run in rising number, from a place that the
-    /// seed tells on, and goes round. It passes the gate before each.
-    pub(crate) fn run<G: Gate>(
+    /// Visits the vertices of a share of a run, which goes round from a place on, and passes the gate before each.
+    fn visit_share<G: Gate>(
         &mut self,
-        words: &Words,
-        h: &Hypergraph,
-        cap: u64,
+        shared: &Shared<'_>,
         gate: &G,
-        span: Span,
         number: u32,
-        seed: u64,
-    )
-        requires board { IsBoard words.now.key words.now.table_id h.now cap }
-        requires worker { IsWorker words.now.table_id (vertex_count h.now) self.old }
-        requires ordered { span.from ≤ span.to }
-        requires span { span.to ≤ vertex_count h.now }
-        ensures { IsWorker words.now.table_id (vertex_count h.now) self.new }
+        run: Span,
+        place: u32,
+        share: Span,
+    ) -> Result<(), NoMemory>
+        requires worker { IsWorker shared.now.words.now.table_id (vertex_count shared.now.h.now) self.old }
+        requires ratings { vec_len self.old.ratings.places ≡ vertex_count shared.now.h.now }
+        requires run { run.to ≤ vertex_count shared.now.h.now }
+        requires share { run.from + share.to ≤ run.to }
+        requires place { run.from + place < run.to }
+        ensures worker { IsWorker shared.now.words.now.table_id (vertex_count shared.now.h.now) self.new }
+        ensures ratings { vec_len self.new.ratings.places ≡ vertex_count shared.now.h.now }
     {
-        let count = span.to - span.from;
+        let before_end = run.to - run.from - place;
+        'visits: for i in share.from..share.to {
+            gate.pass(number, self.turn);
+            self.turn = self.turn.wrapping_add(1);
+            let vertex = if i < before_end {
+                run.from + place + i
+            } else {
+                run.from + (i - before_end)
+            };
+            self.visit(shared.words, shared.h, shared.cap, vertex)?;
+        }
+        Ok(())
+    }
+
+    /// Takes shares of the run of a worker, one after the other, until all of it is taken, and visits their vertices.
+    fn visit_shares<G: Gate>(
+        &mut self,
+        shared: &Shared<'_>,
+        gate: &G,
+        number: u32,
+        whose: u32,
+    ) -> Result<(), NoMemory>
+        requires worker { IsWorker shared.now.words.now.table_id (vertex_count shared.now.h.now) self.old }
+        requires ratings { vec_len self.old.ratings.places ≡ vertex_count shared.now.h.now }
+        requires whose { whose < shared.now.workers }
+        ensures worker { IsWorker shared.now.words.now.table_id (vertex_count shared.now.h.now) self.new }
+        ensures ratings { vec_len self.new.ratings.places ≡ vertex_count shared.now.h.now }
+    {
+        let run = span_of(shared.h.vertices(), shared.workers, whose);
+        let count = run.to - run.from;
         if count == 0 {
-            return;
+            return Ok(());
         }
-        if self.ratings.fill(h.vertices()).is_err() {
-            self.failed = true;
-            return;
-        }
-        let mut place = Lcg64Xsh32::new(seed, u64::from(number)).next_word() % count;
-        'visits: for turn in 0..count {
-            gate.pass(number, u64::from(turn));
-            if self.visit(words, h, cap, span.from + place).is_err() {
-                self.failed = true;
-                return;
+        let place = Lcg64Xsh32::new(shared.seed, u64::from(whose)).next_word() % count;
+        'shares: for _ in 0..count {
+            let from = shared.taken[whose as usize].fetch_add(SHARE, SeqCst);
+            if from >= count as usize {
+                return Ok(());
             }
-            place = if place + 1 < count { place + 1 } else { 0 };
+            let share = Span {
+                from: from as u32,
+                to: from.saturating_add(SHARE).min(count as usize) as u32,
+            };
+            self.visit_share(shared, gate, number, run, place, share)?;
         }
+        Ok(())
+    }
+
+    /// Visits the vertices of its run in rising number, from a place that the seed tells on, and goes round, and then
+    /// those of other runs that nobody has taken yet, since not all processors are equally fast.
+    fn visit_runs<G: Gate>(
+        &mut self,
+        shared: &Shared<'_>,
+        gate: &G,
+        number: u32,
+    ) -> Result<(), NoMemory>
+        requires worker { IsWorker shared.now.words.now.table_id (vertex_count shared.now.h.now) self.old }
+        requires number { number < shared.now.workers }
+        ensures { IsWorker shared.now.words.now.table_id (vertex_count shared.now.h.now) self.new }
+    {
+        self.ratings.fill(shared.h.vertices())?;
+        'runs: for others in 0..shared.workers {
+            let mut whose = number + others;
+            if whose >= shared.workers {
+                whose -= shared.workers;
+            }
+            self.visit_shares(shared, gate, number, whose)?;
+        }
+        Ok(())
+    }
+
+    /// Fills the ratings and makes its visits, and notes where there is no memory.
+    pub(crate) fn run<G: Gate>(&mut self, shared: &Shared<'_>, gate: &G, number: u32)
+        requires worker { IsWorker shared.now.words.now.table_id (vertex_count shared.now.h.now) self.old }
+        requires number { number < shared.now.workers }
+        ensures { IsWorker shared.now.words.now.table_id (vertex_count shared.now.h.now) self.new }
+    {
+        self.failed = self.visit_runs(shared, gate, number).is_err();
     }
 }

@@ -7,6 +7,6 @@ use Rattle.cluster_claim.proofs.worker.follow_best.Given as goal
 abbrev pub invariant-tries : goal.invariant-tries
 invariant-tries l = record {
   pass : IsPass l.words.table_id Idle l.pass;
-  rated : vec_len l.ratings.ratings ≡ vertex_count l.h;
+  rated : vec_len l.ratings.places ≡ vertex_count l.h;
   has : HasTaken l.pass l.vertex;
 }

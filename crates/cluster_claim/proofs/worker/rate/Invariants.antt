@@ -7,6 +7,6 @@ use Rattle.cluster_claim.proofs.worker.rate.Given as goal
 abbrev pub invariant-nets : goal.invariant-nets
 invariant-nets l = record {
   pass : IsPass l.words.table_id Idle l.pass;
-  rated : vec_len l.ratings.ratings ≡ vertex_count l.h;
+  rated : vec_len l.ratings.places ≡ vertex_count l.h;
   taken : (account_in l.pass).taken ≡ (account_in l.fn.pass).taken;
 }
