@@ -75,6 +75,7 @@ fn worker_of(alloc: Global, words: &Words, h: &Hypergraph, pass: Pass) -> Result
         lone: None,
         turn: 0,
         failed: false,
+        apart: [0; 16],
     })
 }
 

@@ -27,6 +27,9 @@ const MOST_TRIES: u32 = 8;
 /// A worker takes so many visits of a run at once.
 const SHARE: usize = 1024;
 
+/// Room between what one worker writes and what others read, so that no line of the cache holds both.
+pub(crate) type Apart = [u64; 16];
+
 /// What a worker owns.
 #[derive(Drop)]
 pub(crate) struct Worker {
@@ -38,6 +41,7 @@ pub(crate) struct Worker {
     pub(crate) turn: u64,
     /// Whether there was no memory.
     pub(crate) failed: bool,
+    pub(crate) apart: Apart,
 }
 
 /// Takes a vertex that is free and that nobody has.

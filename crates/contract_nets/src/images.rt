@@ -17,6 +17,7 @@ use hg_base::NoMemory;
 use incidence::Hypergraph;
 use std::alloc::{AllocError, Global};
 use std::marker::Model;
+use std::mem;
 use std::snapshot::Snapshot;
 use std::thread::Threads;
 
@@ -210,7 +211,8 @@ fn empty_parts(
     Ok(parts)
 }
 
-/// Writes the lists and the keys of part `j` into their room.
+/// Writes the lists and the keys of part `j` into their room. The thread has their lengths to itself meanwhile, since a
+/// line of the cache that holds those of two parts would go to and fro between threads.
 fn fill_part(
     alloc: Global,
     h: &Hypergraph,
@@ -224,12 +226,13 @@ fn fill_part(
     requires empty { IfOk part.old IsBare }
     ensures { IfOk part.new (IsMapped h.now clusters.now size j) }
 {
-    let Ok(room) = part else {
+    let Ok(mut room) = mem::replace(part, Err(NoMemory)) else {
         return;
     };
-    if let Err(refused) = map_part(alloc, h, clusters, size, j, &mut room.part, &mut room.keys) {
-        *part = Err(refused);
-    }
+    *part = match map_part(alloc, h, clusters, size, j, &mut room.part, &mut room.keys) {
+        Ok(()) => Ok(room),
+        Err(refused) => Err(refused),
+    };
 }
 
 /// Part `j` of the nets, and its keys.

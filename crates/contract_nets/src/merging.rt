@@ -16,6 +16,7 @@ use crate::nets::Nets;
 use crew::each;
 use hg_base::{FlatHyper, NoMemory};
 use std::alloc::Global;
+use std::mem;
 use std::thread::Threads;
 
 /// The nets of sorted keys, with equal neighbours merged: in lists that follow one another, each of
@@ -91,7 +92,8 @@ fn empty_lists(
     Ok(lists)
 }
 
-/// Writes the merged nets of part `j` into their room.
+/// Writes the merged nets of part `j` into their room. The thread has their lengths to itself meanwhile, since a line of
+/// the cache that holds those of two parts would go to and fro between threads.
 fn fill_list(
     nets: &Images<'_>,
     keys: &[Key],
@@ -106,12 +108,13 @@ fn fill_list(
     requires empty { IfOk list.old (λ list. list ≡ []) }
     ensures { IfOk list.new (λ list. list ≡ part_of nets.now keys.now cuts.now j) }
 {
-    let Ok(room) = list else {
+    let Ok(mut room) = mem::replace(list, Err(NoMemory)) else {
         return;
     };
-    if let Err(refused) = merge_keys(nets, &keys[cuts[j]..cuts[j + 1]], room) {
-        *list = Err(refused);
-    }
+    *list = match merge_keys(nets, &keys[cuts[j]..cuts[j + 1]], &mut room) {
+        Ok(()) => Ok(room),
+        Err(refused) => Err(refused),
+    };
 }
 
 /// Gives an empty list the nets of the keys, in this order, with equal neighbours merged.
