@@ -220,9 +220,10 @@ fn close(
 /// A root is its own root. A cluster of several vertices weighs at most `cap` and has free vertices
 /// alone. Each worker visits its run of the vertices in rising number, from a place that the seed
 /// tells on, and goes round, and then what is left of the others' runs; it passes the gate before
-/// each vertex. A vertex joins the neighbour's cluster with the highest rating that has room: the sum over the nets of 2 to 1,000 pins that name
-/// it, each 1,000 times its weight by its other pins. Which worker wins a vertex is left to the
-/// threads, so the answer may differ from run to run where there are several.
+/// each vertex. A vertex joins the neighbour's cluster with the highest rating that has room: the
+/// sum over the nets of 2 to 1,000 pins that name it, each 1,000 times its weight by its other
+/// pins. Which worker wins a vertex is left to the threads, so the answer may differ from run to
+/// run where there are several.
 pub fn cluster<R: Threads + Sync, G: Gate>(
     rt: &R,
     alloc: Global,
