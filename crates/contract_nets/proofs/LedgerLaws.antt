@@ -11,7 +11,7 @@ use Rattle.std.proofs.lemmas.Cmp.{tied_itself}
 use Rattle.std.proofs.lemmas.List.{length-map, get_or-map}
 use Rattle.std.proofs.lemmas.List.Elements.{Contains-get_or, All-contains}
 use Rattle.std.proofs.lemmas.List.FromFn.{length-range_with_len, get_or-range_with_len}
-use Rattle.std.proofs.lemmas.List.Sorted.{Contains-permutation}
+use Rattle.std.proofs.lemmas.List.Sorted.{Contains-permutation, IsPermutation-map}
 use Rattle.std.proofs.lemmas.Map.Keys.{IsDistinct-from_sorted, apart_from_distinct}
 use Rattle.hg_defs.specs.Hypergraph.{Net, Hyper, net_count, net_of}
 use Rattle.hg_defs.specs.Contraction.{image, images, merged_weight, contract}
@@ -29,11 +29,10 @@ use Rattle.contract_nets.specs.Keys.{Key}
 use Rattle.contract_nets.specs.Ledger.{place_of, Names, went_into, weight_into, IsLedger}
 
 -- a net of two clusters or more has a key
-pub all_placed : (h mapped : Hyper) (clusters : List ℕ) (keys sorted : List Key) (places : List ℕ) → mapped.nets ≡ map (mapped_net clusters) h.nets
+pub key_of_wide : (h mapped : Hyper) (clusters : List ℕ) (keys sorted : List Key) → mapped.nets ≡ map (mapped_net clusters) h.nets
     → map (λ (k : Key). k.1) keys ≡ filter (λ e. is_kept (net_of mapped e)) (range_with_len 0 (net_count mapped)) → IsPermutation keys sorted
-    → All (λ (k : Key). slice_index places k.1 ≢ DROPPED) sorted
-    → (e : ℕ) → e < net_count h → 2 ≤ length (image clusters (net_of h e)) → slice_index places e ≢ DROPPED
-all_placed h mapped clusters keys sorted places nets numbers moved all e l wide =
+    → (e : ℕ) → e < net_count h → 2 ≤ length (image clusters (net_of h e)) → Contains (map (λ (k : Key). k.1) sorted) e
+key_of_wide h mapped clusters keys sorted nets numbers moved e l wide =
     let count : net_count mapped ≡ net_count h = ap (λ (ns : List Net). length ns) nets ∙ length-map h.nets (mapped_net clusters) in
     let net : net_of mapped e ≡ mapped_net clusters (net_of h e) =
     ap (λ (ns : List Net). get_or ns e (record { weight = 0; pins = [] })) nets ∙ get_or-map (mapped_net clusters) h.nets e
@@ -51,9 +50,14 @@ all_placed h mapped clusters keys sorted places nets numbers moved all e l wide 
     let number = subst (λ (xs : List ℕ). Contains xs e) (sym numbers) (Contains_filter (λ i. is_kept (net_of mapped i))
     (range_with_len 0 (net_count mapped)) e
     here kept) in
+    Contains-permutation (map (λ (k : Key). k.1) keys) (map (λ (k : Key). k.1) sorted) e (IsPermutation-map (λ (k : Key). k.1) keys sorted moved) number
+
+-- and so has a place where each key has one
+pub placed_by_key : (keys : List Key) (places : List ℕ) → All (λ (k : Key). slice_index places k.1 ≢ DROPPED) keys → (e : ℕ)
+    → Contains (map (λ (k : Key). k.1) keys) e → slice_index places e ≢ DROPPED
+placed_by_key keys places all e number =
     let key = Contains-from_map (λ (k : Key). k.1) keys e number in
-    subst (λ (i : ℕ). slice_index places i ≢ DROPPED) key.2
-    (All-contains (λ (k : Key). slice_index places k.1 ≢ DROPPED) sorted key.0 all (Contains-permutation keys sorted key.0 moved key.1))
+    subst (λ (i : ℕ). slice_index places i ≢ DROPPED) key.2 (All-contains (λ (k : Key). slice_index places k.1 ≢ DROPPED) keys key.0 all key.1)
 
 module _ (h : Hyper) (clusters : List ℕ) (count : ℕ) where
   pins_at : ℕ → List ℕ

@@ -1,5 +1,6 @@
 pub mod ImageLaws
 pub mod KeyLaws
+pub mod RangeLaws
 pub mod MappedLaws
 pub mod VertexLaws
 pub mod NetLaws

@@ -16,7 +16,7 @@ use Rattle.contract_nets.proofs.CoarseLaws.{few_clusters}
 use Rattle.contract_nets.proofs.KeyLaws.{AreKeys, AreKeys-all, keys_from-append}
 use Rattle.contract_nets.proofs.ImageLaws.{AreThere, count_over, vertices_over, image_over, pins_over}
 
-element_at : {X : Type 0} (xs : List X) (i : ℕ) → i < length xs → X
+pub element_at : {X : Type 0} (xs : List X) (i : ℕ) → i < length xs → X
 element_at [] i l = absurd (omega arith)
 element_at (x ∷ xs) zero l = x
 element_at (x ∷ xs) (suc i) l = element_at xs i (omega arith)

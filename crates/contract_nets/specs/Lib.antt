@@ -2,6 +2,7 @@ pub mod Places
 pub mod Ledger
 pub mod Merging
 pub mod Keys
+pub mod Ranges
 pub mod Images
 pub mod Mapped
 pub mod Cuts

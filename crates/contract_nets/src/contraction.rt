@@ -1,17 +1,20 @@
 //! The contraction of a hypergraph.
 
-ghost use Rattle.std.specs.Prelude.{◌≡◌, ◌≢◌, ◌<◌, ◌≤◌, ◌^◌, ℕ, length, slice_index, replicate, All, IfOk, OnOk};
+ghost use Rattle.std.specs.Prelude.{◌≡◌, ◌≢◌, ◌<◌, ◌≤◌, ◌^◌, ℕ, length, slice_index, replicate};
+ghost use Rattle.std.specs.Prelude.{All, Contains, IfOk, OnOk};
 ghost use Rattle.std.specs.Prelude as images;
 ghost use Rattle.contract_nets.specs.Nets.{all_nets};
 ghost use Rattle.hg_defs.specs.Hypergraph.{vertex_count, net_count, net_of};
 ghost use Rattle.hg_defs.specs.Contraction.{IsFull, image};
 ghost use Rattle.hg_defs.specs.Contraction as contraction;
 ghost use Rattle.hg_defs.specs.Clustering.{cluster_count};
+ghost use Rattle.contract_nets.specs.Images.{over};
+ghost use Rattle.contract_nets.specs.Keys.{IsKey, net_of_key};
 ghost use Rattle.contract_nets.specs.Ledger.{IsLedger};
-ghost use Rattle.contract_nets.specs.Merging.{mapped_net, ArePlaces};
+ghost use Rattle.contract_nets.specs.Merging.{mapped_net, merged, AreWithin, ArePlaces};
 
-use crate::images::map_nets;
-use crate::keys::sort_keys;
+use crate::images::{Images, map_nets};
+use crate::keys::{Key, sort_keys};
 use crate::ledger::{DROPPED, MergeLedger};
 use crate::merging::{add_nets, merge_nets, write_places};
 use crate::nets::Nets;
@@ -19,7 +22,7 @@ use crate::vertices::vertices_of;
 use hg_base::{FlatHyper, NoMemory};
 use incidence::Hypergraph;
 use std::alloc::Global;
-use std::thread::Threads;
+use std::thread::{Threads, join_mut};
 
 /// So many threads at most work on a contraction.
 const MOST_THREADS: u32 = 8;
@@ -33,8 +36,7 @@ const MOST_THREADS: u32 = 8;
 /// equal ones are merged and their weights added, and the coarse nets stand in lexicographic order
 /// of their pins. The ledger tells where each net went. The method is that of Mt-KaHyPar.
 ///
-/// It works in at most so many threads as there are workers, and in at most eight; sorting alone, where there
-/// are two workers or more, shares its work out by the processors.
+/// It works in at most so many threads as there are workers, and in at most eight.
 pub fn contract(
     rt: &(impl Threads + Sync),
     alloc: Global,
@@ -57,7 +59,9 @@ pub fn contract(
     ))
 }
 
-/// The coarse hypergraph; writes the place of each net into a list that has `DROPPED` throughout.
+/// The coarse hypergraph; writes the place of each net into a list that has `DROPPED` throughout. Where the coarse nets
+/// stand in one list, as those that one thread made do, this thread does the one after the other, and lets go of the
+/// images and keys in between, so that it never holds them beside the coarse hypergraph.
 fn merge(
     rt: &(impl Threads + Sync),
     alloc: Global,
@@ -75,38 +79,95 @@ fn merge(
     ensures all { OnOk result ((e : ℕ) → e < net_count h.now → 2 ≤ length (image map.now (net_of h.now e)) →
         slice_index places.new e ≢ DROPPED) }
 {
-    let _vertices = h.vertices();
-    let lists = merged_lists(rt, alloc, h, map, threads, places)?;
-    let mut coarse = vertices_of(alloc, h, map, count_clusters(map))?;
-    add_nets(&mut coarse, &lists)?;
-    Ok(coarse)
+    let (nets, keys) = sorted_nets(rt, alloc, h, map, threads)?;
+    let lists = merge_nets(rt, alloc, &nets, &keys, threads)?;
+    if lists.len() > 1 {
+        return coarse_and_places(rt, alloc, h, map, &lists, &nets, &keys, places);
+    }
+    write_places(&nets, &keys, places);
+    drop(keys);
+    drop(nets);
+    coarse_of(alloc, h, map, &lists)
 }
 
-/// The coarse nets, in lists that follow one another; writes the place of each net as [`merge`] does.
-fn merged_lists(
+/// The nets over the clusters, and the sorted keys of those with two pins or more.
+fn sorted_nets<'a>(
+    rt: &(impl Threads + Sync),
+    alloc: Global,
+    h: &'a Hypergraph,
+    map: &'a [u32],
+    threads: u32,
+) -> Result<(Images<'a>, Vec<Key>), NoMemory>
+    requires full { IsFull h.now map.now (cluster_count map.now) }
+    requires threads { 0 < threads }
+    ensures images { IfOk result (λ pair. pair.0 ≡ over h.now map.now) }
+    ensures keys { IfOk result (λ pair. All (IsKey pair.0) pair.1.items) }
+    ensures limits { IfOk result (λ pair. AreWithin (merged (images.map (net_of_key pair.0) pair.1.items))) }
+    ensures nets { IfOk result (λ pair. merged (images.map (net_of_key pair.0) pair.1.items)
+        ≡ (contraction.contract h.now map.now (cluster_count map.now)).nets) }
+    ensures all { IfOk result (λ pair. (e : ℕ) → e < net_count h.now → 2 ≤ length (image map.now (net_of h.now e)) →
+        Contains (images.map (λ key. key.1) pair.1.items) e) }
+{
+    let _vertices = h.vertices();
+    let (nets, mut keys) = map_nets(rt, alloc, h, map, threads)?;
+    sort_keys(rt, alloc, &nets, &mut keys, threads)?;
+    Ok((nets, keys))
+}
+
+/// The coarse hypergraph, made by this thread, while a new one writes the place of each net.
+fn coarse_and_places(
     rt: &(impl Threads + Sync),
     alloc: Global,
     h: &Hypergraph,
     map: &[u32],
-    threads: u32,
+    lists: &[Nets],
+    nets: &Images<'_>,
+    keys: &[Key],
     places: &mut [u32],
-) -> Result<Vec<Nets>, NoMemory>
+) -> Result<FlatHyper, NoMemory>
     requires full { IsFull h.now map.now (cluster_count map.now) }
-    requires threads { 0 < threads }
-    requires places { places.old ≡ replicate (net_count h.now) DROPPED }
-    ensures nets { IfOk result (λ lists. all_nets lists.items
-        ≡ (contraction.contract h.now map.now (cluster_count map.now)).nets) }
-    ensures placed { IfOk result (λ lists. ArePlaces (images.map (mapped_net map.now) h.now.nets)
-        (images.map (λ e. e.pins) (all_nets lists.items)) places.new) }
-    ensures all { OnOk result ((e : ℕ) → e < net_count h.now → 2 ≤ length (image map.now (net_of h.now e)) →
-        slice_index places.new e ≢ DROPPED) }
+    requires lists { all_nets lists.now ≡ (contraction.contract h.now map.now (cluster_count map.now)).nets }
+    requires keys { All (IsKey nets.now) keys.now }
+    requires limits { AreWithin (merged (images.map (net_of_key nets.now) keys.now)) }
+    requires places { places.old ≡ replicate (net_count nets.now) DROPPED }
+    ensures coarse { IfOk result (λ coarse. coarse ≡ contraction.contract h.now map.now (cluster_count map.now)) }
+    ensures placed { ArePlaces nets.now.nets
+        (images.map (λ e. e.pins) (merged (images.map (net_of_key nets.now) keys.now))) places.new }
+    ensures all { All (λ key. slice_index places.new key.1 ≢ DROPPED) keys.now }
+{
+    let mut front = ||
+        requires { All (IsKey nets.now) keys.now × AreWithin (merged (images.map (net_of_key nets.now) keys.now))
+            × (places.now ≡ replicate (net_count nets.now) DROPPED) }
+        ensures placed { ArePlaces nets.entry.now.nets
+            (images.map (λ e. e.pins) (merged (images.map (net_of_key nets.entry.now) keys.entry.now)))
+            places.exit.now }
+        ensures all { All (λ key. slice_index places.exit.now key.1 ≢ DROPPED) keys.entry.now }
+    { write_places(nets, keys, places) };
+    let mut back = || -> Result<FlatHyper, NoMemory>
+        requires { IsFull h.now map.now (cluster_count map.now)
+            × (all_nets lists.now ≡ (contraction.contract h.now map.now (cluster_count map.now)).nets) }
+        ensures { IfOk result (λ coarse.
+            coarse ≡ contraction.contract h.entry.now map.entry.now (cluster_count map.entry.now)) }
+    { coarse_of(alloc, h, map, lists) };
+    let ((), coarse) = join_mut(rt, &mut front, &mut back);
+    coarse
+}
+
+/// The coarse hypergraph with the nets of lists, which are its nets.
+fn coarse_of(
+    alloc: Global,
+    h: &Hypergraph,
+    map: &[u32],
+    lists: &[Nets],
+) -> Result<FlatHyper, NoMemory>
+    requires full { IsFull h.now map.now (cluster_count map.now) }
+    requires lists { all_nets lists.now ≡ (contraction.contract h.now map.now (cluster_count map.now)).nets }
+    ensures { IfOk result (λ coarse. coarse ≡ contraction.contract h.now map.now (cluster_count map.now)) }
 {
     let _vertices = h.vertices();
-    let (nets, mut keys) = map_nets(rt, alloc, h, map, threads)?;
-    sort_keys(rt, &nets, &mut keys, threads);
-    let lists = merge_nets(rt, alloc, &nets, &keys, threads)?;
-    write_places(&nets, &keys, places);
-    Ok(lists)
+    let mut coarse = vertices_of(alloc, h, map, count_clusters(map))?;
+    add_nets(&mut coarse, lists)?;
+    Ok(coarse)
 }
 
 /// How many clusters a full clustering has: one more than its greatest number, or 0 where there is none.

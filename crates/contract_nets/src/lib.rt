@@ -9,6 +9,7 @@ mod keys;
 mod ledger;
 mod merging;
 mod nets;
+mod ranges;
 mod vertices;
 
 pub use contraction::{contract, count_clusters};

@@ -1,35 +1,22 @@
--- The vertices and nets of the contraction.
-use Rattle.std.proofs.Common.{ℕ, sym, ap, ◌∙◌, subst, arith}
-use Rattle.hg_defs.specs.Contraction.{IsFull, contract}
-use Rattle.hg_defs.specs.Clustering.{cluster_count}
-use Rattle.contract_nets.specs.Nets.{all_nets}
-use Rattle.contract_nets.proofs.CoarseLaws.{few_clusters, coarse_limits, coarse_sound}
+-- A net of two clusters or more has a key, and so a place.
+use Rattle.std.proofs.Common.{List, map, Contains, Result, Ok, Err, OnOk, sym, subst}
+use Rattle.contract_nets.specs.Keys.{Key}
+use Rattle.contract_nets.proofs.LedgerLaws.{placed_by_key}
 use Rattle.contract_nets.proofs.contraction.merge.Goals as goal
 
-pub count_clusters-requires : goal.count_clusters-requires
-count_clusters-requires g c =
-    let few = few_clusters c.args.h.now c.args.map.now (cluster_count c.args.map.now) c.vertices-vertices.ensures.sound c.requires.full
-    c.vertices-vertices.ensures.bounds in
-    λ k d l. let below = c.requires.full.below k d l in omega arith
+on_ok : {T E A : Type 0} (r : Result T E) → A → OnOk r A
+on_ok (Ok x) a = a
+on_ok (Err e) a = tt
 
-pub vertices_of-requires-clause-few : goal.vertices_of-requires-clause-few
-vertices_of-requires-clause-few g c =
-    let few = few_clusters c.args.h.now c.args.map.now (cluster_count c.args.map.now) c.vertices-vertices.ensures.sound c.requires.full
-    c.vertices-vertices.ensures.bounds in
-    let count = c.count_clusters.ensures in
-    omega arith
+pub returns-then-len-gt1-clause-all : goal.returns-then-len-gt1-clause-all
+returns-then-len-gt1-clause-all g c =
+    let keys = c.deref-then-len-gt1-2 in
+    on_ok c.coarse_and_places.result
+    (λ e l wide. placed_by_key keys.result.now c.coarse_and_places.new.places c.coarse_and_places.ensures.all e
+    (subst (λ (ks : List Key). Contains (map (λ (k : Key). k.1) ks) e) (sym keys.ensures.value) (c.in_ok-nets.ensures.all e l wide)))
 
-pub add_nets-requires-clause-nets : goal.add_nets-requires-clause-nets
-add_nets-requires-clause-nets g c =
-    coarse_sound c.args.h.now c.in_ok-coarse.coarse c.args.map.now c.count_clusters.result (all_nets c.deref.result.now)
-    (ap all_nets c.deref.ensures.value ∙ c.in_ok-lists.ensures.nets ∙ ap (λ (n : ℕ). (contract c.args.h.now c.args.map.now n).nets) (sym c.count_clusters.ensures))
-    c.in_ok-coarse.ensures c.vertices-vertices.ensures.sound
-    (subst (IsFull c.args.h.now c.args.map.now) (sym c.count_clusters.ensures) c.requires.full)
-
-pub add_nets-requires-clause-limits : goal.add_nets-requires-clause-limits
-add_nets-requires-clause-limits g c =
-    coarse_limits c.args.h.now c.in_ok-coarse.coarse c.args.map.now c.count_clusters.result (all_nets c.deref.result.now)
-    (ap all_nets c.deref.ensures.value ∙ c.in_ok-lists.ensures.nets ∙ ap (λ (n : ℕ). (contract c.args.h.now c.args.map.now n).nets) (sym c.count_clusters.ensures))
-    c.in_ok-coarse.ensures c.vertices-vertices.ensures.sound
-    (subst (IsFull c.args.h.now c.args.map.now) (sym c.count_clusters.ensures) c.requires.full)
-    c.vertices-vertices.ensures.bounds
+pub returns-clause-all : goal.returns-clause-all
+returns-clause-all g c =
+    on_ok c.coarse_of.result
+    (λ e l wide. placed_by_key c.deref-2.result.now c.write_places.new.places c.write_places.ensures.all e
+    (subst (λ (ks : List Key). Contains (map (λ (k : Key). k.1) ks) e) (sym c.deref-2.ensures.value) (c.in_ok-nets.ensures.all e l wide)))
