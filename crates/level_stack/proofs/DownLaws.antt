@@ -1,6 +1,6 @@
 -- Laws of descents over the levels of a stack.
-use Rattle.std.proofs.Common.{◌≡◌, ℕ, ◌+◌, ◌-◌, ◌<◌, List, [], ◌∷◌, ◌++◌, take, get_or, sym, ap, subst, ◌∙◌, arith}
-use Rattle.std.proofs.lemmas.List.{get_or-take, length-take, length-append, get_or_append_left}
+use Rattle.std.proofs.Common.{◌≡◌, ℕ, ◌+◌, ◌-◌, ◌<◌, List, [], ◌∷◌, ◌++◌, length, take, get_or, refl, sym, ap, subst, ◌∙◌, arith}
+use Rattle.std.proofs.lemmas.List.{get_or-take, length-take, length-append, length_push, get_or_push, get_or_append_left}
 use Rattle.hg_defs.specs.Hypergraph.{Hyper}
 use Rattle.hg_defs.specs.Contraction.{IsFull, IsApart}
 use Rattle.hg_defs.specs.Clustering.{cluster_count}
@@ -35,6 +35,13 @@ IsDown-front base maps kept more d = record {
   full = d.full;
   apart = d.apart;
 }
+
+-- the last of the levels that are kept
+pub last_level : (maps : List (List ℕ)) (below : List Hyper) (last : Hyper) → IsDown (first_of below last) maps (below ++ last ∷ [])
+    → last ≡ level (first_of below last) maps (length below)
+last_level maps below last down =
+    let sum = length_push below last in
+    sym (get_or_push below last last (length below) refl) ∙ down.at (length below) last (omega arith)
 
 module _ (maps : List (List ℕ)) (below : List Hyper) (last : Hyper) (down : IsDown (first_of below last) maps (below ++ last ∷ [])) (rest : List Hyper)
     (on : Hyper) where

@@ -38,22 +38,36 @@ impl Model for LevelsDown {
     ghost invariant = { λ d. IsDown (first_of d.below.items d.on) d.maps (d.below.items ++ d.on ∷ []) };
 }
 
-/// Takes the last of some levels, and makes its index by so many threads.
-pub(crate) fn index_last<R: Threads + Sync>(
-    rt: &R,
-    alloc: Global,
-    mut levels: Vec<FlatHyper>,
-    threads: usize,
-) -> Result<(Vec<FlatHyper>, Hypergraph), NoMemory>
-    requires some { 0 < length levels.items }
-    requires threads { 0 < threads }
-    ensures { IfOk result (λ r. levels.items ≡ r.0.items ++ r.1 ∷ []) }
+/// The levels below one that a descent has left. None of them has its index yet, so that one can be made while the
+/// level above is still in use.
+#[derive(Drop)]
+pub struct LevelsBelow {
+    below: Vec<FlatHyper>,
+    next: FlatHyper,
+    maps: MapStack,
+}
+
+impl Model for LevelsBelow {
+    ghost use Rattle.std.specs.Prelude.{[], ◌∷◌, ◌++◌, length};
+    ghost use Rattle.level_stack.specs.Stack.{first_of};
+    ghost use Rattle.level_stack.specs.Down.{Down, IsDown};
+
+    ghost Value = { Down };
+
+    ghost view = { λ d. record { base = first_of d.below.items d.next; maps = d.maps; number = length d.below.items } };
+
+    ghost invariant = { λ d. IsDown (first_of d.below.items d.next) d.maps (d.below.items ++ d.next ∷ []) };
+}
+
+/// Takes the last of some levels off.
+pub(crate) fn take_last(mut levels: Vec<FlatHyper>) -> (Vec<FlatHyper>, FlatHyper)
+    requires { 0 < length levels.items }
+    ensures { levels.items ≡ result.0.items ++ result.1 ∷ [] }
 {
-    let Some(flat) = levels.pop() else {
+    let Some(last) = levels.pop() else {
         unreachable!()
     };
-    let last = Hypergraph::build_with(rt, alloc, flat, threads)?;
-    Ok((levels, last))
+    (levels, last)
 }
 
 impl LevelsDown {
@@ -83,6 +97,17 @@ impl LevelsDown {
         self.maps.slice()[self.below.len()].slice()
     }
 
+    /// Leaves the level: gives it, and the levels below it.
+    pub fn leave(self) -> (Hypergraph, LevelsBelow)
+        requires { 0 < self.number }
+        ensures level { result.0 ≡ level self.base self.maps self.number }
+        ensures below { result.1 ≡ record self { number = self.number - 1 } }
+    {
+        let LevelsDown { on, below, maps } = self;
+        let (below, next) = take_last(below);
+        (on, LevelsBelow { below, next, maps })
+    }
+
     /// Goes down to the level below: drops the one above it, and then makes its index by at most so
     /// many threads. Where there is no memory, all levels are dropped.
     pub fn descend<R: Threads + Sync>(
@@ -95,10 +120,9 @@ impl LevelsDown {
         requires threads { 0 < threads }
         ensures { IfOk result (λ down. down ≡ record self { number = self.number - 1 }) }
     {
-        let LevelsDown { on, below, maps } = self;
+        let (on, below) = self.leave();
         drop(on);
-        let (below, on) = index_last(rt, alloc, below, threads)?;
-        Ok(LevelsDown { on, below, maps })
+        below.enter(rt, alloc, threads)
     }
 
     /// Gives the finest level, which the descent is on, and the clusterings.
@@ -109,5 +133,31 @@ impl LevelsDown {
     {
         let LevelsDown { on, below: _, maps } = self;
         (on, maps)
+    }
+}
+
+impl LevelsBelow {
+    /// The levels below one, of which `next` is the last, and the clusterings of all.
+    pub(crate) fn begin(below: Vec<FlatHyper>, next: FlatHyper, maps: MapStack) -> Self
+        requires { IsDown (first_of below.items next) maps (below.items ++ next ∷ []) }
+        ensures { result ≡ record { base = first_of below.items next; maps = maps; number = length below.items } }
+    {
+        LevelsBelow { below, next, maps }
+    }
+
+    /// Goes down to the first of them: makes its index by at most so many threads. Where there is no
+    /// memory, all levels are dropped.
+    pub fn enter<R: Threads + Sync>(
+        self,
+        rt: &R,
+        alloc: Global,
+        threads: usize,
+    ) -> Result<LevelsDown, NoMemory>
+        requires { 0 < threads }
+        ensures { IfOk result (λ down. down ≡ self) }
+    {
+        let LevelsBelow { below, next, maps } = self;
+        let on = Hypergraph::build_with(rt, alloc, next, threads)?;
+        Ok(LevelsDown { on, below, maps })
     }
 }

@@ -6,7 +6,7 @@ ghost use Rattle.hg_defs.specs.Clustering.{cluster_count};
 ghost use Rattle.hg_defs.specs.Levels.{level, coarsest, map_of};
 ghost use Rattle.level_stack.specs.Stack.{ledger_of, LeadsUp};
 
-use crate::down::{LevelsDown, index_last};
+use crate::down::{LevelsBelow, LevelsDown, take_last};
 use contract_nets::MergeLedger;
 use hg_base::{FlatHyper, MapList, MapStack, NoMemory};
 use incidence::Hypergraph;
@@ -163,8 +163,8 @@ impl LevelStack {
         }
         drop(top);
         below.truncate(i + 1);
-        let (below, on) = index_last(rt, alloc, below, threads)?;
-        Ok(LevelsDown::begin(below, on, maps))
+        let (below, next) = take_last(below);
+        LevelsBelow::begin(below, next, maps).enter(rt, alloc, threads)
     }
 
     /// Gives the finest level and drops the others.

@@ -1,7 +1,7 @@
 -- The way down the levels: what was done so far, and what is left.
-use Rattle.std.proofs.Common.{◌≡◌, ◌≢◌, ℕ, zero, suc, ◌+◌, ◌-◌, ◌*◌, ◌<◌, ◌≤◌, ◌^◌, List, [], ◌++◌}
+use Rattle.std.proofs.Common.{◌≡◌, ◌≢◌, ℕ, suc, ◌+◌, ◌-◌, ◌*◌, ◌<◌, ◌≤◌, ◌^◌, List, [], ◌++◌}
 use Rattle.std.proofs.Common.{length, map, All, AllPairs, refl, sym, ap, subst, ◌∙◌, arith}
-use Rattle.std.proofs.lemmas.List.{append-nil, append_assoc, length-append}
+use Rattle.std.proofs.lemmas.List.{append-nil, append_assoc, length-append, length-map}
 use Rattle.std.proofs.lemmas.List.Elements.{All-map}
 use Rattle.hg_defs.specs.Sums.{total}
 use Rattle.hg_defs.specs.Hypergraph.{Hyper, IsHypergraph, IsWithinLimits}
@@ -18,7 +18,7 @@ use Rattle.pin_plain.specs.Parted.{Parted}
 use Rattle.round_log.specs.declared.record.Kind.{Kind}
 use Rattle.round_log.specs.declared.record.LoggedRound.{LoggedRound}
 use Rattle.round_log.specs.Passes.{saved}
-use Rattle.round_log.specs.Trace.{IsDescent, Refined}
+use Rattle.round_log.specs.Trace.{IsDescent}
 use Rattle.round_log.specs.TraceLaws.{IsSound}
 use Rattle.round_log.proofs.PassLaws.{rounds-save}
 use Rattle.round_log.proofs.DescentLaws.{Leaves}
@@ -28,23 +28,8 @@ use Rattle.refiner.specs.declared.pass.Tally.{Tally}
 use Rattle.uncoarsen.specs.Start.{level_of}
 use Rattle.uncoarsen.specs.Refined.{IsRefinedBy, rounds_of, tallies_with}
 use Rattle.uncoarsen.specs.Passing.{RefinesLevel, RefinesDown}
-use Rattle.uncoarsen.proofs.TallyLemmas.{rounds_of-append, tallies_with-append, tallies_within, all_mapped}
+use Rattle.uncoarsen.proofs.TallyLemmas.{rounds_of-append, tallies_with-nil, tallies_with-append, tallies_within, all_mapped}
 use Rattle.uncoarsen.proofs.PassesLaws.{passes_keep, passes_few, refined_by_leaves}
-
--- ---- descents
-
--- what is left of a descent, once the level of a number is refined
-abbrev pub Below : Refined → Hyper → List (List ℕ) → ℕ → List ℕ → List LoggedRound → List ℕ → Type 0
-Below refined h maps zero reached later q = (later ≡ []) × (q ≡ reached)
-Below refined h maps (suc i) reached later q = IsDescent refined h maps i (after reached (map_of maps i)) later q
-
-pub descends_first : (refined : Refined) (h : Hyper) (maps : List (List ℕ)) (i : ℕ) (p : List ℕ)
-    (here : List LoggedRound) (reached : List ℕ) (later : List LoggedRound) (q : List ℕ) → refined i (level h maps i) p here reached
-    → Below refined h maps i reached later q → IsDescent refined h maps i p (here ++ later) q
-descends_first refined h maps zero p here reached later q s below =
-    subst (λ (rs : List LoggedRound). refined 0 h p rs q) (sym (ap (λ (rs : List LoggedRound). here ++ rs) below.0 ∙ append-nil here))
-    (subst (λ (r : List ℕ). refined 0 h p here r) (sym below.1) s)
-descends_first refined h maps (suc i) p here reached later q s below = (here, later, reached, refl, s, below)
 
 -- ---- projections
 
@@ -123,13 +108,13 @@ leaves_level kinds g h k l level workers seed p bs before now old new q small di
         (record { hyper = x; k = k; limit = l; blocks = bs }) before now old new q) same
         (subst (λ (x : Parted). RefinesLevel kinds g (record { level = level; workers = workers; seed = seed }) x before now old new q) p_is refines)
 
--- ---- the levels from that of a number down to level i, so many in all
+-- ---- the levels above level i, so many in all, are done, and the partition is one of level i
 
 pub record Downwards (kinds : List Kind) (s : Stack) (number : ℕ) (placed : List ℕ) (k l workers : ℕ) (before : List Tally) (logged : List LoggedRound)
     (i turns : ℕ) (tallies : List Tally) (log : List LoggedRound) (part : Parted) : Type 0 where
   pub rounds : List LoggedRound
   pub log_is : log ≡ logged ++ rounds
-  pub finish : (later : List LoggedRound) (q : List ℕ) → Below (IsRefinedBy kinds k l workers) s.base s.maps i part.blocks later q
+  pub finish : (later : List LoggedRound) (q : List ℕ) → IsDescent (IsRefinedBy kinds k l workers) s.base s.maps i part.blocks later q
       → IsDescent (IsRefinedBy kinds k l workers) s.base s.maps number placed (rounds ++ later) q
   pub part_is : part ≡ record { hyper = level_of s i; k = k; limit = l; blocks = part.blocks }
   pub sound : IsSound (level_of s i) k l part.blocks
@@ -139,37 +124,49 @@ pub record Downwards (kinds : List Kind) (s : Stack) (number : ℕ) (placed : Li
 
 module _ (kinds : List Kind) (s : Stack) (number : ℕ) (placed : List ℕ) (k l workers : ℕ) (before : List Tally) (logged : List LoggedRound) where
   -- the first level
-  pub down_begin : (tallies : List Tally) (log : List LoggedRound) (part : Parted)
-      → LeavesLevel kinds (level_of s number) k l workers number placed before logged tallies log part
-      → Downwards kinds s number placed k l workers before logged number 1 tallies log part
-  down_begin tallies log part r = record {
-    rounds = r.rounds;
-    log_is = r.log;
-    finish = λ later q below.
-        descends_first (IsRefinedBy kinds k l workers) s.base s.maps number placed r.rounds part.blocks later q r.refined below;
-    part_is = r.leads;
-    sound = r.sound;
-    few = λ kind. let f = r.few kind in omega arith;
-    spent = r.spent;
-    counted = r.tallies;
+  pub down_begin : (part : Parted) → part ≡ record { hyper = level_of s number; k = k; limit = l; blocks = placed }
+      → IsSound (level_of s number) k l placed → length kinds ≡ length before
+      → Downwards kinds s number placed k l workers before logged number 0 before logged part
+  down_begin part is sound long = record {
+    rounds = [];
+    log_is = sym (append-nil logged);
+    finish = λ later q d.
+        subst (λ (bs : List ℕ). IsDescent (IsRefinedBy kinds k l workers) s.base s.maps number bs later q) blocks d;
+    part_is =
+        is ∙ ap (λ (bs : List ℕ). let r : Parted = record { hyper = level_of s number; k = k; limit = l; blocks = bs } in r) (sym blocks);
+    sound = subst (IsSound (level_of s number) k l) (sym blocks) sound;
+    few = λ kind. omega arith;
+    spent = let same = ap (cost (level_of s number)) blocks in omega arith;
+    counted = sym (tallies_with-nil kinds before long);
   }
+    where
+      blocks : part.blocks ≡ placed
+      blocks = ap (λ (x : Parted). x.blocks) is
 
-  -- the next one
-  pub down_more : (i turns : ℕ) (mid tallies : List Tally) (log new : List LoggedRound) (part q : Parted)
+  -- the next one, to which the partition is projected
+  pub down_more : (i turns : ℕ) (mid tallies : List Tally) (log new : List LoggedRound) (part q next : Parted)
       → Downwards kinds s number placed k l workers before logged (suc i) turns mid log part
-      → cost (level_of s i) (after part.blocks (map_of s.maps i)) ≡ cost (level_of s (suc i)) part.blocks
-      → LeavesLevel kinds (level_of s i) k l workers i (after part.blocks (map_of s.maps i)) mid log tallies new q
-      → Downwards kinds s number placed k l workers before logged i (turns + 1) tallies new q
-  down_more i turns mid tallies log new part q d same r = record {
+      → LeavesLevel kinds (level_of s (suc i)) k l workers (suc i) part.blocks mid log tallies new q
+      → next ≡ record { hyper = level_of s i; k = k; limit = l; blocks = after q.blocks (map_of s.maps i) }
+      → IsSound (level_of s i) k l (after q.blocks (map_of s.maps i))
+      → cost (level_of s i) (after q.blocks (map_of s.maps i)) ≡ cost (level_of s (suc i)) q.blocks
+      → Downwards kinds s number placed k l workers before logged i (turns + 1) tallies new next
+  down_more i turns mid tallies log new part q next d r is sound same = record {
     rounds = d.rounds ++ r.rounds;
     log_is = r.log ∙ ap (λ (rs : List LoggedRound). rs ++ r.rounds) d.log_is ∙ append_assoc logged d.rounds r.rounds;
     finish = λ later bs below.
         subst (λ (rs : List LoggedRound). IsDescent (IsRefinedBy kinds k l workers) s.base s.maps number placed rs bs)
         (sym (append_assoc d.rounds r.rounds later))
-        (d.finish (r.rounds ++ later) bs
-        (descends_first (IsRefinedBy kinds k l workers) s.base s.maps i (after part.blocks (map_of s.maps i)) r.rounds q.blocks later bs r.refined below));
-    part_is = r.leads;
-    sound = r.sound;
+        (d.finish (r.rounds ++ later) bs (
+          r.rounds,
+          later,
+          q.blocks,
+          refl,
+          r.refined,
+          subst (λ (c : List ℕ). IsDescent (IsRefinedBy kinds k l workers) s.base s.maps i c later bs) blocks below,
+        ));
+    part_is = is ∙ ap (λ (bs : List ℕ). let r : Parted = record { hyper = level_of s i; k = k; limit = l; blocks = bs } in r) (sym blocks);
+    sound = subst (IsSound (level_of s i) k l) (sym blocks) sound;
     few = λ kind.
         let old = d.few kind in
         let made = r.few kind in
@@ -179,24 +176,26 @@ module _ (kinds : List Kind) (s : Stack) (number : ℕ) (placed : List ℕ) (k l
         let old = d.spent in
         let made = r.spent in
         let both = total-append saved d.rounds r.rounds in
+        let below = ap (cost (level_of s i)) blocks ∙ same in
         omega arith;
-    counted =
-        r.tallies ∙ ap (tallies_with r.rounds kinds) d.counted ∙ sym (tallies_with-append d.rounds r.rounds kinds before);
+    counted = r.tallies ∙ ap (tallies_with r.rounds kinds) d.counted ∙ sym (tallies_with-append d.rounds r.rounds kinds before);
   }
+    where
+      blocks : next.blocks ≡ after q.blocks (map_of s.maps i)
+      blocks = ap (λ (x : Parted). x.blocks) is
 
   -- the file
-  pub down_end : (turns : ℕ) (tallies : List Tally) (log : List LoggedRound) (part : Parted)
-      → Downwards kinds s number placed k l workers before logged 0 turns tallies log part
-      → RefinesDown kinds s number placed k l workers before tallies logged log part
-  down_end turns tallies log part d = record {
-    rounds = d.rounds;
-    log = d.log_is;
-    descent =
-        subst (λ (rs : List LoggedRound). IsDescent (IsRefinedBy kinds k l workers) s.base s.maps number placed rs part.blocks) (append-nil d.rounds)
-        (d.finish [] part.blocks (refl, refl));
-    leads = d.part_is;
-    sound = d.sound;
-    tallies = d.counted;
+  pub down_end : (turns : ℕ) (mid tallies : List Tally) (log new : List LoggedRound) (part q : Parted)
+      → Downwards kinds s number placed k l workers before logged 0 turns mid log part
+      → LeavesLevel kinds (level_of s 0) k l workers 0 part.blocks mid log tallies new q
+      → RefinesDown kinds s number placed k l workers before tallies logged new q
+  down_end turns mid tallies log new part q d r = record {
+    rounds = d.rounds ++ r.rounds;
+    log = r.log ∙ ap (λ (rs : List LoggedRound). rs ++ r.rounds) d.log_is ∙ append_assoc logged d.rounds r.rounds;
+    descent = d.finish r.rounds q.blocks r.refined;
+    leads = r.leads;
+    sound = r.sound;
+    tallies = r.tallies ∙ ap (tallies_with r.rounds kinds) d.counted ∙ sym (tallies_with-append d.rounds r.rounds kinds before);
   }
 
 -- ---- with the refiners
@@ -230,80 +229,117 @@ module _ {B : Type 0} (run : B → Type 0) (kind : B → Kind) (tally : B → Ta
     descending_at i j turns boxes log part same d =
         subst (λ (n : ℕ). Descending run kind tally s number placed k l workers logged old n turns boxes log part) same d
 
-    module _ (small : k ≤ 256) (differ : AllPairs (λ (a b : Kind). a ≢ b) (map kind old)) where
-      pub descending_begin : (g : Hyper) → g ≡ level_of s number → (p : Parted) → p ≡ record { hyper = g; k = k; limit = l; blocks = placed }
-          → IsSound (level_of s number) k l placed → (boxes : List B) (log : List LoggedRound) (part : Parted) → All run boxes
-          → map kind boxes ≡ map kind old
-          → RefinesLevel (map kind old) g (record { level = number; workers = workers; seed = seed }) p (map tally old) (map tally boxes) logged log part
-          → Descending run kind tally s number placed k l workers logged old number 1 boxes log part
-      descending_begin g same p p_is sound boxes log part may_run kinds refines = record {
-        may_run = may_run;
-        kinds = kinds;
-        down = down_begin (map kind old) s number placed k l workers (map tally old) logged (map tally boxes) log part
-            (leaves_level (map kind old) g (level_of s number) k l number workers seed p placed (map tally old) (map tally boxes) logged log part small
-            differ same p_is sound refines);
-      }
+    -- before the first level
+    pub descending_begin : (g : Hyper) → g ≡ level_of s number → (part : Parted) → part ≡ record { hyper = g; k = k; limit = l; blocks = placed }
+        → IsSound (level_of s number) k l placed → All run old
+        → Descending run kind tally s number placed k l workers logged old number 0 old logged part
+    descending_begin g same part part_is sound may_run = record {
+      may_run = may_run;
+      kinds = refl;
+      down = down_begin (map kind old) s number placed k l workers (map tally old) logged part
+          (part_is ∙ ap (λ (h : Hyper). let r : Parted = record { hyper = h; k = k; limit = l; blocks = placed } in r) same) sound
+          (length-map old kind ∙ sym (length-map old tally));
+    }
 
-      -- the next level below those that are done
-      module _ (above : ℕ) (low : above < number) (within : number ≤ length s.maps) (g : Hyper) (clusters : List ℕ)
-          (step : StepsDown s.base s.maps (number - 1 - above) g clusters) (boxes : List B) (log : List LoggedRound) (part : Parted)
-          (done : Descending run kind tally s number placed k l workers logged old (number - above) (above + 1) boxes log part)
-        where
-          abbrev i : ℕ
-          i = number - 1 - above
+    -- a level is refined
+    module _ (small : k ≤ 256) (differ : AllPairs (λ (a b : Kind). a ≢ b) (map kind old)) (i turns : ℕ) (boxes : List B) (log : List LoggedRound)
+        (part : Parted) (done : Descending run kind tally s number placed k l workers logged old i turns boxes log part)
+      where
+        -- its hypergraph is that of the partition
+        pub descending_on : part.hyper ≡ level_of s i
+        descending_on = ap (λ (x : Parted). x.hyper) done.down.part_is
 
-          on_stack : i < length s.maps
-          on_stack = omega arith
+        pub descending_sound : IsSound part.hyper part.k part.limit part.blocks
+        descending_sound = subst (λ (x : Parted). IsSound x.hyper x.k x.limit x.blocks) (sym done.down.part_is) done.down.sound
 
-          d : Descending run kind tally s number placed k l workers logged old (suc i) (above + 1) boxes log part
-          d = descending_at (number - above) (suc i) (above + 1) boxes log part (omega arith) done
+        module _ (g : Hyper) (same : g ≡ level_of s i) (boxes' : List B) (log' : List LoggedRound) (q : Parted)
+            (refines : RefinesLevel (map kind boxes) g (record { level = i; workers = workers; seed = seed }) part (map tally boxes) (map tally boxes') log
+            log' q)
+          where
+            pub descending_left : LeavesLevel (map kind old) (level_of s i) k l workers i part.blocks (map tally boxes) log (map tally boxes') log' q
+            descending_left =
+                leaves_level (map kind old) g (level_of s i) k l i workers seed part part.blocks (map tally boxes) (map tally boxes') log log' q small
+                differ same
+                (done.down.part_is
+                ∙ ap (λ (h : Hyper). let r : Parted = record { hyper = h; k = k; limit = l; blocks = part.blocks } in r) (sym same))
+                done.down.sound
+                (subst (λ (ks : List Kind). RefinesLevel ks g (record { level = i; workers = workers; seed = seed }) part (map tally boxes)
+                (map tally boxes') log log' q) done.kinds refines)
 
-          full_up : IsFull (level_of s i) (map_of s.maps i) (cluster_count (map_of s.maps i))
-          full_up = subst (λ (c : List ℕ). IsFull (level_of s i) c (cluster_count c)) step.is_map step.full
+    module _ (small : k ≤ 256) (differ : AllPairs (λ (a b : Kind). a ≢ b) (map kind old)) (above : ℕ) (boxes : List B) (log : List LoggedRound)
+        (part : Parted) (done : Descending run kind tally s number placed k l workers logged old (number - above) above boxes log part)
+        (boxes' : List B) (log' : List LoggedRound) (q : Parted)
+      where
+        -- the file is refined
+        pub descending_end : number - above ≡ 0 → (g : Hyper) → g ≡ level_of s 0
+            → RefinesLevel (map kind boxes) g (record { level = 0; workers = workers; seed = seed }) part (map tally boxes) (map tally boxes') log log' q
+            → RefinesDown (map kind old) s number placed k l workers (map tally old) (map tally boxes') logged log' q
+        descending_end file g same refines =
+            down_end (map kind old) s number placed k l workers (map tally old) logged above (map tally boxes) (map tally boxes') log log' part q last.down
+            (descending_left small differ 0 above boxes log part last g same boxes' log' q refines)
+          where
+            last : Descending run kind tally s number placed k l workers logged old 0 above boxes log part
+            last = descending_at (number - above) 0 above boxes log part file done
 
-          apart_up : IsApart (level_of s i) (map_of s.maps i)
-          apart_up = subst (IsApart (level_of s i)) step.is_map step.apart
+        -- a level above it is refined, and what is left is projected to the one below
+        module _ (low : above < number) (within : number ≤ length s.maps)
+            (refines : RefinesLevel (map kind boxes) part.hyper (record { level = number - above; workers = workers; seed = seed }) part (map tally boxes)
+            (map tally boxes') log log' q)
+            (g : Hyper) (clusters : List ℕ) (step : StepsDown s.base s.maps (number - 1 - above) g clusters)
+          where
+            abbrev i : ℕ
+            i = number - 1 - above
 
-          -- the clusterings name vertices of the partition's level
-          pub descending_places : All (λ (v : ℕ). v < length part.hyper.weights) clusters
-          descending_places =
-              subst (λ (h : Hyper). All (λ (v : ℕ). v < length h.weights) clusters) (sym (ap (λ (x : Parted). x.hyper) d.down.part_is))
-              (subst (All (λ (v : ℕ). v < length (level_of s (suc i)).weights)) (sym step.is_map) (map_below s k l i on_stack full_up apart_up))
+            up : number - above ≡ suc i
+            up = omega arith
 
-          module _ (good : IsHypergraph g) (p : Parted)
-              (p_is : p ≡ record { hyper = g; k = part.k; limit = part.limit; blocks = after part.blocks clusters })
-            where
-              abbrev lower : List ℕ
-              lower = after part.blocks (map_of s.maps i)
+            on_stack : i < length s.maps
+            on_stack = omega arith
 
-              projected_is : p ≡ record { hyper = g; k = k; limit = l; blocks = lower }
-              projected_is =
-                  p_is
-                  ∙ ap (λ (n : ℕ). let r : Parted = record { hyper = g; k = n; limit = part.limit; blocks = after part.blocks clusters } in r)
-                  (ap (λ (x : Parted). x.k) d.down.part_is)
-                  ∙ ap (λ (n : ℕ). let r : Parted = record { hyper = g; k = k; limit = n; blocks = after part.blocks clusters } in r)
-                  (ap (λ (x : Parted). x.limit) d.down.part_is)
-                  ∙ ap (λ (c : List ℕ). let r : Parted = record { hyper = g; k = k; limit = l; blocks = after part.blocks c } in r) step.is_map
+            left : LeavesLevel (map kind old) (level_of s (suc i)) k l workers (suc i) part.blocks (map tally boxes) log (map tally boxes') log' q
+            left =
+                subst (λ (n : ℕ). LeavesLevel (map kind old) (level_of s n) k l workers n part.blocks (map tally boxes) log (map tally boxes') log' q) up
+                (descending_left small differ (number - above) above boxes log part done part.hyper
+                (descending_on small differ (number - above) above boxes log part done) boxes' log' q refines)
 
-              lower_sound : IsSound (level_of s i) k l lower × (cost (level_of s i) lower ≡ cost (level_of s (suc i)) part.blocks)
-              lower_sound = projected_sound s k l i on_stack full_up apart_up (subst IsHypergraph step.same good) part.blocks d.down.sound
+            full_up : IsFull (level_of s i) (map_of s.maps i) (cluster_count (map_of s.maps i))
+            full_up = subst (λ (c : List ℕ). IsFull (level_of s i) c (cluster_count c)) step.is_map step.full
 
-              pub descending_ready : IsSound g p.k p.limit p.blocks
-              descending_ready =
-                  subst (λ (x : Parted). IsSound g x.k x.limit x.blocks) (sym projected_is)
-                  (subst (λ (h : Hyper). IsSound h k l lower) (sym step.same) lower_sound.0)
+            apart_up : IsApart (level_of s i) (map_of s.maps i)
+            apart_up = subst (IsApart (level_of s i)) step.is_map step.apart
 
-              pub descending_more : (boxes' : List B) (log' : List LoggedRound) (q : Parted) → All run boxes' → map kind boxes' ≡ map kind boxes
-                  → RefinesLevel (map kind boxes) g (record { level = i; workers = workers; seed = seed }) p (map tally boxes) (map tally boxes') log log' q
-                  → Descending run kind tally s number placed k l workers logged old (number - (above + 1)) (above + 1 + 1) boxes' log' q
-              descending_more boxes' log' q may_run kinds refines =
-                  descending_at i (number - (above + 1)) (above + 1 + 1) boxes' log' q (omega arith) (record {
-                    may_run = may_run;
-                    kinds = kinds ∙ d.kinds;
-                    down = down_more (map kind old) s number placed k l workers (map tally old) logged i (above + 1) (map tally boxes) (map tally boxes') log
-                        log' part q d.down lower_sound.1
-                        (leaves_level (map kind old) g (level_of s i) k l i workers seed p lower (map tally boxes) (map tally boxes') log log' q small differ
-                        step.same projected_is lower_sound.0
-                        (subst (λ (ks : List Kind). RefinesLevel ks g (record { level = i; workers = workers; seed = seed }) p (map tally boxes)
-                        (map tally boxes') log log' q) d.kinds refines));
-                  })
+            -- the clusterings name vertices of the partition's level
+            pub descending_places : All (λ (v : ℕ). v < length q.hyper.weights) clusters
+            descending_places =
+                subst (λ (h : Hyper). All (λ (v : ℕ). v < length h.weights) clusters) (sym (ap (λ (x : Parted). x.hyper) left.leads))
+                (subst (All (λ (v : ℕ). v < length (level_of s (suc i)).weights)) (sym step.is_map) (map_below s k l i on_stack full_up apart_up))
+
+            -- what holds of the lower level and k blocks holds of its hypergraph and the partition's
+            pub descending_to : (P : Hyper → ℕ → Type 0) → P (level_of s i) k → P g q.k
+            descending_to P holds =
+                subst (P g) (sym (ap (λ (x : Parted). x.k) left.leads)) (subst (λ (h : Hyper). P h k) (sym step.same) holds)
+
+            pub descending_more : IsHypergraph g → (p : Parted)
+                → p ≡ record { hyper = g; k = q.k; limit = q.limit; blocks = after q.blocks clusters } → All run boxes' → map kind boxes' ≡ map kind boxes
+                → Descending run kind tally s number placed k l workers logged old (number - (above + 1)) (above + 1) boxes' log' p
+            descending_more good p p_is may_run kinds =
+                descending_at i (number - (above + 1)) (above + 1) boxes' log' p (omega arith) (record {
+                  may_run = may_run;
+                  kinds = kinds ∙ done.kinds;
+                  down = down_more (map kind old) s number placed k l workers (map tally old) logged i above (map tally boxes) (map tally boxes') log log'
+                      part q p (descending_at (number - above) (suc i) above boxes log part up done).down left projected_is lower.0 lower.1;
+                })
+              where
+                projected_is : p ≡ record { hyper = level_of s i; k = k; limit = l; blocks = after q.blocks (map_of s.maps i) }
+                projected_is =
+                    p_is
+                    ∙ ap (λ (n : ℕ). let r : Parted = record { hyper = g; k = n; limit = q.limit; blocks = after q.blocks clusters } in r)
+                    (ap (λ (x : Parted). x.k) left.leads)
+                    ∙ ap (λ (n : ℕ). let r : Parted = record { hyper = g; k = k; limit = n; blocks = after q.blocks clusters } in r)
+                    (ap (λ (x : Parted). x.limit) left.leads)
+                    ∙ ap (λ (c : List ℕ). let r : Parted = record { hyper = g; k = k; limit = l; blocks = after q.blocks c } in r) step.is_map
+                    ∙ ap (λ (h : Hyper). let r : Parted = record { hyper = h; k = k; limit = l; blocks = after q.blocks (map_of s.maps i) } in r) step.same
+
+                lower : IsSound (level_of s i) k l (after q.blocks (map_of s.maps i))
+                    × (cost (level_of s i) (after q.blocks (map_of s.maps i)) ≡ cost (level_of s (suc i)) q.blocks)
+                lower = projected_sound s k l i on_stack full_up apart_up (subst IsHypergraph step.same good) q.blocks left.sound

@@ -7,6 +7,7 @@ ghost use Rattle.uncoarsen.specs.Start.{ArePartable, level_of};
 ghost use Rattle.uncoarsen.specs.Refined.{IsRefinedDown, tallies_with};
 ghost use Rattle.uncoarsen.specs.Passing.{RefinesDown};
 
+use crate::beside::refine_and_leave;
 use crate::passes::refine_level;
 use crate::start::Start;
 use hg_base::{Blocks, MapStack, NoMemory};
@@ -19,8 +20,9 @@ use std::alloc::Global;
 use std::thread::Threads;
 
 /// Refines a partition of a level, and its projections to all levels below: on each level each
-/// refiner makes a pass, one after the other. A level is dropped when it is left. Answers the file's
-/// hypergraph, the clusterings, and the partition of the file, and logs the rounds.
+/// refiner makes a pass, one after the other. The index of a level is made while the one above it is
+/// refined; a level is dropped when it is left. Answers the file's hypergraph, the clusterings, and the
+/// partition of the file, and logs the rounds.
 ///
 /// There are 2 to 256 blocks and 1 to 64 workers. The refiners are of different kinds. Where there is
 /// no memory, the log has whole rounds alone.
@@ -56,26 +58,25 @@ fn refine_down<R: Threads + Sync>(
     let mut levels = stack.down_from(rt, alloc, top, workers as usize)?;
     let h = levels.level();
     let _vertices = h.vertices();
-    let task = Task {
-        level: top,
-        workers,
-        seed,
-    };
-    let placed = Partition::of(alloc, h, k, limit, blocks)?;
-    let mut part = refine_level(alloc, h, &task, placed, refiners, log)?;
+    let mut part = Partition::of(alloc, h, k, limit, blocks)?;
     for above in 0..top {
-        let level = top - 1 - above;
-        levels = levels.descend(rt, alloc, workers as usize)?;
-        let h = levels.level();
-        let _vertices = h.vertices();
         let task = Task {
-            level,
+            level: top - above,
             workers,
             seed,
         };
-        part = part.project_with(rt, alloc, h, levels.map(), workers)?;
-        part = refine_level(alloc, h, &task, part, refiners, log)?;
+        let (below, refined) = refine_and_leave(rt, alloc, levels, &task, part, refiners, log)?;
+        levels = below;
+        let h = levels.level();
+        let _vertices = h.vertices();
+        part = refined.project_with(rt, alloc, h, levels.map(), workers)?;
     }
+    let task = Task {
+        level: 0,
+        workers,
+        seed,
+    };
+    part = refine_level(alloc, levels.level(), &task, part, refiners, log)?;
     let (base, maps) = levels.into_base();
     Ok((base, maps, part))
 }

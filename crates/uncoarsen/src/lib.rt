@@ -2,6 +2,7 @@
 //! the file.
 #![tactic(auto)]
 
+mod beside;
 mod descent;
 pub mod laws;
 mod passes;

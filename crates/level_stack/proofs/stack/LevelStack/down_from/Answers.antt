@@ -7,5 +7,6 @@ use Rattle.level_stack.proofs.stack.LevelStack.down_from.Goals as goal
 pub begin-requires-2 : goal.begin-requires-2
 begin-requires-2 g c =
     let s = c.self.inside in
-    is_down_taken s.maps s.below.items s.top (stacked_is_down _ _ c.self.invariant) c.in_ok-below.below.items c.in_ok-below.on c.args.i
-    (sym {A = List Hyper} c.truncate.ensures.items ∙ c.in_ok-below.ensures)
+    let last = c.take_last-below in
+    is_down_taken s.maps s.below.items s.top (stacked_is_down _ _ c.self.invariant) last.result.0.items last.result.1 c.args.i
+    (sym {A = List Hyper} c.truncate.ensures.items ∙ last.ensures)
