@@ -53,6 +53,10 @@ line_of line = record { number = line.0; fields = fields (without_return line.1)
 abbrev pub kept_from : ℕ → List ℕ → List Line
 kept_from number text = filter is_kept (map line_of (enumerate_from number (lines text)))
 
+-- the fields of the kept lines of a text, which don't depend on the numbers of its lines
+abbrev pub field_lists : List ℕ → List (List (List ℕ))
+field_lists text = map (λ line. line.fields) (kept_from 1 text)
+
 -- what a reader of lines shows: the kept lines that are left, and the number of lines of the text
 pub record Reading : Type 0 where
   pub kept : List Line

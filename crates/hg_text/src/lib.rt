@@ -13,6 +13,7 @@ mod numeral;
 #[cfg(test)]
 mod tests;
 
+pub use cut::end_of_line;
 pub use decimal::{put_number, put_signed};
 pub use lines::{Kept, Lines};
 pub use numeral::{BadNumber, number};

@@ -1,5 +1,5 @@
-ghost use Rattle.std.specs.Prelude.{◌≡◌, ℕ, ◌^◌, ◌<◌, ◌≤◌, length, [], ◌∷◌, MatchOption, IfSome};
-ghost use Rattle.hg_text.specs.Kept.{reading, lines, fields, is_kept, SpellsFirst};
+ghost use Rattle.std.specs.Prelude.{◌≡◌, ℕ, ◌^◌, ◌<◌, ◌≤◌, length, map, [], ◌∷◌, MatchOption, IfSome};
+ghost use Rattle.hg_text.specs.Kept.{reading, lines, field_lists, fields, is_kept, SpellsFirst};
 
 use crate::cut::{blanks, skip_blanks, split_field, split_line, take_number, trim_return};
 use crate::numeral::BadNumber;
@@ -63,6 +63,14 @@ impl<'a> Lines<'a> {
             }
         }
         None
+    }
+
+    /// What wasn't read yet of the text: no line of it is missing at its front.
+    pub fn rest(&self) -> &'a [u8]
+        ensures kept { map (λ line. line.fields) self.now.kept ≡ field_lists result.now }
+        ensures bound { length result.now ≤ 2 ^ 29 }
+    {
+        self.rest
     }
 
     /// The number of lines of the text, those that aren't kept included.

@@ -17,22 +17,22 @@ read value = Ok value
 abbrev failed : {A : Type 0} → GraphFault → Read A
 failed fault = Err fault
 
-ok_same : {A : Type 0} (x y : A) → read x ≡ Ok y → x ≡ y
+pub ok_same : {A : Type 0} (x y : A) → read x ≡ Ok y → x ≡ y
 ok_same x y e = cc
 
-err_ok : {A : Type 0} (fault : GraphFault) (y : A) → failed fault ≡ Ok y → ⊥
+pub err_ok : {A : Type 0} (fault : GraphFault) (y : A) → failed fault ≡ Ok y → ⊥
 err_ok fault y e = cc
 
 -- what was read before a value
-bind_ok : {A B : Type 0} (r : Read A) (f : A → Read B) (y : B) → (r >>= f) ≡ Ok y → (x : A) × (r ≡ Ok x) × (f x ≡ Ok y)
+pub bind_ok : {A B : Type 0} (r : Read A) (f : A → Read B) (y : B) → (r >>= f) ≡ Ok y → (x : A) × (r ≡ Ok x) × (f x ≡ Ok y)
 bind_ok (Ok x) f y e = (x, refl, e)
 bind_ok (Err fault) f y e = absurd (err_ok fault y e)
 
-guarded_ok : {A : Type 0} (test : Bool) (fault : GraphFault) (x y : A) → guarded test fault x ≡ Ok y → (test ≡ true) × (x ≡ y)
+pub guarded_ok : {A : Type 0} (test : Bool) (fault : GraphFault) (x y : A) → guarded test fault x ≡ Ok y → (test ≡ true) × (x ≡ y)
 guarded_ok true fault x y e = (refl, ok_same x y e)
 guarded_ok false fault x y e = absurd (err_ok fault y e)
 
-each_length : {A B : Type 0} (f : A → Read B) (xs : List A) (ys : List B) → each f xs ≡ Ok ys → length ys ≡ length xs
+pub each_length : {A B : Type 0} (f : A → Read B) (xs : List A) (ys : List B) → each f xs ≡ Ok ys → length ys ≡ length xs
 each_length f [] ys e = ap length (sym (ok_same [] ys e))
 each_length f (x ∷ xs) ys e =
     let one = bind_ok (f x) (λ y. each f xs >>= λ zs. Ok (y ∷ zs)) ys e in

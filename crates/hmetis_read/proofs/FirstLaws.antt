@@ -1,17 +1,17 @@
 -- A fault of a text is its first one: no line before it has a fault.
 use Rattle.std.proofs.Common.{◌≡◌, if◌then◌else◌, ℕ, zero, suc, ◌+◌, ◌<◌, ◌≤◌, Bool, true, false, nat_le, List, [], ◌∷◌, length, take, drop}
-use Rattle.std.proofs.Common.{replicate, get_or, slice_index_or, Result, Ok, Err, refl, sym, ap, ◌∙◌, subst, inl, inr, arith}
-use Rattle.std.proofs.lemmas.List.{get_or-take, get_or-drop, drop-take, length-take, length-drop, take_min}
+use Rattle.std.proofs.Common.{replicate, get_or, Ok, Err, refl, sym, ap, ◌∙◌, subst, inl, inr, arith}
+use Rattle.std.proofs.lemmas.List.{get_or-take, get_or-drop, drop-take, length-take, length-drop}
 use Rattle.std.proofs.lemmas.Bool.{leb-true, leb-false, le-leb, lt-leb}
 use Rattle.hg_defs.specs.declared.objective.TheConstants.{FREE}
 use Rattle.hg_defs.specs.declared.objective.Objective.TheVariants.{Connectivity}
 use Rattle.hg_defs.specs.Hypergraph.{Net, Hyper}
 use Rattle.hg_text.specs.Kept.{Line, Reading, reading}
 use Rattle.hmetis_read.specs.Graph.{Read, ◌>>=◌, each, guarded, header_in, net_in, nets_in, with_pins_before, pin_numbers, vertex_in}
-use Rattle.hmetis_read.specs.Graph.{first_in, read_on, vertex_lines, weights_in, ended, body_in, shape_of, graph_in, graph}
+use Rattle.hmetis_read.specs.Graph.{first_in, vertex_lines, weights_in, ended, body_in, graph_in, graph}
 use Rattle.hmetis_read.specs.Laws.{IsFaultAt, HasNoFault, IsFirstFault, cut_off, no_line}
 use Rattle.hmetis_read.specs.declared.fault.GraphFault.{GraphFault}
-use Rattle.hmetis_read.specs.declared.fault.GraphFault.TheVariants.{Bad, TooLarge, NoMemory}
+use Rattle.hmetis_read.specs.declared.fault.GraphFault.TheVariants.{Bad}
 use Rattle.hmetis_read.specs.declared.fault.LineKind.TheVariants.{NoHeader, MissingLine, ExtraLine}
 use Rattle.hmetis_read.specs.declared.header.Shape.{Shape}
 use Rattle.hmetis_read.proofs.Placed.{FaultsAt, Holds, header_holds, net_holds, vertex_holds}

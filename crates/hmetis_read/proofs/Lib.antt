@@ -3,3 +3,4 @@ mod Lines
 mod Placed
 mod Counted
 mod FirstLaws
+mod ShareLaws

@@ -1,3 +1,4 @@
 pub mod Graph
 pub mod Reads
 pub mod Laws
+pub mod Shares

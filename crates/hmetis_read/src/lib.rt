@@ -11,10 +11,11 @@ mod header;
 mod hypergraph;
 mod laws;
 mod net;
+mod shares;
 #[cfg(test)]
 mod tests;
 mod vertex;
 
 pub use fault::{GraphFault, LineKind, What};
-pub use hypergraph::read_hypergraph;
+pub use hypergraph::{read_hypergraph, read_with};
 pub use laws::text_laws;

@@ -18,7 +18,7 @@ use hg_text::{BadNumber, Kept, Lines};
 use std::alloc::Global;
 
 /// The most pins that a text may have, repeats included.
-const MOST_PINS: u32 = 1 << 25;
+pub(crate) const MOST_PINS: u32 = 1 << 25;
 
 /// The greatest weight of a vertex or a net.
 const MOST_WEIGHT: u64 = (1 << 32) - 1;
@@ -92,7 +92,7 @@ fn read_pins(
 }
 
 // Reads a net's line, with so many pins before it: answers its weight and leaves its pins, as spelt.
-fn read_net(
+pub(crate) fn read_net(
     line: &mut Kept,
     shape: &Shape,
     before: u32,

@@ -4,10 +4,12 @@ use crate::LineKind::{
     BadFormat, ExtraLine, FieldCount, HeaderCount, MissingLine, NoHeader, NotNumber, PinRange,
     WeightRange,
 };
-use crate::{GraphFault, LineKind, What, read_hypergraph};
+use crate::shares::read_shares;
+use crate::{GraphFault, LineKind, What, read_hypergraph, read_with};
 use hg_base::FlatHyper;
 use std::alloc::Global;
 use std::test::Fail;
+use std::thread::Threads;
 
 const FIRST: &[u8; 38] = b"4 7 1\n2 1 2\n3 1 7 5 6\n8 5 6 4\n7 2 3 4\n";
 
@@ -165,4 +167,32 @@ fn hostile_bytes(rt: HostRuntime) {
         )
     );
     assert!(rt; is_bad(alloc, b"4194304 4194304 11\n", 2, MissingLine));
+}
+
+// Whether three threads refuse a text, so that one is to read it from its start.
+fn is_refused<R: Threads + Sync>(rt: &R, alloc: Global, text: &[u8]) -> bool {
+    text.len() <= 100 && read_shares(rt, alloc, text, 3).is_none()
+}
+
+#[test]
+fn shared_files(rt: HostRuntime) -> Result<(), Fail> {
+    let loose = b"% note\r\n\r\n4 7 01\r\n2 1 2\r\n%\n\r\n \t3 1 7 5 6\r\n8 5 6 4\n % 9\n7 2 3 4";
+    let hyper = read_shares(&rt, rt.alloc(), loose, 3).ok_or("refused by three")?;
+    assert!(rt; is_first(&hyper, &[1, 2, 3]));
+    let hyper = read_shares(&rt, rt.alloc(), FIRST, 8).ok_or("refused by eight")?;
+    assert!(rt; is_first(&hyper, &[1, 2, 3]));
+    let hyper = read_with(&rt, rt.alloc(), FIRST, 3)?;
+    assert!(rt; is_first(&hyper, &[1, 2, 3]));
+    Ok(())
+}
+
+#[test]
+fn refused_files(rt: HostRuntime) {
+    let alloc = rt.alloc();
+    assert!(rt; is_refused(&rt, alloc, b"2 2 10\n1 2\n1 2\n3\n4\n"));
+    assert!(rt; is_refused(&rt, alloc, b"2 3\n1 2\n2 3\n1 3\n"));
+    assert!(rt; is_refused(&rt, alloc, b"3 3\n1 2\n2 3\n"));
+    assert!(rt; is_refused(&rt, alloc, b"3 3\n1 2\n2 3\n1 4\n"));
+    assert!(rt; is_refused(&rt, alloc, b"0 3\n"));
+    assert!(rt; is_refused(&rt, alloc, b""));
 }

@@ -15,10 +15,12 @@ use crate::words::Evaluation;
 use hg_base::FlatHyper;
 use hg_io::{Failed, Sink, Source};
 use std::alloc::Global;
+use std::thread::Threads;
 use trace_text::put_evaluation;
 
 /// Evaluates: reads the graph and the partition file, and writes the evaluation to the report.
-pub(crate) fn evaluate<S: Source, X: Source, K: Sink, R: Sink>(
+pub(crate) fn evaluate<H: Threads + Sync, S: Source, X: Source, K: Sink, R: Sink>(
+    rt: &H,
     alloc: Global,
     e: &Evaluation<'_>,
     graph: &mut S,
@@ -43,7 +45,7 @@ pub(crate) fn evaluate<S: Source, X: Source, K: Sink, R: Sink>(
     ensures report_later { R.faults report.old ≤ R.faults report.new }
 {
     let balance = e.balance;
-    let mut h = match read_graph(alloc, graph, balance.k) {
+    let mut h = match read_graph(rt, alloc, graph, balance.k, 1) {
         Ok(h) => h,
         Err(status) => return Err(status),
     };

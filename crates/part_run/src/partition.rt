@@ -57,7 +57,8 @@ fn with_fixes<X: Source>(
 
 /// The hypergraph that a partition is asked of: that of the graph, with the chosen objective and the
 /// fixes of the extra source where a fix file is named.
-fn accept<S: Source, X: Source>(
+fn accept<H: Threads + Sync, S: Source, X: Source>(
+    rt: &H,
     alloc: Global,
     p: &Partitioning<'_>,
     graph: &mut S,
@@ -75,7 +76,7 @@ fn accept<S: Source, X: Source>(
     ensures graph_later { S.faults graph.old ≤ S.faults graph.new }
     ensures extra_later { X.faults extra.old ≤ X.faults extra.new }
 {
-    let mut h = read_graph(alloc, graph, p.balance.k)?;
+    let mut h = read_graph(rt, alloc, graph, p.balance.k, p.workers.count)?;
     h.set_objective(p.objective);
     match p.fix {
         None => Ok(h),
@@ -207,7 +208,7 @@ pub(crate) fn partition<H: Threads + Sync, S: Source, X: Source, K: Sink, R: Sin
         (rounds_in outcome) (map (λ b. tally b) refiners.old) (map (λ b. tally b) refiners.new)) }
     ensures spared { SparesIn p.now.mode (map (λ b. tally b) refiners.old) (map (λ b. tally b) refiners.new) }
 {
-    let flat = accept(alloc, p, graph, extra)?;
+    let flat = accept(rt, alloc, p, graph, extra)?;
     let _vertices = flat.vertices();
     let job = job_of(p);
     let made = run_in(rt, alloc, p.mode, &job, flat, refiners)?;

@@ -8,9 +8,10 @@ ghost use Rattle.part_run.specs.Reads.{IsGraphRefusal, IsFixRefusal, IsPartRefus
 use crate::Status;
 use hg_base::{Blocks, FREE, FlatHyper};
 use hg_io::{ReadEnd, Source, read_all};
-use hmetis_read::{GraphFault, What, read_hypergraph};
+use hmetis_read::{GraphFault, What, read_with};
 use part_text::{PartFault, read_fix, read_part};
 use std::alloc::Global;
+use std::thread::Threads;
 
 /// The most bytes that a source may give.
 const MOST_BYTES: u64 = 1 << 29;
@@ -30,11 +31,13 @@ fn read_bytes<S: Source>(alloc: Global, source: &mut S, what: What) -> Result<Ve
     }
 }
 
-/// Reads the hypergraph, for `k` blocks.
-pub(crate) fn read_graph<S: Source>(
+/// Reads the hypergraph, for `k` blocks, by so many threads at most.
+pub(crate) fn read_graph<H: Threads + Sync, S: Source>(
+    rt: &H,
     alloc: Global,
     source: &mut S,
     k: u32,
+    threads: u32,
 ) -> Result<FlatHyper, Status>
     ensures answer { let old = feed_of (S.left source.old) (S.faults source.old) in
         let new = feed_of (S.left source.new) (S.faults source.new) in
@@ -45,7 +48,7 @@ pub(crate) fn read_graph<S: Source>(
         Ok(bytes) => bytes,
         Err(status) => return Err(status),
     };
-    let h = match read_hypergraph(alloc, bytes.as_slice()) {
+    let h = match read_with(rt, alloc, bytes.as_slice(), threads) {
         Ok(h) => h,
         Err(GraphFault::Bad { line, kind }) => return Err(Status::Malformed { line, kind }),
         Err(GraphFault::TooLarge { line, what }) => return Err(Status::TooLarge { line, what }),

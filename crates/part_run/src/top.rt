@@ -107,7 +107,7 @@ pub fn run<H: Threads + Sync, S: Source, X: Source, K: Sink, R: Sink>(
             rt, alloc, &p, graph, extra, out, report, refiners,
         )),
         Some(Command::Evaluate(e)) => without_outcome(evaluate(
-            alloc, &e, graph, extra, out, report,
+            rt, alloc, &e, graph, extra, out, report,
         )),
         Some(Command::Generate(n)) => without_outcome(generate(alloc, n, out, report)),
         Some(Command::SelfRun(trial)) => with_outcome(self_run(

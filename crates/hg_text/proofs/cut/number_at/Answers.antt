@@ -1,4 +1,4 @@
-use Rattle.std.proofs.Common.{◌≡◌, ℕ, ◌⊎◌, List, length, true, false, sym, ◌∙◌, arith, inl, inr}
+use Rattle.std.proofs.Common.{◌≡◌, ℕ, ◌⊎◌, List, true, false, sym, ◌∙◌, arith, inl, inr}
 use Rattle.hg_text.specs.Cut.{ends_field}
 use Rattle.hg_text.proofs.Numbers.{digits_end, spells_digits, spells_none}
 use Rattle.hg_text.proofs.cut.number_at.Goals as goal

@@ -1,4 +1,4 @@
-use Rattle.std.proofs.Common.{ℕ, List, ◌<◌, ◌≤◌, ◌≡◌, true, get_or, sym, ◌∙◌, arith}
+use Rattle.std.proofs.Common.{ℕ, List, ◌≤◌, ◌≡◌, true, get_or, sym, ◌∙◌, arith}
 use Rattle.hg_text.specs.Kept.{is_blank}
 use Rattle.hg_text.proofs.Numbers.{few_in_line, spells_blank, spells_last}
 use Rattle.hg_text.proofs.cut.take_number.Goals as goal

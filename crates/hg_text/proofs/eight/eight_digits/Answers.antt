@@ -1,4 +1,4 @@
-use Rattle.std.proofs.Common.{◌≡◌, ℕ, List, length, take, get_or, ◌<◌, sym, ap, ◌∙◌, arith, bit_xor}
+use Rattle.std.proofs.Common.{◌≡◌, ℕ, List, length, get_or, ◌<◌, sym, ap, ◌∙◌, arith, bit_xor}
 use Rattle.std.specs.Int.{w64, from_le_bytes}
 use Rattle.std.proofs.lemmas.List.{take_all}
 use Rattle.core.specs.Dec2flt.Digits.{IsEightBytes}

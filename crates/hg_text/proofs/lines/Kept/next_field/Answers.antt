@@ -1,4 +1,4 @@
-use Rattle.std.proofs.Common.{◌≡◌, ℕ, List, ◌∷◌, take, drop, length, ◌+◌, ◌-◌, ◌≤◌, sym, subst, ap, ◌∙◌, arith}
+use Rattle.std.proofs.Common.{◌≡◌, ℕ, List, ◌∷◌, take, drop, length, ◌+◌, ◌-◌, sym, subst, ap, ◌∙◌, arith}
 use Rattle.std.proofs.lemmas.List.{drop-drop, length-take-le}
 use Rattle.hg_text.specs.Kept.{Line, fields}
 use Rattle.hg_text.specs.Cut.{IsTrimmed}
