@@ -17,6 +17,8 @@ import tempfile
 
 FIRST = "4 7 1\n2 1 2\n3 1 7 5 6\n8 5 6 4\n7 2 3 4\n"
 BLOCKS = "0\n0\n0\n1\n1\n1\n0\n"
+# More than 65,536 bytes, which threads read.
+LONG = "6000 3000\n" + "".join(f"{i % 3000 + 1} {7 * i % 3000 + 1} {i // 3 + 1}\n" for i in range(6000))
 
 # What a run is asked, with its hypergraph, and its partition or fix file.
 RUNS = [
@@ -32,6 +34,7 @@ RUNS = [
     ("selfrun 30 2", "", ""),
     ("partition graph 4 0.03 workers=1", None, ""),
     ("partition graph 4 0.03 workers=4", None, ""),
+    ("partition graph 4 0.03 workers=4", LONG, ""),
     ("partition graph 4 0.03 mode=det workers=1", None, ""),
     ("partition graph 4 0.03 cycles=2 workers=1", None, ""),
 ]
