@@ -1,4 +1,5 @@
-ghost use Rattle.std.specs.Prelude.{◌≡◌, ℕ, ◌+◌, ◌<◌, ◌≤◌, length, List, ◌∷◌, ◌++◌, take, drop, slice_index, false};
+ghost use Rattle.std.specs.Prelude.{◌≡◌, ℕ, ◌+◌, ◌-◌, ◌<◌, ◌≤◌, ◌⊎◌, length, List, ◌∷◌, ◌++◌, take, drop, slice_index};
+ghost use Rattle.std.specs.Prelude.{true, false};
 ghost use Rattle.hg_text.specs.Kept.{is_blank as is_blank_byte, lines, without_return, fields, SpellsFirst};
 ghost use Rattle.hg_text.specs.Kept.{is_line_feed, field_lists};
 ghost use Rattle.hg_text.specs.Cut.{IsTrimmed, EndsField, ends_field, StopsAt, TakesNumber};
@@ -21,13 +22,15 @@ pub(crate) fn split_line(text: &[u8]) -> (&[u8], &[u8])
     }
 }
 
-/// The place behind the first line feed that stands at a place or later, and the text's length where
-/// none does. There a text can be cut in two, each of which is read by itself.
+/// The place behind the first line feed that stands at `from` or later, and the text's length where
+/// none does. A text that is cut there has the lines of its two parts, one after the other.
 pub fn end_of_line(text: &[u8], from: usize) -> usize
     requires { from ≤ length text.now }
     ensures lines { lines text.now ≡ lines (take result text.now) ++ lines (drop result text.now) }
     ensures kept { field_lists text.now ≡ field_lists (take result text.now) ++ field_lists (drop result text.now) }
     ensures first { (k : ℕ) → from ≤ k → k + 1 < result → is_line_feed (slice_index text.now k) ≡ false }
+    ensures ends { (result ≡ length text.now) ⊎
+        ((from < result) × (is_line_feed (slice_index text.now (result - 1)) ≡ true)) }
     ensures behind { from ≤ result }
     ensures part { result ≤ length text.now }
 {

@@ -65,7 +65,7 @@ impl<'a> Lines<'a> {
         None
     }
 
-    /// What wasn't read yet of the text: no line of it is missing at its front.
+    /// What wasn't read yet of the text. It begins where a line does.
     pub fn rest(&self) -> &'a [u8]
         ensures kept { map (λ line. line.fields) self.now.kept ≡ field_lists result.now }
         ensures bound { length result.now ≤ 2 ^ 29 }

@@ -1,4 +1,4 @@
-use Rattle.std.proofs.Common.{◌≡◌, ℕ, ◌+◌, ◌-◌, ◌<◌, List, length, take, drop, get_or, true, sym, ◌∙◌, ap, arith, add-one}
+use Rattle.std.proofs.Common.{◌≡◌, ℕ, ◌+◌, ◌-◌, ◌<◌, List, length, take, drop, get_or, true, sym, ◌∙◌, ap, arith, inr, add-one}
 use Rattle.std.proofs.lemmas.Bool.{false_from_ne_true}
 use Rattle.std.proofs.lemmas.List.{take_rest, length-drop}
 use Rattle.hg_text.specs.Kept.{is_line_feed}
@@ -19,6 +19,15 @@ returns-in-Some-clause-kept c =
     let text : List ℕ = c.args.text.now in
     let end : ℕ = c.args.from + c.in-Some.end + 1 in
     lists_parted text (take end text) (drop end text) (returns-in-Some-clause-lines c)
+
+pub returns-in-Some-clause-ends : goal.returns-in-Some-clause-ends
+returns-in-Some-clause-ends c =
+    let text : List ℕ = c.args.text.now in
+    let from : ℕ = c.args.from in
+    let end : ℕ = c.in-Some.end in
+    let hit : is_line_feed (get_or text (from + end) 0) ≡ true = sym (ap is_line_feed (read_behind text from end)) ∙ c.in-Some.ensures.1 in
+    let before : from + end + 1 - 1 ≡ from + end = omega arith in
+    inr (omega arith, ap (λ (n : ℕ). is_line_feed (get_or text n 0)) before ∙ hit)
 
 pub returns-in-Some-clause-first : goal.returns-in-Some-clause-first
 returns-in-Some-clause-first c k low high =
