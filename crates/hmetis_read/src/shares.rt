@@ -76,7 +76,7 @@ fn read_parts<R: Threads + Sync>(
         return None;
     }
     let mut all = parts[0].take()?;
-    reserve_rest(&mut all.hyper, shape, &parts).ok()?;
+    reserve_rest(&mut all.hyper, &parts).ok()?;
     for j in 1..parts.len() {
         let Some(part) = &parts[j] else {
             return None;
@@ -228,21 +228,19 @@ fn read_part(
     })
 }
 
-/// Makes room for all nets, and for the pins of parts.
-fn reserve_rest(
-    hyper: &mut FlatHyper,
-    shape: &Shape,
-    parts: &[Option<ReadNets>],
-) -> Result<(), NoMemory>
+/// Makes room for the nets of parts, and for their pins.
+fn reserve_rest(hyper: &mut FlatHyper, parts: &[Option<ReadNets>]) -> Result<(), NoMemory>
     ensures { hyper.new ≡ hyper.old }
 {
+    let mut nets: usize = 0;
     let mut pins: usize = 0;
     for part in parts {
         if let Some(part) = part {
+            nets = nets.saturating_add(part.hyper.nets() as usize);
             pins = pins.saturating_add(part.pins as usize);
         }
     }
-    hyper.reserve(shape.nets as usize, pins)
+    hyper.reserve(nets, pins)
 }
 
 /// The nets of a part behind those of others, where all of them are within the limits.
