@@ -59,7 +59,7 @@ impl Model for LevelsBelow {
     ghost invariant = { λ d. IsDown (first_of d.below.items d.next) d.maps (d.below.items ++ d.next ∷ []) };
 }
 
-/// Takes the last of some levels off.
+/// Takes the last of some levels, which is the coarsest, off the others.
 pub(crate) fn take_last(mut levels: Vec<FlatHyper>) -> (Vec<FlatHyper>, FlatHyper)
     requires { 0 < length levels.items }
     ensures { levels.items ≡ result.0.items ++ result.1 ∷ [] }
@@ -137,7 +137,7 @@ impl LevelsDown {
 }
 
 impl LevelsBelow {
-    /// The levels below one, of which `next` is the last, and the clusterings of all.
+    /// The levels below one, of which `next` is the coarsest, and the clusterings of all.
     pub(crate) fn begin(below: Vec<FlatHyper>, next: FlatHyper, maps: MapStack) -> Self
         requires { IsDown (first_of below.items next) maps (below.items ++ next ∷ []) }
         ensures { result ≡ record { base = first_of below.items next; maps = maps; number = length below.items } }
@@ -145,7 +145,7 @@ impl LevelsBelow {
         LevelsBelow { below, next, maps }
     }
 
-    /// Goes down to the first of them: makes its index by at most so many threads. Where there is no
+    /// Goes down to the coarsest of them: makes its index by at most so many threads. Where there is no
     /// memory, all levels are dropped.
     pub fn enter<R: Threads + Sync>(
         self,

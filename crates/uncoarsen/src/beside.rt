@@ -15,7 +15,7 @@ use refiner::{Log, Refiner, Task};
 use std::alloc::Global;
 use std::thread::{Threads, join_mut};
 
-/// Goes down to the first of some levels, and makes its index in this thread alone.
+/// Goes down to the coarsest of some levels, and makes its index in this thread alone.
 fn enter_taken<R: Threads + Sync>(
     rt: &R,
     alloc: Global,
@@ -57,7 +57,7 @@ fn refine_taken(
     refine_level(alloc, h, task, part, refiners, log)
 }
 
-/// Refines a level in this thread, and goes down to the first of those below it in a new one.
+/// Refines a level in this thread, and goes down to the coarsest of those below it in a new one.
 fn beside<R: Threads + Sync>(
     rt: &R,
     alloc: Global,
