@@ -1,11 +1,14 @@
 -- The passes of a round, and the workers that have them.
-use Rattle.std.proofs.Common.{◌≡◌, ℕ, ◌<◌, List, [], ◌∷◌, ◌++◌, length, map, take, drop, get_or, All, sym, ap, ◌∙◌, arith}
+use Rattle.std.proofs.Common.{◌≡◌, ℕ, ◌<◌, List, [], ◌∷◌, ◌++◌, length, map, take, drop, get_or, All, sym, ap, subst, ◌∙◌, arith}
 use Rattle.std.proofs.lemmas.List.{length-map, get_or-map, append-nil, take_all, drop_all}
 use Rattle.move_core.specs.declared.account.Account.{Account}
 use Rattle.move_core.specs.declared.account.Stage.TheVariants.{Idle}
 use Rattle.move_table.specs.Calls.{RacedRound, RacedPass, AreFresh, IsPassOf}
 use Rattle.move_table.specs.Closing.{ArePassesOf}
+use Rattle.fm_search.specs.declared.memory.Memory.{Memory}
 use Rattle.fm_search.specs.declared.worker.Worker.{Worker}
+use Rattle.fm_search.specs.Memory.{IsMemoryFor}
+use Rattle.fm_search.specs.Opened.{IsBelow}
 use Rattle.fm_search.specs.Standing.{Standing, standing_of}
 use Rattle.fm_search.specs.Workers.{IsFreshAt, AreWorkers, AreFreshWorkers}
 
@@ -79,3 +82,7 @@ module _ (r : RacedRound) (k : ℕ) (workers : List Worker) where
 pub written_back : {A : Type 0} (xs ys : List A) (n : ℕ) → length ys ≡ length xs → n ≡ length xs → take n (ys ++ drop (length ys) xs) ≡ ys
 written_back xs ys n same whole =
     ap (λ zs. take n (ys ++ zs)) (drop_all (length ys) xs (omega arith)) ∙ ap (take n) (append-nil ys) ∙ take_all n ys (omega arith)
+
+-- memory for as many blocks as were asked for
+pub kept_memory : (k n : ℕ) (m : Memory) → n ≡ k → All (λ d. d.blocks ≡ n) m.desks.items → All (IsBelow k) m.openings.all.items → IsMemoryFor k m
+kept_memory k n m e desks below = record { desks = subst (λ b. All (λ d. d.blocks ≡ b) m.desks.items) e desks; openings = below }

@@ -2,7 +2,7 @@
 
 ghost use Rattle.std.specs.Prelude.{◌≡◌, ◌<◌, ◌≤◌, length};
 
-use crate::cells::{Cell, Scored, Used, lost, saved};
+use crate::cells::{Cell, Scored, Used, lost, saved, share};
 
 /// What a move of one pin changes for the others, by the block that the pin left and the one where it went.
 #[derive(Clone, Copy)]
@@ -15,6 +15,8 @@ pub(crate) struct Change {
     /// What they lose more where they leave the one or the other.
     lost_from: i64,
     lost_to: i64,
+    /// How strongly the pin that moved pulls each of them.
+    share: i64,
     /// Whether no pin is left in the one, and whether this pin is the first in the other.
     closed: bool,
     opened: bool,
@@ -23,6 +25,7 @@ pub(crate) struct Change {
 impl Change {
     /// The change where a pin moved, after which so many pins are in the two blocks.
     pub(crate) fn of(net: &Scored, from: u32, to: u32, from_count: u64, to_count: u64) -> Self
+        requires { 0 < net.now.others }
         ensures from { result.from ≡ from }
         ensures to { result.to ≡ to }
     {
@@ -35,6 +38,7 @@ impl Change {
             saved_to: saved(net, to_count).wrapping_sub(saved(net, fewer)),
             lost_from: lost(net, from_count).wrapping_sub(lost(net, before)),
             lost_to: lost(net, to_count).wrapping_sub(lost(net, fewer)),
+            share: share(net),
             closed: from_count == 0,
             opened: to_count == 1,
         }
@@ -59,6 +63,7 @@ impl Change {
         used.reach(row, self.from);
         used.reach(row, self.to);
         let left = &mut row[self.from as usize];
+        left.pull = left.pull.wrapping_sub(self.share);
         if block == self.from {
             left.weight = left.weight.wrapping_add(self.lost_from);
         } else {
@@ -66,6 +71,7 @@ impl Change {
             left.nets = left.nets.saturating_sub(u32::from(self.closed));
         }
         let entered = &mut row[self.to as usize];
+        entered.pull = entered.pull.wrapping_add(self.share);
         if block == self.to {
             entered.weight = entered.weight.wrapping_add(self.lost_to);
         } else {

@@ -1,12 +1,14 @@
 //! What a worker remembers while it searches. It is made once a pass, and used for all its searches.
 
-ghost use Rattle.std.specs.Prelude.{◌≡◌, ◌≢◌, ◌*◌, ◌<◌, ◌≤◌, IfOk, IfSome, OnOk, vec_len};
+ghost use Rattle.std.specs.Prelude.{◌≡◌, ◌≢◌, ◌*◌, ◌<◌, ◌≤◌, All, IfOk, IfSome, OnOk, vec_len};
 ghost use Rattle.hg_defs.specs.Hypergraph.{vertex_count};
 ghost use Rattle.fm_search.specs.Standing.{IsOf, size_for};
+ghost use Rattle.fm_search.specs.Opened.{IsBelow};
 
 use crate::cells::{BLANK, Cell, Used};
 use crate::change::Change;
 use crate::mover::Mover;
+use crate::opening::Opening;
 use crate::reading::{Choice, approach, best_block, read_vertex};
 use crate::shared::Shared;
 use gain_heap::{GainHeap, Offer};
@@ -233,6 +235,25 @@ impl Desk {
         first
     }
 
+    /// Takes a row for a vertex that has none. Tells whether there was one for it.
+    fn take_row(&mut self, v: u32) -> Result<bool, NoMemory>
+        requires { v < self.old.vertices }
+        ensures { self.new ≡ self.old }
+    {
+        let row = self.next;
+        let start = start_of(row, self.k);
+        if start >= MOST_CELLS {
+            return Ok(false);
+        }
+        reach(&mut self.cells, start + self.k as usize)?;
+        reach_rows(&mut self.used, row as usize + 1)?;
+        self.next = row.wrapping_add(1);
+        let mark = &mut self.marks[v as usize];
+        mark.search = self.search;
+        mark.row = row;
+        Ok(true)
+    }
+
     /// Reads the gains of a vertex in `block` into its row, anew where it has one. Tells whether there was a
     /// row for it.
     pub(crate) fn read(
@@ -250,18 +271,8 @@ impl Desk {
         ensures same { self.new ≡ self.old }
         ensures mover { mover.new ≡ mover.old }
     {
-        if !self.is_read(v) {
-            let row = self.next;
-            let start = start_of(row, self.k);
-            if start >= MOST_CELLS {
-                return Ok(false);
-            }
-            reach(&mut self.cells, start + self.k as usize)?;
-            reach_rows(&mut self.used, row as usize + 1)?;
-            self.next = row.wrapping_add(1);
-            let mark = &mut self.marks[v as usize];
-            mark.search = self.search;
-            mark.row = row;
+        if !self.is_read(v) && !self.take_row(v)? {
+            return Ok(false);
         }
         let number = self.marks[v as usize].row;
         let start = start_of(number, self.k);
@@ -316,10 +327,57 @@ impl Desk {
         change.adjust(row, &mut self.used[number as usize], block);
     }
 
-    /// Tells a vertex in `block` of a change on one of its nets, and lists it where it was neither read nor offered
-    /// yet or one of its gains may have risen.
-    pub(crate) fn tell(&mut self, v: u32, block: u32, change: &Change) -> Result<(), NoMemory>
+    /// Lets a vertex wait to be offered.
+    fn list(&mut self, v: u32) -> Result<(), NoMemory>
+        requires { v < self.old.vertices }
+        ensures { self.new ≡ self.old }
+    {
+        self.marks[v as usize].listed = true;
+        self.listed.push(v)?;
+        Ok(())
+    }
+
+    /// Draws up the row of a vertex in `block`, of two blocks, where it is given what the vertex may do. Of its cells
+    /// only the difference matters, so that its own is left blank.
+    fn draw_up(&mut self, openings: &[Opening], v: u32, block: u32) -> Result<(), NoMemory>
+        requires openings { All (IsBelow self.old.blocks) openings.now }
         requires vertex { v < self.old.vertices }
+        requires block { block < self.old.blocks }
+        ensures { self.new ≡ self.old }
+    {
+        let Some(Opening::Moves(choice)) = openings.get(v as usize) else {
+            return Ok(());
+        };
+        if !self.take_row(v)? {
+            return Ok(());
+        }
+        let number = self.marks[v as usize].row;
+        let start = start_of(number, self.k);
+        let row = &mut self.cells.as_mut_slice()[start..start + self.k as usize];
+        let used = &mut self.used[number as usize];
+        *used = Used::none();
+        used.reach(row, block);
+        used.reach(row, choice.to);
+        let cell = &mut row[choice.to as usize];
+        cell.weight = choice.gain;
+        cell.pull = choice.pull;
+        cell.nets = choice.nets;
+        Ok(())
+    }
+
+    /// Tells a vertex in `block` of a change on one of its nets, and lists it where it was neither read nor offered
+    /// yet or one of its gains may have risen. One that was offered unread gets its row off what vertices may do, where
+    /// that is given.
+    pub(crate) fn tell(
+        &mut self,
+        openings: &[Opening],
+        v: u32,
+        block: u32,
+        change: &Change,
+    ) -> Result<(), NoMemory>
+        requires openings { All (IsBelow self.old.blocks) openings.now }
+        requires vertex { v < self.old.vertices }
+        requires block { block < self.old.blocks }
         requires from { change.now.from < self.old.blocks }
         requires to { change.now.to < self.old.blocks }
         ensures { self.new ≡ self.old }
@@ -328,13 +386,15 @@ impl Desk {
         if mark.round == self.round {
             return Ok(());
         }
+        if mark.search == self.search && mark.row == 0 {
+            self.draw_up(openings, v, block)?;
+        }
         if self.is_read(v) {
             self.adjust(v, block, change);
         }
         let rises = mark.search != self.search || change.raises(block);
         if rises && !mark.listed {
-            self.marks[v as usize].listed = true;
-            self.listed.push(v)?;
+            self.list(v)?;
         }
         Ok(())
     }

@@ -6,6 +6,7 @@
 //! made them, more than make up for it. It is localized FM, as in Mt-KaHyPar.
 #![tactic(auto)]
 
+mod begin;
 mod cells;
 mod change;
 mod desk;

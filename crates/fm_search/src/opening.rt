@@ -11,7 +11,7 @@ use crate::reading::{Choice, Entered, MOST_PINS, WORDS_A_PIN, enter, scored};
 use crew::each_chunk;
 use hg_base::{FREE, NoMemory};
 use incidence::Hypergraph;
-use pin_plain::Partition;
+use move_table::Terms;
 use std::alloc::Global;
 use std::thread::Threads;
 
@@ -31,26 +31,26 @@ pub(crate) enum Opening {
 
 /// Enters a net by its counts in all blocks, until all of its pins are found.
 fn enter_blocks(
-    p: &Partition,
+    terms: &Terms,
     row: &mut [Cell],
     used: &mut Used,
     entered: &Entered,
     e: u32,
-    others: u32,
+    others: u64,
 )
-    requires net { e < net_count p.now.hyper }
-    requires row { length row.old ≡ p.now.k }
-    requires few { p.now.k ≤ 256 }
+    requires net { e < net_count terms.now.part.hyper }
+    requires row { length row.old ≡ terms.now.part.k }
+    requires few { terms.now.part.k ≤ 256 }
     ensures { length row.new ≡ length row.old }
 {
     let mut left = others;
-    'blocks: for b in 0..p.k() {
+    'blocks: for b in 0..terms.part.k() {
         if left == 0 {
             return;
         }
-        let count = p.count(e, b);
+        let count = terms.count(e, b);
         if b != entered.block && count > 0 {
-            enter(row, used, entered, b, u64::from(count));
+            enter(row, used, entered, b, count);
             left = left.saturating_sub(count);
         }
     }
@@ -59,38 +59,38 @@ fn enter_blocks(
 /// Enters a net by the blocks of its pins.
 fn enter_pins(
     h: &Hypergraph,
-    p: &Partition,
+    terms: &Terms,
     row: &mut [Cell],
     used: &mut Used,
     entered: &Entered,
     e: u32,
 )
-    requires belongs { p.now.hyper ≡ h.now }
+    requires belongs { terms.now.part.hyper ≡ h.now }
     requires net { e < net_count h.now }
-    requires row { length row.old ≡ p.now.k }
-    requires few { p.now.k ≤ 256 }
+    requires row { length row.old ≡ terms.now.part.k }
+    requires few { terms.now.part.k ≤ 256 }
     ensures { length row.new ≡ length row.old }
 {
     'pins: for u in h.pins(e) {
-        let b = p.blocks()[*u as usize];
+        let b = terms.part.blocks()[*u as usize];
         if b == entered.block {
             continue;
         }
         used.reach(row, b);
         if row[b as usize].last != e {
             row[b as usize].last = e;
-            enter(row, used, entered, b, u64::from(p.count(e, b)));
+            enter(row, used, entered, b, terms.count(e, b));
         }
     }
 }
 
 /// Enters a net of a vertex in `block`.
-fn enter_net(h: &Hypergraph, p: &Partition, row: &mut [Cell], used: &mut Used, e: u32, block: u32)
-    requires belongs { p.now.hyper ≡ h.now }
+fn enter_net(h: &Hypergraph, terms: &Terms, row: &mut [Cell], used: &mut Used, e: u32, block: u32)
+    requires belongs { terms.now.part.hyper ≡ h.now }
     requires net { e < net_count h.now }
-    requires block { block < p.now.k }
-    requires row { length row.old ≡ p.now.k }
-    requires few { p.now.k ≤ 256 }
+    requires block { block < terms.now.part.k }
+    requires row { length row.old ≡ terms.now.part.k }
+    requires few { terms.now.part.k ≤ 256 }
     ensures { length row.new ≡ length row.old }
 {
     let size = h.pins(e).len() as u32;
@@ -103,13 +103,13 @@ fn enter_net(h: &Hypergraph, p: &Partition, row: &mut [Cell], used: &mut Used, e
         share: share(&net),
         block,
     };
-    let own = p.count(e, block);
-    enter(row, used, &entered, block, u64::from(own));
-    let others = size.saturating_sub(own);
-    if p.k() <= WORDS_A_PIN * size {
-        enter_blocks(p, row, used, &entered, e, others);
+    let own = terms.count(e, block);
+    enter(row, used, &entered, block, own);
+    let others = u64::from(size).saturating_sub(own);
+    if terms.part.k() <= WORDS_A_PIN * size {
+        enter_blocks(terms, row, used, &entered, e, others);
     } else if others > 0 {
-        enter_pins(h, p, row, used, &entered, e);
+        enter_pins(h, terms, row, used, &entered, e);
     }
 }
 
@@ -140,6 +140,7 @@ fn highest(row: &[Cell], used: &Used, block: u32) -> Option<Choice>
         }
         best = Some(Choice {
             to: b,
+            nets: cell.nets,
             gain,
             pull: cell.pull.wrapping_sub(own.pull),
         });
@@ -148,22 +149,22 @@ fn highest(row: &[Cell], used: &Used, block: u32) -> Option<Choice>
 }
 
 /// Reads what a vertex may do.
-fn read_opening(h: &Hypergraph, p: &Partition, row: &mut [Cell], v: u32) -> Opening
-    requires belongs { p.now.hyper ≡ h.now }
+fn read_opening(h: &Hypergraph, terms: &Terms, row: &mut [Cell], v: u32) -> Opening
+    requires belongs { terms.now.part.hyper ≡ h.now }
     requires vertex { v < vertex_count h.now }
-    requires row { length row.old ≡ p.now.k }
-    requires few { p.now.k ≤ 256 }
+    requires row { length row.old ≡ terms.now.part.k }
+    requires few { terms.now.part.k ≤ 256 }
     ensures row { length row.new ≡ length row.old }
-    ensures below { IsBelow p.now.k result }
+    ensures below { IsBelow terms.now.part.k result }
 {
     if h.fix(v) != FREE {
         return Opening::Stays;
     }
-    let block = p.blocks()[v as usize];
+    let block = terms.part.blocks()[v as usize];
     let mut used = Used::none();
     used.reach(row, block);
     'nets: for e in h.nets_of(v) {
-        enter_net(h, p, row, &mut used, *e, block);
+        enter_net(h, terms, row, &mut used, *e, block);
     }
     match highest(row, &used, block) {
         Some(choice) => Opening::Moves(choice),
@@ -172,22 +173,22 @@ fn read_opening(h: &Hypergraph, p: &Partition, row: &mut [Cell], v: u32) -> Open
 }
 
 /// Reads the marked vertices of a run that weren't read.
-fn read_run(h: &Hypergraph, p: &Partition, cut: &[bool], first: usize, run: &mut [Opening])
-    requires belongs { p.now.hyper ≡ h.now }
-    requires few { p.now.k ≤ 256 }
+fn read_run(h: &Hypergraph, terms: &Terms, cut: &[bool], first: usize, run: &mut [Opening])
+    requires belongs { terms.now.part.hyper ≡ h.now }
+    requires few { terms.now.part.k ≤ 256 }
     requires marks { length cut.now ≡ vertex_count h.now }
     requires within { first + length run.old ≤ vertex_count h.now }
-    requires below { All (IsBelow p.now.k) run.old }
+    requires below { All (IsBelow terms.now.part.k) run.old }
     ensures long { length run.new ≡ length run.old }
-    ensures below { All (IsBelow p.now.k) run.new }
+    ensures below { All (IsBelow terms.now.part.k) run.new }
 {
     let _vertices = h.vertices();
     let mut cells = [BLANK; 256];
-    let row = &mut cells[..p.k() as usize];
+    let row = &mut cells[..terms.part.k() as usize];
     'vertices: for i in 0..run.len() {
         if let Opening::Unread = run[i] {
             if cut[first + i] {
-                run[i] = read_opening(h, p, row, (first + i) as u32);
+                run[i] = read_opening(h, terms, row, (first + i) as u32);
             }
         }
     }
@@ -197,19 +198,19 @@ fn read_run(h: &Hypergraph, p: &Partition, cut: &[bool], first: usize, run: &mut
 fn read_marked<H: Threads + Sync>(
     rt: &H,
     h: &Hypergraph,
-    p: &Partition,
+    terms: &Terms,
     cut: &[bool],
     workers: u32,
     all: &mut [Opening],
 )
-    requires belongs { p.now.hyper ≡ h.now }
-    requires few { p.now.k ≤ 256 }
+    requires belongs { terms.now.part.hyper ≡ h.now }
+    requires few { terms.now.part.k ≤ 256 }
     requires workers { (1 ≤ workers) × (workers ≤ 64) }
     requires marks { length cut.now ≡ vertex_count h.now }
     requires long { length all.old ≡ vertex_count h.now }
-    requires below { All (IsBelow p.now.k) all.old }
+    requires below { All (IsBelow terms.now.part.k) all.old }
     ensures long { length all.new ≡ length all.old }
-    ensures below { All (IsBelow p.now.k) all.new }
+    ensures below { All (IsBelow terms.now.part.k) all.new }
 {
     let threads = workers.min(1 + h.nets() / LEAST_NETS);
     let size = h.vertices().div_ceil(threads).max(1);
@@ -218,26 +219,26 @@ fn read_marked<H: Threads + Sync>(
         all,
         size as usize,
         &|first: usize, run: &mut [Opening]|
-            requires { (first + length run.now ≤ vertex_count h.now) × (p.now.hyper ≡ h.now) × (p.now.k ≤ 256)
-                × (length cut.now ≡ vertex_count h.now) × All (IsBelow p.now.k) run.now }
-            ensures { (length run.exit.now ≡ length run.entry.now) × All (IsBelow p.entry.now.k) run.exit.now }
-        { read_run(h, p, cut, first, run) },
+            requires { (first + length run.now ≤ vertex_count h.now) × (terms.now.part.hyper ≡ h.now) × (terms.now.part.k ≤ 256)
+                × (length cut.now ≡ vertex_count h.now) × All (IsBelow terms.now.part.k) run.now }
+            ensures { (length run.exit.now ≡ length run.entry.now) × All (IsBelow terms.entry.now.part.k) run.exit.now }
+        { read_run(h, terms, cut, first, run) },
     );
 }
 
 /// Forgets what vertices may do that stand in other blocks than before, and what those on their nets may, but for large
 /// ones. The blocks are then those where they stand.
-fn forget_moved(h: &Hypergraph, p: &Partition, blocks: &mut [u32], all: &mut [Opening])
-    requires belongs { p.now.hyper ≡ h.now }
+fn forget_moved(h: &Hypergraph, terms: &Terms, blocks: &mut [u32], all: &mut [Opening])
+    requires belongs { terms.now.part.hyper ≡ h.now }
     requires known { length blocks.old ≡ vertex_count h.now }
     requires long { length all.old ≡ vertex_count h.now }
-    requires below { All (IsBelow p.now.k) all.old }
+    requires below { All (IsBelow terms.now.part.k) all.old }
     ensures known { length blocks.new ≡ length blocks.old }
     ensures long { length all.new ≡ length all.old }
-    ensures below { All (IsBelow p.now.k) all.new }
+    ensures below { All (IsBelow terms.now.part.k) all.new }
 {
     'vertices: for v in 0..h.vertices() {
-        let block = p.blocks()[v as usize];
+        let block = terms.part.blocks()[v as usize];
         if blocks[v as usize] == block {
             continue;
         }
@@ -292,23 +293,23 @@ impl Openings {
         &mut self,
         rt: &H,
         h: &Hypergraph,
-        p: &Partition,
+        terms: &Terms,
         cut: &[bool],
         workers: u32,
     ) -> Result<(), NoMemory>
-        requires belongs { p.now.hyper ≡ h.now }
+        requires belongs { terms.now.part.hyper ≡ h.now }
         requires workers { (1 ≤ workers) × (workers ≤ 64) }
         requires marks { length cut.now ≡ vertex_count h.now }
-        requires below { All (IsBelow p.now.k) self.old.all.items }
-        ensures below { All (IsBelow p.now.k) self.new.all.items }
+        requires below { All (IsBelow terms.now.part.k) self.old.all.items }
+        ensures below { All (IsBelow terms.now.part.k) self.new.all.items }
         ensures full { OnOk result (vec_len self.new.all ≡ vertex_count h.now) }
     {
-        let blocks = p.blocks();
+        let blocks = terms.part.blocks();
         if self.all.len() != blocks.len() || self.blocks.len() != blocks.len() {
             self.fill(blocks)?;
         }
-        forget_moved(h, p, self.blocks.as_mut_slice(), self.all.as_mut_slice());
-        read_marked(rt, h, p, cut, workers, self.all.as_mut_slice());
+        forget_moved(h, terms, self.blocks.as_mut_slice(), self.all.as_mut_slice());
+        read_marked(rt, h, terms, cut, workers, self.all.as_mut_slice());
         Ok(())
     }
 }

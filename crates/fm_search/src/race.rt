@@ -8,17 +8,18 @@ ghost use Rattle.fm_search.specs.Standing.{standing_of};
 ghost use Rattle.fm_search.specs.Memory.{IsMemoryFor};
 ghost use Rattle.fm_search.specs.Workers.{AreWorkers, AreFreshWorkers, IsWorkerAt, IsFreshAt};
 
+use crate::begin::open_round;
 use crate::desk::Desk;
 use crate::memory::Memory;
 use crate::mover::Mover;
 use crate::progress::Progress;
-use crate::seeds::{cut_marks, first_place, marked};
+use crate::seeds::{cut_marks, first_place};
 use crate::shared::Shared;
 use crate::worker::Worker;
 use crew::{Gate, each};
 use hg_base::{Items, NoMemory};
 use incidence::Hypergraph;
-use move_table::{Closed, Passes, Round};
+use move_table::{Closed, Passes};
 use pin_plain::Partition;
 use refiner::Task;
 use std::alloc::Global;
@@ -59,6 +60,7 @@ fn workers_of(
             mover: Mover::of(pass),
             desk,
             made: 0,
+            before: 0,
             apart: [0; 16],
         })?;
     }
@@ -84,6 +86,7 @@ fn passes_of(
             mover,
             desk,
             made: _,
+            before: _,
             apart: _,
         } = worker;
         passes.push(mover.into_pass())?;
@@ -135,14 +138,16 @@ pub(crate) fn race<H: Threads + Sync, G: Gate>(
 {
     let (k, limit) = (p.k(), p.limit());
     let cut = cut_marks(rt, alloc, h, &p, task.workers)?;
-    memory
-        .openings
-        .read(rt, h, &p, cut.as_slice(), task.workers)?;
-    let seeds = marked(alloc, cut.as_slice())?;
+    let (round, passes, seeds) = open_round(
+        rt,
+        alloc,
+        h,
+        p,
+        cut.as_slice(),
+        task.workers,
+        &mut memory.openings,
+    )?;
     let first = first_place(seeds.len(), task.seed, task.level);
-    let Ok((round, passes)) = Round::open(rt, alloc, h, p, task.workers) else {
-        return Err(NoMemory);
-    };
     let mut workers = workers_of(alloc, h, k, passes, &mut memory.desks)?;
     let progress = Progress::new();
     let shared = Shared {

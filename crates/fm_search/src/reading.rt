@@ -24,6 +24,8 @@ pub(crate) const WORDS_A_PIN: u32 = 4;
 #[derive(Clone, Copy)]
 pub(crate) struct Choice {
     pub(crate) to: u32,
+    /// How many nets of the vertex have a pin there.
+    pub(crate) nets: u32,
     pub(crate) gain: i64,
     pub(crate) pull: i64,
 }
@@ -283,6 +285,7 @@ pub(crate) fn best_block(
         if b != block && cell.nets > 0 {
             let choice = Choice {
                 to: b,
+                nets: cell.nets,
                 gain: cell.weight.wrapping_sub(own.weight),
                 pull: cell.pull.wrapping_sub(own.pull),
             };

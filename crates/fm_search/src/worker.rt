@@ -1,9 +1,10 @@
 //! A worker: it draws lots of seeds, and grows a search from each lot.
 
-ghost use Rattle.std.specs.Prelude.{◌≡◌, ◌≢◌, ◌<◌, ◌≤◌, IfOk, IfSome, length};
+ghost use Rattle.std.specs.Prelude.{◌≡◌, ◌≢◌, ◌<◌, ◌≤◌, All, IfOk, IfSome, length};
 ghost use Rattle.hg_defs.specs.Hypergraph.{vertex_count, net_count, net_of, IsFree};
 ghost use Rattle.hg_defs.specs.Partition.{block_of};
 ghost use Rattle.fm_search.specs.Standing.{IsFit, IsOf};
+ghost use Rattle.fm_search.specs.Opened.{IsBelow};
 
 use crate::change::Change;
 use crate::desk::Desk;
@@ -23,6 +24,8 @@ pub(crate) struct Worker {
     pub(crate) desk: Desk,
     /// How many moves it made in this round.
     pub(crate) made: u64,
+    /// How many of these before its search began.
+    pub(crate) before: u64,
     pub(crate) apart: Apart,
 }
 
@@ -96,9 +99,30 @@ impl Worker {
         self.offer(shared, v)
     }
 
+    /// What vertices may do, where rows can be drawn up from it: in two blocks, while nobody has moved anything since
+    /// it was read but this worker in its first search. Else nothing.
+    fn openings<'s>(&self, shared: &'s Shared<'_>) -> &'s [Opening]
+        ensures { All (IsBelow shared.now.k) result.now }
+    {
+        let all = shared.openings;
+        if shared.k == 2 && self.before == 0 && shared.progress.moves() == self.made {
+            all
+        } else {
+            &all[..0]
+        }
+    }
+
     /// Tells the pins of a net that one of them moved.
-    fn tell_net(&mut self, shared: &Shared<'_>, e: u32, from: u32, to: u32) -> Result<(), NoMemory>
+    fn tell_net(
+        &mut self,
+        shared: &Shared<'_>,
+        openings: &[Opening],
+        e: u32,
+        from: u32,
+        to: u32,
+    ) -> Result<(), NoMemory>
         requires fit { IsFit shared.now.round.now shared.now.h.now shared.now.k self.old.mover self.old.desk }
+        requires openings { All (IsBelow shared.now.k) openings.now }
         requires net { e < net_count shared.now.h.now }
         requires pins { 2 ≤ length (net_of shared.now.h.now e).pins }
         requires from { from < shared.now.k }
@@ -114,7 +138,8 @@ impl Worker {
             return Ok(());
         }
         'pins: for v in shared.h.pins(e) {
-            self.desk.tell(*v, shared.round.opening(*v), &change)?;
+            self.desk
+                .tell(openings, *v, shared.round.opening(*v), &change)?;
         }
         Ok(())
     }
@@ -128,10 +153,11 @@ impl Worker {
         ensures mover { self.new.mover ≡ self.old.mover }
         ensures desk { self.new.desk ≡ self.old.desk }
     {
+        let openings = self.openings(shared);
         'nets: for e in shared.h.nets_of(v) {
             let size = shared.h.pins(*e).len();
             if size >= 2 && size <= MOST_PINS {
-                self.tell_net(shared, *e, from, to)?;
+                self.tell_net(shared, openings, *e, from, to)?;
             }
         }
         self.desk.approach(shared, &mut self.mover);
@@ -210,6 +236,7 @@ impl Worker {
         ensures mover { self.new.mover ≡ self.old.mover }
         ensures desk { self.new.desk ≡ self.old.desk }
     {
+        self.before = self.made;
         self.desk.begin_search();
         'seeds: for number in from..to {
             self.offer_seed(shared, shared.seed(number))?;

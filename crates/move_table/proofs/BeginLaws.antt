@@ -1,9 +1,11 @@
 -- A round begins in balance, with the words that a partition has ready.
-use Rattle.std.proofs.Common.{◌≡◌, ℕ, zero, suc, ◌+◌, ◌<◌, List, [], ◌∷◌, length, get_or, refl, ap, ◌∙◌, arith}
-use Rattle.hg_defs.specs.Hypergraph.{net_of}
+use Rattle.std.proofs.Common.{◌≡◌, ℕ, zero, suc, ◌+◌, ◌/◌, ◌<◌, List, [], ◌∷◌, length, get_or, refl, ap, ◌∙◌, arith}
+use Rattle.hg_base.specs.Packed.{fields_of}
+use Rattle.hg_defs.specs.Hypergraph.{Hyper, net_count, net_of}
 use Rattle.hg_defs.proofs.MoveLaws.{connectivity_counts}
 use Rattle.pin_plain.specs.Opened.{IsOpened}
-use Rattle.pin_plain.proofs.CountLaws.{fields_enough}
+use Rattle.pin_plain.specs.Counts.{net_bits, net_words, net_place, all_words}
+use Rattle.pin_plain.proofs.CountLaws.{fields_enough, word_below, bits_width, net_part}
 use Rattle.move_core.specs.State.{IsOpening}
 use Rattle.move_core.proofs.OpenLaws.{opening_balance}
 use Rattle.move_core.specs.Balance.{IsSetup}
@@ -50,3 +52,12 @@ is_opening t words k h = record {
   next = h.zeros _ (omega arith);
   cursor = h.zeros _ (omega arith);
 }
+
+-- the word in which a count of a net stands is one of the partition's
+pub count_within : (h : Hyper) (k e b bits : ℕ) → e < net_count h → b < k → bits ≡ net_bits h e → net_place h k e + 1 + b / fields_of bits < all_words h k
+count_within h k e b bits l low eb =
+    let enough = fields_enough (length (net_of h e).pins) k in
+    let inside = word_below (net_bits h e) (net_words h k e) b (bits_width (length (net_of h e).pins)) (omega arith) in
+    let part = net_part h k e l in
+    let same = ap (λ w. net_place h k e + 1 + b / fields_of w) eb in
+    omega arith

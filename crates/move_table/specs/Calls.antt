@@ -38,6 +38,12 @@ pub record RacedPass : Type 0 where
   pub view : View
   pub spare : ℕ
 
+-- what a round begins with: which table its words are in, what it is over, and its passes
+pub record Beginning : Type 0 where
+  pub table : TableId
+  pub terms : Terms
+  pub passes : List RacedPass
+
 -- the pass is one of the round
 pub record IsPassOf (r : RacedRound) (p : RacedPass) : Type 0 where
   pub same_table : p.table ≡ r.table

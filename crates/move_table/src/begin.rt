@@ -1,10 +1,10 @@
 //! How a round begins: its table and its passes.
 
 ghost use Rattle.std.specs.Prelude.{◌≡◌, ◌<◌, ◌≤◌, [], IfOk, IfErr, length};
+ghost use Rattle.hg_defs.specs.Cost.{cost};
 ghost use Rattle.hg_defs.specs.Partition.{Fits};
 ghost use Rattle.move_core.specs.State.{blank};
-ghost use Rattle.move_table.specs.Places.{word_count};
-ghost use Rattle.move_table.specs.Standing.{terms_setup, IsTerms, first_view};
+ghost use Rattle.move_table.specs.Standing.{IsTerms, first_view};
 ghost use Rattle.move_table.specs.Calls.{AreFresh};
 
 use crate::pass::{Pass, Passes};
@@ -18,6 +18,7 @@ use hg_base::{Items, NoMemory};
 use incidence::Hypergraph;
 use pin_plain::Partition;
 use std::alloc::Global;
+use std::marker::Model;
 use std::thread::Threads;
 
 /// Makes the passes of a round, of which the first one has the seat.
@@ -38,26 +39,66 @@ fn make_passes(alloc: Global, words: &Words, seat: Place, workers: u32) -> Resul
     Ok(Items::from_vec(passes))
 }
 
-/// What a round begins with.
-pub(crate) struct Begun {
-    pub(crate) table: Table<(), View, Terms, Balanced, Global>,
-    pub(crate) passes: Passes,
+/// What a round begins with, its words and its passes, before it is opened. It is made off lent terms, so that their
+/// partition can be read meanwhile.
+#[derive(Drop)]
+pub struct Begun {
+    table: Table<(), View, Terms, Balanced, Global>,
+    passes: Passes,
 }
 
-/// Takes all memory of a round, copies its words, and makes its passes.
-fn begin(alloc: Global, terms: &Terms) -> Result<Begun, NoMemory>
-    requires { IsTerms terms.now }
-    ensures key { IfOk result (λ b. b.table.shared.key ≡ terms.now) }
-    ensures wide { IfOk result (λ b. b.table.shared.table_id.words ≡ word_count (terms_setup terms.now)) }
-    ensures bare { IfOk result (λ b. b.table.shared.table_id.slots ≡ 0) }
-    ensures passes { IfOk result (λ b. AreFresh b.table.shared.table_id terms.now b.passes) }
-{
-    let (table, seat) = Table::of_words(alloc, terms.part.words(), terms)?;
-    let passes = make_passes(alloc, &table.shared, seat, terms.workers)?;
-    Ok(Begun { table, passes })
+impl Model for Begun {
+    ghost use Rattle.std.specs.Prelude.{◌≡◌};
+    ghost use Rattle.move_table.specs.Standing.{terms_setup};
+    ghost use Rattle.move_table.specs.Places.{word_count};
+    ghost use Rattle.move_table.specs.Calls.{Beginning, AreFresh};
+
+    ghost Value = { Beginning };
+
+    ghost view = { λ b. record { table = b.table.shared.table_id; terms = b.table.shared.key; passes = b.passes } };
+
+    ghost invariant = { λ b. (b.table.shared.table_id.words ≡ word_count (terms_setup b.table.shared.key))
+        × (b.table.shared.table_id.slots ≡ 0)
+        × AreFresh b.table.shared.table_id b.table.shared.key b.passes };
+}
+
+impl Begun {
+    /// Takes all memory of a round over these terms, copies its words, and makes its passes.
+    pub fn new(alloc: Global, terms: &Terms) -> Result<Self, NoMemory>
+        requires { IsTerms terms.now }
+        ensures { IfOk result (λ b. b.terms ≡ terms.now) }
+    {
+        let (table, seat) = Table::of_words(alloc, terms.part.words(), terms)?;
+        let passes = make_passes(alloc, &table.shared, seat, terms.workers)?;
+        Ok(Begun { table, passes })
+    }
 }
 
 impl<'h> Round<'h> {
+    /// The round over these terms, with what it begins with, its passes, and the cost at its opening.
+    pub fn of(
+        hyper: &'h Hypergraph,
+        terms: Terms,
+        opening_cost: u64,
+        begun: Begun,
+    ) -> (Round<'h>, Passes)
+        requires over { IsTerms terms }
+        requires belongs { terms.part.hyper ≡ hyper.now }
+        requires begun { begun.terms ≡ terms }
+        requires cost { opening_cost ≡ cost hyper.now terms.part.blocks }
+        ensures terms { result.0.terms ≡ terms }
+        ensures passes { AreFresh result.0.table result.0.terms result.1 }
+    {
+        let Begun { table, passes } = begun;
+        let round = Round {
+            hyper,
+            terms,
+            table,
+            opening_cost,
+        };
+        (round, passes)
+    }
+
     /// Opens a round over a hypergraph and a partition of it, which must fit, with 1 to 64 passes,
     /// which have done nothing. Where there is no memory, the partition comes back.
     pub fn open<R: Threads + Sync>(
@@ -78,16 +119,8 @@ impl<'h> Round<'h> {
         let (part, opening_cost) = part.into_ready(rt, hyper, workers);
         let _blocks = part.blocks();
         let terms = Terms { part, workers };
-        match begin(alloc, &terms) {
-            Ok(Begun { table, passes }) => Ok((
-                Round {
-                    hyper,
-                    terms,
-                    table,
-                    opening_cost,
-                },
-                passes,
-            )),
+        match Begun::new(alloc, &terms) {
+            Ok(begun) => Ok(Round::of(hyper, terms, opening_cost, begun)),
             Err(NoMemory) => {
                 let Terms { part, workers: _ } = terms;
                 Err((part.into_partition(), NoMemory))

@@ -18,6 +18,7 @@ mod rule;
 mod steps;
 mod view;
 
+pub use begin::Begun;
 pub use closed::{Closed, RaceParts};
 pub use grant::{Full, Grant};
 pub use pass::{Pass, Passes};

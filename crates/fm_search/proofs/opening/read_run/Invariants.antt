@@ -5,6 +5,6 @@ use Rattle.fm_search.proofs.opening.read_run.Given as goal
 abbrev pub invariant-vertices : goal.invariant-vertices
 invariant-vertices l = record {
   long : length l.run ≡ length l.fn.run;
-  below : All (IsBelow l.p.k) l.run;
-  row : length l.row ≡ l.p.k;
+  below : All (IsBelow l.terms.part.k) l.run;
+  row : length l.row ≡ l.terms.part.k;
 }

@@ -1,5 +1,5 @@
 use Rattle.move_table.proofs.BeginLaws.{begins, is_opening}
-use Rattle.move_table.proofs.begin.begin.Goals as goal
+use Rattle.move_table.proofs.begin.Begun.new.Goals as goal
 
 pub of_words-requires : goal.of_words-requires
 of_words-requires c =
