@@ -17,31 +17,21 @@ use pin_plain::Partition;
 use std::alloc::Global;
 use std::thread::{Threads, join_mut};
 
-/// Reads what the marked vertices may do, by at most so many threads, and lists them.
-fn read_and_list<H: Threads + Sync>(
-    rt: &H,
-    alloc: Global,
-    h: &Hypergraph,
-    terms: &Terms,
-    cut: &[bool],
-    threads: u32,
-    openings: &mut Openings,
-) -> Result<Vec<u32>, NoMemory>
-    requires belongs { terms.now.part.hyper ≡ h.now }
-    requires threads { (1 ≤ threads) × (threads ≤ 64) }
-    requires marks { length cut.now ≡ vertex_count h.now }
-    requires below { All (IsBelow terms.now.part.k) openings.old.all.items }
-    ensures below { All (IsBelow terms.now.part.k) openings.new.all.items }
-    ensures full { OnOk result (vec_len openings.new.all ≡ vertex_count h.now) }
-    ensures seeds { IfOk result (λ seeds. All (λ v. v < vertex_count h.now) seeds.items) }
-    ensures few { IfOk result (λ seeds. vec_len seeds ≤ vertex_count h.now) }
+/// What a round begins with, and the marked places.
+fn begin_and_list(alloc: Global, terms: &Terms, cut: &[bool]) -> Result<(Begun, Vec<u32>), NoMemory>
+    requires over { IsTerms terms.now }
+    requires marks { length cut.now < 2 ^ 32 }
+    ensures begun { IfOk result (λ r. r.0.terms ≡ terms.now) }
+    ensures below { IfOk result (λ r. All (λ v. v < length cut.now) r.1.items) }
+    ensures few { IfOk result (λ r. vec_len r.1 ≤ length cut.now) }
 {
-    let _vertices = h.vertices();
-    openings.read(rt, h, terms, cut, threads)?;
-    marked(alloc, cut)
+    let begun = Begun::new(alloc, terms)?;
+    let seeds = marked(alloc, cut)?;
+    Ok((begun, seeds))
 }
 
-/// Does so in a new thread, while this one copies the words of the round.
+/// Copies the words of a round and lists the marked vertices in this thread, while others, at most so many, read what
+/// these may do.
 fn beside<H: Threads + Sync>(
     rt: &H,
     alloc: Global,
@@ -50,32 +40,33 @@ fn beside<H: Threads + Sync>(
     cut: &[bool],
     threads: u32,
     openings: &mut Openings,
-) -> Result<(Vec<u32>, Begun), NoMemory>
+) -> Result<(Begun, Vec<u32>), NoMemory>
     requires belongs { terms.now.part.hyper ≡ h.now }
     requires over { IsTerms terms.now }
     requires threads { (1 ≤ threads) × (threads ≤ 64) }
-    requires marks { length cut.now ≡ vertex_count h.now }
+    requires marks { (length cut.now ≡ vertex_count h.now) × (length cut.now < 2 ^ 32) }
     requires below { All (IsBelow terms.now.part.k) openings.old.all.items }
     ensures below { All (IsBelow terms.now.part.k) openings.new.all.items }
     ensures full { OnOk result (vec_len openings.new.all ≡ vertex_count h.now) }
-    ensures seeds { IfOk result (λ r. All (λ v. v < vertex_count h.now) r.0.items) }
-    ensures few { IfOk result (λ r. vec_len r.0 ≤ vertex_count h.now) }
-    ensures begun { IfOk result (λ r. r.1.terms ≡ terms.now) }
+    ensures begun { IfOk result (λ r. r.0.terms ≡ terms.now) }
+    ensures seeds { IfOk result (λ r. All (λ v. v < length cut.now) r.1.items) }
+    ensures few { IfOk result (λ r. vec_len r.1 ≤ length cut.now) }
 {
     let mut front = ||
         requires { IsSync H.row × (terms.now.part.hyper ≡ h.now) × (1 ≤ threads) × (threads ≤ 64)
             × (length cut.now ≡ vertex_count h.now) × All (IsBelow terms.now.part.k) openings.now.all.items }
         ensures below { All (IsBelow terms.entry.now.part.k) openings.exit.now.all.items }
         ensures full { OnOk result (vec_len openings.exit.now.all ≡ vertex_count h.entry.now) }
-        ensures seeds { IfOk result (λ seeds. All (λ v. v < vertex_count h.entry.now) seeds.items) }
-        ensures few { IfOk result (λ seeds. vec_len seeds ≤ vertex_count h.entry.now) }
-    { read_and_list(rt, alloc, h, terms, cut, threads, openings) };
+    { openings.read(rt, h, terms, cut, threads) };
     let mut back = ||
-        requires { IsTerms terms.now }
-        ensures { IfOk result (λ begun. begun.terms ≡ terms.entry.now) }
-    { Begun::new(alloc, terms) };
-    let (seeds, begun) = join_mut(rt, &mut front, &mut back);
-    Ok((seeds?, begun?))
+        requires { IsTerms terms.now × (length cut.now < 2 ^ 32) }
+        ensures begun { IfOk result (λ r. r.0.terms ≡ terms.entry.now) }
+        ensures below { IfOk result (λ r. All (λ v. v < length cut.entry.now) r.1.items) }
+        ensures few { IfOk result (λ r. vec_len r.1 ≤ length cut.entry.now) }
+    { begin_and_list(alloc, terms, cut) };
+    let (read, begun) = join_mut(rt, &mut front, &mut back);
+    read?;
+    begun
 }
 
 /// Opens a round over a partition, reads what the marked vertices may do, and lists them. One worker does one
@@ -104,11 +95,12 @@ pub(crate) fn open_round<'h, H: Threads + Sync>(
     let (part, opening_cost) = p.into_ready(rt, h, workers);
     let _blocks = part.blocks();
     let terms = Terms { part, workers };
-    let (seeds, begun) = if workers > 1 {
+    let _vertices = h.vertices();
+    let (begun, seeds) = if workers > 1 {
         beside(rt, alloc, h, &terms, cut, workers - 1, openings)?
     } else {
-        let seeds = read_and_list(rt, alloc, h, &terms, cut, 1, openings)?;
-        (seeds, Begun::new(alloc, &terms)?)
+        openings.read(rt, h, &terms, cut, 1)?;
+        begin_and_list(alloc, &terms, cut)?
     };
     let (round, passes) = Round::of(h, terms, opening_cost, begun);
     Ok((round, passes, seeds))

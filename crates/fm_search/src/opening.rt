@@ -308,7 +308,12 @@ impl Openings {
         if self.all.len() != blocks.len() || self.blocks.len() != blocks.len() {
             self.fill(blocks)?;
         }
-        forget_moved(h, terms, self.blocks.as_mut_slice(), self.all.as_mut_slice());
+        forget_moved(
+            h,
+            terms,
+            self.blocks.as_mut_slice(),
+            self.all.as_mut_slice(),
+        );
         read_marked(rt, h, terms, cut, workers, self.all.as_mut_slice());
         Ok(())
     }

@@ -3,11 +3,10 @@ use Rattle.std.specs.Prelude.{◌≡◌, ℕ, ◌+◌, ◌*◌, ◌≤◌, ◌<�
 use Rattle.std.specs.Prelude.{pos, ◌+ℤ◌, Option, Some, None, true, nat_eq, slice_index_or, if◌then◌else◌}
 use Rattle.std.specs.Int.{w64}
 use Rattle.hg_defs.specs.Sums.{total_z}
-use Rattle.hg_defs.specs.Hypergraph.{Hyper, vertex_count, net_count}
+use Rattle.hg_defs.specs.Hypergraph.{Hyper, vertex_count}
 use Rattle.hg_defs.specs.Partition.{block_of}
 use Rattle.hg_defs.specs.Cost.{cost}
 use Rattle.hg_defs.specs.Incidence.{nets_of}
-use Rattle.pin_plain.specs.Counts.{net_bits}
 use Rattle.atomic_table.specs.Seated.{TableId}
 use Rattle.atomic_table.specs.Table.{Me}
 use Rattle.move_core.specs.declared.account.Account.{Account}

@@ -1,5 +1,4 @@
-use Rattle.std.proofs.Common.{◌<◌, ◌∙◌, ap, arith}
-use Rattle.hg_base.specs.Packed.{fields_of}
+use Rattle.std.proofs.Common.{arith}
 use Rattle.pin_plain.proofs.CountLaws.{all_words-le}
 use Rattle.move_table.proofs.BeginLaws.{count_within}
 use Rattle.move_table.proofs.view.Terms.count.Goals as goal
