@@ -16,3 +16,4 @@ pub mod ChangeLaws
 pub mod BookLaws
 pub mod TurnLaws
 pub mod DistinctLaws
+pub mod BitLaws

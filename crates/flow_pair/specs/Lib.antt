@@ -6,3 +6,4 @@ pub mod CutNets
 pub mod PairEnds
 pub mod Turns
 pub mod Courses
+pub mod Bits

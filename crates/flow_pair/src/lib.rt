@@ -3,6 +3,7 @@
 #![tactic(auto)]
 
 mod balance;
+mod bits;
 mod cut;
 mod cut_nets;
 mod distinct;

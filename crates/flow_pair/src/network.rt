@@ -112,7 +112,7 @@ pub(crate) fn nets_of_pair(
     for v in pair.region {
         nets.extend_from_slice(pair.h.nets_of(*v))?;
     }
-    Ok(distinct_of_many(spots, nets))
+    distinct_of_many(alloc, spots, nets)
 }
 
 /// The nets that hold a vertex of the region.
@@ -129,7 +129,7 @@ pub(crate) fn nets_of_region(
     for v in pair.region {
         nets.extend_from_slice(pair.h.nets_of(*v))?;
     }
-    Ok(distinct_of_many(spots, nets))
+    distinct_of_many(alloc, spots, nets)
 }
 
 /// A network of the source, the sink and the region alone.

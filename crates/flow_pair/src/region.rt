@@ -89,7 +89,7 @@ fn free_on(
     for e in nets {
         add_free(h, blocks, block, h.pins(*e), &mut list)?;
     }
-    Ok(distinct_of_many(spots, list))
+    distinct_of_many(alloc, spots, list)
 }
 
 /// Whether a net has at most 1,000 pins.
@@ -136,7 +136,7 @@ fn small_nets_of(
     ensures list { IfOk result (λ list. list.items ≡ set_of nat_cmp (flat_map (small_nets h.now) vertices.now)) }
 {
     let list = all_small_nets_of(alloc, h, vertices)?;
-    Ok(distinct_of_many(spots, list))
+    distinct_of_many(alloc, spots, list)
 }
 
 /// The numbers of a list that aren't among some others, which rise.

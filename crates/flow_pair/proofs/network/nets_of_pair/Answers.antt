@@ -1,4 +1,5 @@
-use Rattle.std.proofs.Common.{◌∙◌, ◌++◌, ◌<◌, All, length, map, sym, ap, subst, arith}
+use Rattle.std.proofs.Common.{◌≡◌, ◌∙◌, ◌++◌, ◌<◌, All, length, map, sym, ap, subst, arith}
+use Rattle.std.proofs.lemmas.Result.{IfOk-weaker}
 use Rattle.std.proofs.lemmas.List.Elements.{All-weaker}
 use Rattle.std.specs.List.{flat_map}
 use Rattle.std.specs.Ordering.{nat_cmp}
@@ -6,6 +7,7 @@ use Rattle.std.proofs.lemmas.List.{take_all}
 use Rattle.hg_defs.specs.Hypergraph.{net_count, net_of}
 use Rattle.hg_defs.specs.Incidence.{nets_of}
 use Rattle.hg_defs.specs.Sorting.{set_of}
+use Rattle.flow_pair.specs.PairNetwork.{joined_nets}
 use Rattle.flow_pair.proofs.MemberLaws.{flat_map_next}
 use Rattle.flow_pair.proofs.NetLaws.{all_of, all_from_set, joined_numbers, joined_below, joined_listed}
 use Rattle.flow_pair.proofs.network.nets_of_pair.Goals as goal
@@ -22,17 +24,22 @@ returns-clause-nets c =
     let s = c.args.pair in
     let h = s.h.now in
     let all = c.loop-v.invariant ∙ ap (λ vs. c.args.touching.now ++ flat_map (nets_of h) vs) (take_all c.loop-v.v-index s.region.now c.loop-v-test.false) in
-    let nets = c.distinct_of_many.ensures.set ∙ ap (set_of nat_cmp) (all ∙ ap (λ es. es ++ flat_map (nets_of h) s.region.now) c.requires.touching) in
-    subst (All (λ e. e < net_count h)) (sym nets) (all_of (λ e. e < net_count h) (joined_numbers h s.blocks.now s.first s.second s.region.now)
-    (λ e d. (joined_below h s.blocks.now s.first s.second s.region.now e d).0))
+    let joined = ap (set_of nat_cmp) (all ∙ ap (λ es. es ++ flat_map (nets_of h) s.region.now) c.requires.touching) in
+    IfOk-weaker c.distinct_of_many.result (λ nets. nets.items ≡ set_of nat_cmp c.loop-v.nets.items) (λ nets. All (λ e. e < net_count h) nets.items)
+    (λ nets is.
+    subst (All (λ e. e < net_count h)) (sym (is ∙ joined)) (all_of (λ e. e < net_count h) (joined_numbers h s.blocks.now s.first s.second s.region.now)
+    (λ e d. (joined_below h s.blocks.now s.first s.second s.region.now e d).0)))
+    c.distinct_of_many.ensures.set
 
 pub returns-clause-joined : goal.returns-clause-joined
 returns-clause-joined c =
     let s = c.args.pair in
     let h = s.h.now in
     let all = c.loop-v.invariant ∙ ap (λ vs. c.args.touching.now ++ flat_map (nets_of h) vs) (take_all c.loop-v.v-index s.region.now c.loop-v-test.false) in
-    let nets = c.distinct_of_many.ensures.set ∙ ap (set_of nat_cmp) (all ∙ ap (λ es. es ++ flat_map (nets_of h) s.region.now) c.requires.touching) in
-    ap (map (net_of h)) nets ∙ joined_listed h s.blocks.now s.first s.second s.region.now
+    let joined = ap (set_of nat_cmp) (all ∙ ap (λ es. es ++ flat_map (nets_of h) s.region.now) c.requires.touching) in
+    IfOk-weaker c.distinct_of_many.result (λ nets. nets.items ≡ set_of nat_cmp c.loop-v.nets.items)
+    (λ nets. map (net_of h) nets.items ≡ joined_nets h s.blocks.now s.first s.second s.region.now)
+    (λ nets is. ap (map (net_of h)) (is ∙ joined) ∙ joined_listed h s.blocks.now s.first s.second s.region.now) c.distinct_of_many.ensures.set
 
 pub distinct_of_many-requires : goal.distinct_of_many-requires
 distinct_of_many-requires c =

@@ -1,4 +1,5 @@
-use Rattle.std.proofs.Common.{◌∙◌, ◌++◌, ◌<◌, [], All, length, sym, ap, subst, arith}
+use Rattle.std.proofs.Common.{◌≡◌, ◌∙◌, ◌++◌, ◌<◌, [], All, length, sym, ap, subst, arith}
+use Rattle.std.proofs.lemmas.Result.{IfOk-weaker}
 use Rattle.std.proofs.lemmas.List.{take_all}
 use Rattle.std.proofs.lemmas.List.Elements.{All-weaker}
 use Rattle.std.specs.List.{flat_map}
@@ -28,4 +29,7 @@ pub returns : goal.returns
 returns c =
     let s = c.args.pair in
     let all = c.loop-v.invariant ∙ ap (flat_map (nets_of s.h.now)) (take_all c.loop-v.v-index s.region.now c.loop-v-test.false) in
-    record { nets = c.distinct_of_many.ensures.set ∙ ap (set_of nat_cmp) all }
+    record {
+      nets = IfOk-weaker c.distinct_of_many.result (λ nets. nets.items ≡ set_of nat_cmp c.loop-v.nets.items)
+          (λ nets. nets.items ≡ set_of nat_cmp (flat_map (nets_of s.h.now) s.region.now)) (λ nets e. e ∙ ap (set_of nat_cmp) all) c.distinct_of_many.ensures.set;
+    }
