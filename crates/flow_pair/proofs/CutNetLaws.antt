@@ -8,7 +8,7 @@ use Rattle.std.specs.Ordering.{nat_cmp}
 use Rattle.std.specs.Set.{is_member}
 use Rattle.std.proofs.lemmas.Bool.{and_parts, or_cases, eqb-true, eq-eqb, cases_eq, cases_lt, lt-ltb, le-ltb}
 use Rattle.std.proofs.lemmas.Cmp.{nat_cmp_total}
-use Rattle.std.proofs.lemmas.List.{append-nil, length-replicate}
+use Rattle.std.proofs.lemmas.List.{length-replicate}
 use Rattle.std.proofs.lemmas.List.Elements.{All-nil, All-cons, All-append, All-contains, Contains-append_left, Contains-append_right, Contains-append_cases}
 use Rattle.hg_defs.specs.declared.moves.Move.{Move}
 use Rattle.hg_defs.specs.Hypergraph.{Hyper, net_count, net_of}
@@ -24,7 +24,7 @@ use Rattle.hg_defs.proofs.ReplayLaws.{replay-apart}
 use Rattle.hg_defs.proofs.SortLaws.{nat_cmp_exact, Contains-nil, Contains_head, Contains_later, increasing-set_of, Contains-set_of, Contains-from_set_of}
 use Rattle.round_log.specs.Rounds.{has_pin, touching}
 use Rattle.flow_pair.specs.Sides.{touching_nets}
-use Rattle.flow_pair.specs.CutNets.{HoldsTouching, HoldsCutOf, HoldsCutIn, AreCutLists, AreCutListsBelow, KeepNets, with_nets}
+use Rattle.flow_pair.specs.CutNets.{HoldsTouching, HoldsCutOf, AreCutLists, AreCutListsIn, IsNotedIn, AreJoined, KeepNets, with_nets}
 use Rattle.flow_pair.proofs.MemberLaws.{any_is, any_from, member_true, Contains-flat_map, Contains-from_flat_map, Contains-from_range, rising_is_filter}
 use Rattle.flow_pair.proofs.NetLaws.{all_of, touching_some, touching_none}
 use Rattle.flow_pair.proofs.PairLaws.{in_pair, IsRearranged}
@@ -120,44 +120,6 @@ outside_count p (v ∷ pins) b = by (nat_eq (block_of p v) b) (outside_count p p
         → (not t || list_any (λ u. not (nat_eq (block_of p u) b)) pins) ≡ nat_lt ((if t then 1 else 0) + pins_in p pins b) (suc (length pins))
     by true e = e ∙ later (pins_in p pins b) (length pins)
     by false e = sym (lt-ltb (0 + pins_in p pins b) (suc (length pins)) (let l = pins_in-le p pins b in omega arith))
-
--- ---- those of a run
-
-pub hold_none : (h : Hyper) (p : List ℕ) (from : ℕ) → HoldsCutIn h p from from []
-hold_none h p from = record {
-  nets = All-nil (λ e. e < net_count h);
-  all = λ a b other e first last t. absurd (let l : from < from = omega arith in omega arith);
-}
-
-pub hold_more : (h : Hyper) (p : List ℕ) (from e : ℕ) (t : Bool) (now next : List ℕ) → e < net_count h → t ≡ is_mixed h p e
-    → next ≡ now ++ (if t then e ∷ [] else []) → HoldsCutIn h p from e now → HoldsCutIn h p from (e + 1) next
-hold_more h p from e t now next low is n s = subst (HoldsCutIn h p from (e + 1)) (sym n) (by t is)
-  where
-    by : (u : Bool) → u ≡ is_mixed h p e → HoldsCutIn h p from (e + 1) (now ++ (if u then e ∷ [] else []))
-    by true f = record {
-      nets = All-append (λ i. i < net_count h) now (e ∷ []) s.nets (All-cons (λ i. i < net_count h) e [] low (All-nil (λ i. i < net_count h)));
-      all = λ a b other i first last g. one a b other i first last g (cases_eq i e);
-    }
-      where
-        one : (a b : ℕ) → b ≢ a → (i : ℕ) → from ≤ i → i < e + 1 → (has_pin p (net_of h i) a && has_pin p (net_of h i) b) ≡ true
-            → (i ≡ e) ⊎ (i ≢ e) → Contains (now ++ e ∷ []) i
-        one a b other i first last g (inl same) =
-            subst (Contains (now ++ e ∷ [])) (sym same) (Contains-append_right now (e ∷ []) e (Contains_head e []))
-        one a b other i first last g (inr apart) = Contains-append_left now (e ∷ []) i (s.all a b other i first (omega arith) g)
-    by false f = record {
-      nets = subst (All (λ i. i < net_count h)) (sym (append-nil now)) s.nets;
-      all = λ a b other i first last g. one a b other i first last g (cases_eq i e);
-    }
-      where
-        one : (a b : ℕ) → b ≢ a → (i : ℕ) → from ≤ i → i < e + 1 → (has_pin p (net_of h i) a && has_pin p (net_of h i) b) ≡ true
-            → (i ≡ e) ⊎ (i ≢ e) → Contains (now ++ []) i
-        one a b other i first last g (inl same) = absurd (true≢false
-            (sym (touching_mixed h p e a b other (subst (λ x. (has_pin p (net_of h x) a && has_pin p (net_of h x) b) ≡ true) same g)) ∙ sym f))
-        one a b other i first last g (inr apart) =
-            subst (λ xs. Contains xs i) (sym (append-nil now)) (s.all a b other i first (omega arith) g)
-
-pub hold_all : (h : Hyper) (p : List ℕ) (from to e : ℕ) (list : List ℕ) → to ≤ e → HoldsCutIn h p from e list → HoldsCutIn h p from to list
-hold_all h p from to e list l s = record { nets = s.nets; all = λ a b other i first last t. s.all a b other i first (omega arith) t }
 
 -- ---- after some vertices moved
 
@@ -282,40 +244,116 @@ empty_at zero a none = refl
 empty_at (suc k) zero none = refl
 empty_at (suc k) (suc a) none = empty_at k a none
 
-pub lists_none : (h : Hyper) (k : ℕ) (p : List ℕ) (lists : List (List ℕ)) → lists ≡ replicate k [] → AreCutListsBelow h k p 0 lists
-lists_none h k p lists is = record {
+-- a net that isn't mixed touches no two blocks
+pub noted_none : (h : Hyper) (p : List ℕ) (e : ℕ) (lists : List (List ℕ)) → is_mixed h p e ≡ false → IsNotedIn h p e lists
+noted_none h p e lists none = λ a b other t. absurd (true≢false (sym (touching_mixed h p e a b other t) ∙ none))
+
+-- one that is in the lists of the blocks of its pins is in those of all blocks that it touches
+pub noted_all : (h : Hyper) (p : List ℕ) (e : ℕ) (lists : List (List ℕ))
+    → All (λ v. Contains (slice_index_or lists (block_of p v) []) e) (net_of h e).pins → IsNotedIn h p e lists
+noted_all h p e lists all =
+    λ a b other t.
+    let both = and_parts (has_pin p (net_of h e) a) (has_pin p (net_of h e) b) t in
+    let u = any_is (λ v. nat_eq (block_of p v) a) (net_of h e).pins both.0 in
+    subst (λ x. Contains (slice_index_or lists x []) e) (eqb-true (block_of p u.0) a u.2)
+    (All-contains (λ v. Contains (slice_index_or lists (block_of p v) []) e) (net_of h e).pins u.0 all u.1)
+
+-- ---- those of a run
+
+pub lists_none : (h : Hyper) (k : ℕ) (p : List ℕ) (from : ℕ) (lists : List (List ℕ)) → lists ≡ replicate k [] → AreCutListsIn h k p from from lists
+lists_none h k p from lists is = record {
   count = ap length is ∙ length-replicate k [];
-  nets = λ a. subst (All (λ e. e < net_count h)) (sym (ap (λ (xs : List (List ℕ)). slice_index_or xs a []) is ∙ empty_at k a []))
+  nets = λ a low. subst (All (λ e. e < net_count h)) (sym (ap (λ (xs : List (List ℕ)). slice_index_or xs a []) is ∙ empty_at k a []))
       (All-nil (λ (e : ℕ). e < net_count h));
-  all = λ a b other e low t. absurd (let l : e < 0 = low in omega arith);
+  all = λ a b low other e first last t. absurd (let l : from < from = omega arith in omega arith);
 }
 
--- each cut net of one more run is in the lists of the blocks of its pins
-pub lists_more : (h : Hyper) (k : ℕ) (p : List ℕ) (from to : ℕ) (cut : List ℕ) (lists lists' : List (List ℕ)) → HoldsCutIn h p from to cut
-    → KeepNets (net_count h) lists lists' → All (λ e. All (λ v. Contains (slice_index_or lists' (block_of p v) []) e) (net_of h e).pins) cut
-    → AreCutListsBelow h k p from lists → AreCutListsBelow h k p to lists'
-lists_more h k p from to cut lists lists' s kept noted were = record {
+-- one net more is noted
+pub lists_more : (h : Hyper) (k : ℕ) (p : List ℕ) (from e : ℕ) (lists lists' : List (List ℕ)) → KeepNets (net_count h) lists lists'
+    → IsNotedIn h p e lists' → AreCutListsIn h k p from e lists → AreCutListsIn h k p from (e + 1) lists'
+lists_more h k p from e lists lists' kept noted were = record {
   count = kept.count ∙ were.count;
-  nets = λ a. kept.below a (were.nets a);
-  all = λ a b other e low t. found a b other e low t (cases_lt e from);
+  nets = λ a low. kept.below a (were.nets a low);
+  all = λ a b low other i first last t. found a b low other i first last t (cases_eq i e);
 }
   where
-    found : (a b : ℕ) → b ≢ a → (e : ℕ) → e < to → (has_pin p (net_of h e) a && has_pin p (net_of h e) b) ≡ true
-        → (e < from) ⊎ (from ≤ e) → Contains (slice_index_or lists' a []) e
-    found a b other e low t (inl before) = kept.kept a e (were.all a b other e before t)
-    found a b other e low t (inr first) =
-        let both = and_parts (has_pin p (net_of h e) a) (has_pin p (net_of h e) b) t in
-        let u = any_is (λ v. nat_eq (block_of p v) a) (net_of h e).pins both.0 in
-        let all = All-contains (λ f. All (λ v. Contains (slice_index_or lists' (block_of p v) []) f) (net_of h f).pins) cut e noted
-        (s.all a b other e first low t) in
-        subst (λ x. Contains (slice_index_or lists' x []) e) (eqb-true (block_of p u.0) a u.2)
-        (All-contains (λ v. Contains (slice_index_or lists' (block_of p v) []) e) (net_of h e).pins u.0 all u.1)
+    found : (a b : ℕ) → a < k → b ≢ a → (i : ℕ) → from ≤ i → i < e + 1 → (has_pin p (net_of h i) a && has_pin p (net_of h i) b) ≡ true
+        → (i ≡ e) ⊎ (i ≢ e) → Contains (slice_index_or lists' a []) i
+    found a b low other i first last t (inl same) =
+        subst (Contains (slice_index_or lists' a [])) (sym same)
+        (noted a b other (subst (λ x. (has_pin p (net_of h x) a && has_pin p (net_of h x) b) ≡ true) same t))
+    found a b low other i first last t (inr apart) = kept.kept a i (were.all a b low other i first (omega arith) t)
 
-pub lists_all : (h : Hyper) (k : ℕ) (p : List ℕ) (lists : List (List ℕ)) → AreCutListsBelow h k p (net_count h) lists → AreCutLists h k p lists
+pub lists_end : (h : Hyper) (k : ℕ) (p : List ℕ) (from to e : ℕ) (lists : List (List ℕ)) → to ≤ e → AreCutListsIn h k p from e lists
+    → AreCutListsIn h k p from to lists
+lists_end h k p from to e lists l are = record {
+  count = are.count;
+  nets = are.nets;
+  all = λ a b low other i first last t. are.all a b low other i first (omega arith) t;
+}
+
+-- the lists of two runs, one behind the other
+pub lists_joined : (h : Hyper) (k : ℕ) (p : List ℕ) (from mid to : ℕ) (xs ys joined : List (List ℕ)) → AreJoined xs ys joined
+    → AreCutListsIn h k p from mid xs → AreCutListsIn h k p mid to ys → AreCutListsIn h k p from to joined
+lists_joined h k p from mid to xs ys joined is x y = record {
+  count = is.count ∙ x.count;
+  nets = λ a low. subst (All (λ e. e < net_count h)) (sym (at a low))
+      (All-append (λ e. e < net_count h) (slice_index_or xs a []) (slice_index_or ys a []) (x.nets a low) (y.nets a low));
+  all = λ a b low other e first last t. subst (λ list. Contains list e) (sym (at a low)) (found a b low other e first last t (cases_lt e mid));
+}
+  where
+    at : (a : ℕ) → a < k → slice_index_or joined a [] ≡ slice_index_or xs a [] ++ slice_index_or ys a []
+    at a low = is.each a (let n = x.count in omega (arith, n, low))
+
+    found : (a b : ℕ) → a < k → b ≢ a → (e : ℕ) → from ≤ e → e < to → (has_pin p (net_of h e) a && has_pin p (net_of h e) b) ≡ true
+        → (e < mid) ⊎ (mid ≤ e) → Contains (slice_index_or xs a [] ++ slice_index_or ys a []) e
+    found a b low other e first last t (inl before) =
+        Contains-append_left (slice_index_or xs a []) (slice_index_or ys a []) e (x.all a b low other e first before t)
+    found a b low other e first last t (inr behind) =
+        Contains-append_right (slice_index_or xs a []) (slice_index_or ys a []) e (y.all a b low other e behind last t)
+
+pub lists_all : (h : Hyper) (k : ℕ) (p : List ℕ) (lists : List (List ℕ)) → AreCutListsIn h k p 0 (net_count h) lists → AreCutLists h k p lists
 lists_all h k p lists are = record {
   count = are.count;
-  each = λ a l. record { nets = are.nets a; all = λ b other e low t. are.all a b other e low t };
+  each = λ a l. record { nets = are.nets a l; all = λ b other e low t. are.all a b l other e (omega arith) low t };
 }
+
+-- to each list below a place the one at the same place was appended
+pub record AreJoinedBelow (m : ℕ) (xs ys joined : List (List ℕ)) : Type 0 where
+  pub count : length joined ≡ length xs
+  pub done : (a : ℕ) → a < m → slice_index_or joined a [] ≡ slice_index_or xs a [] ++ slice_index_or ys a []
+  pub rest : (a : ℕ) → m ≤ a → slice_index_or joined a [] ≡ slice_index_or xs a []
+
+pub joined_none : (xs ys : List (List ℕ)) → AreJoinedBelow 0 xs ys xs
+joined_none xs ys = record {
+  count = refl;
+  done = λ a low. absurd (let l : a < 0 = low in omega arith);
+  rest = λ a low. refl;
+}
+
+module _ (m : ℕ) (xs ys now : List (List ℕ)) (list : List ℕ) where
+  abbrev long : List ℕ
+  long = slice_index_or now m [] ++ list
+
+  joined_at : (a : ℕ) → m < length xs → list ≡ slice_index_or ys m [] → AreJoinedBelow m xs ys now → a < m + 1 → (a ≡ m) ⊎ (a ≢ m)
+      → slice_index_or (slice_set now m long) a [] ≡ slice_index_or xs a [] ++ slice_index_or ys a []
+  joined_at a low is were l (inl same) =
+      ap (λ x. slice_index_or (slice_set now m long) x []) same
+      ∙ get_or-set_same now m long [] (let n = were.count in omega (arith, n, low))
+      ∙ ap (λ zs. zs ++ list) (were.rest m (omega arith)) ∙ ap (λ zs. slice_index_or xs m [] ++ zs) is
+      ∙ sym (ap (λ x. slice_index_or xs x [] ++ slice_index_or ys x []) same)
+  joined_at a low is were l (inr apart) = get_or-set_other now m a long [] apart ∙ were.done a (omega (arith, l, apart))
+
+  pub joined_more : (next : List (List ℕ)) → m < length xs → list ≡ slice_index_or ys m [] → next ≡ slice_set now m (slice_index_or now m [] ++ list)
+      → AreJoinedBelow m xs ys now → AreJoinedBelow (m + 1) xs ys next
+  joined_more next low is set were = subst (AreJoinedBelow (m + 1) xs ys) (sym set) (record {
+    count = length-set now m long ∙ were.count;
+    done = λ a l. joined_at a low is were l (cases_eq a m);
+    rest = λ a l. get_or-set_other now m a long [] (omega (arith, l)) ∙ were.rest a (omega (arith, l));
+  })
+
+pub joined_all : (m : ℕ) (xs ys joined : List (List ℕ)) → length xs ≤ m → AreJoinedBelow m xs ys joined → AreJoined xs ys joined
+joined_all m xs ys joined l were = record { count = were.count; each = λ a low. were.done a (omega (arith, l, low)) }
 
 -- a pair's nets are in the list of its second block, too
 pub second_holds : (h : Hyper) (p : List ℕ) (a b : ℕ) (list : List ℕ) → a ≢ b → HoldsCutOf h p b list → HoldsTouching h p a b list

@@ -1,14 +1,13 @@
 //! The cut nets of a partition, block by block.
 
-ghost use Rattle.std.specs.Prelude.{◌≡◌, ◌≢◌, ◌⊎◌, ℕ, ◌<◌, ◌≤◌, [], All, Contains, IfOk, OnOk, length};
-ghost use Rattle.std.specs.Prelude.{replicate, slice_index_or, IsTrue, false, ◌↔◌};
-ghost use Rattle.hg_defs.specs.Hypergraph.{vertex_count, net_count, net_of};
-ghost use Rattle.hg_defs.specs.Partition.{block_of};
+ghost use Rattle.std.specs.Prelude.{◌≡◌, ◌<◌, ◌≤◌, [], All, IfOk, OnOk, length, slice_index_or, false, ◌↔◌};
+ghost use Rattle.hg_defs.specs.Hypergraph.{vertex_count, net_count};
 ghost use Rattle.round_log.specs.Rounds.{touching};
-ghost use Rattle.flow_pair.specs.CutNets.{AreCutLists, AreCutListsBelow, HoldsCutOfRun, KeepNets, with_nets};
+ghost use Rattle.flow_pair.specs.CutNets.{AreCutLists, with_nets};
 ghost use Rattle.flow_pair.specs.Sides.{touching_nets};
 
-use crate::cut::{add_nets_of, any_between, cut_nets_by_run, cut_nets_in, nets_between};
+use crate::cut::{add_nets_of, any_between, nets_between};
+use crate::cut_lists::{cut_lists_in, cut_lists_with};
 use crate::distinct::common_of;
 use flow_net::NoMemory;
 use hg_base::{Move, Verts};
@@ -18,98 +17,6 @@ use std::alloc::Global;
 use std::marker::Model;
 use std::mem;
 use std::thread::Threads;
-
-/// A list for each block without nets.
-fn empty_lists(alloc: Global, k: u32) -> Result<Vec<Verts>, NoMemory>
-    ensures { IfOk result (λ lists. lists.items ≡ replicate k []) }
-{
-    let mut lists = Vec::with_capacity(alloc, k as usize)?;
-    for _ in 0..k {
-        lists.push(Verts::new(alloc))?;
-    }
-    Ok(lists)
-}
-
-/// Whether a net is the last one of a list.
-fn ends_in(list: &[u32], e: u32) -> bool
-    ensures { IsTrue result → Contains list.now e }
-{
-    match list.last() {
-        Some(last) => *last == e,
-        None => false,
-    }
-}
-
-/// Appends a net to the list of a block, unless it is the last one there.
-fn note(lists: &mut Vec<Verts>, block: u32, e: u32) -> Result<(), NoMemory>
-    requires { block < length lists.old.items }
-    ensures kept { OnOk result ((m : ℕ) → e < m → KeepNets m lists.old.items lists.new.items) }
-    ensures noted { OnOk result (Contains (slice_index_or lists.new.items block []) e) }
-{
-    if ends_in(lists[block as usize].slice(), e) {
-        return Ok(());
-    }
-    lists[block as usize].push(e)
-}
-
-/// Notes a net for the block of each of its pins.
-fn note_all(lists: &mut Vec<Verts>, blocks: &[u32], pins: &[u32], e: u32) -> Result<(), NoMemory>
-    requires pins { All (λ v. v < length blocks.now) pins.now }
-    requires blocks { All (λ b. b < length lists.old.items) blocks.now }
-    ensures kept { OnOk result ((m : ℕ) → e < m → KeepNets m lists.old.items lists.new.items) }
-    ensures noted { OnOk result (All (λ v. Contains (slice_index_or lists.new.items (block_of blocks.now v) []) e)
-        pins.now) }
-{
-    for v in pins {
-        note(lists, blocks[*v as usize], e)?;
-    }
-    Ok(())
-}
-
-/// Notes nets for the blocks of their pins.
-fn note_nets(
-    lists: &mut Vec<Verts>,
-    h: &Hypergraph,
-    blocks: &[u32],
-    nets: &[u32],
-) -> Result<(), NoMemory>
-    requires vertices { length blocks.now ≡ vertex_count h.now }
-    requires nets { All (λ e. e < net_count h.now) nets.now }
-    requires blocks { All (λ b. b < length lists.old.items) blocks.now }
-    ensures kept { OnOk result (KeepNets (net_count h.now) lists.old.items lists.new.items) }
-    ensures noted { OnOk result (All (λ e. All (λ v. Contains (slice_index_or lists.new.items (block_of blocks.now v)
-        []) e) (net_of h.now e).pins) nets.now) }
-{
-    for e in nets {
-        note_all(lists, blocks, h.pins(*e), *e)?;
-    }
-    Ok(())
-}
-
-/// Notes the nets of all runs for the blocks of their pins, run by run. There is no memory where there was none for a
-/// run.
-fn note_runs(
-    lists: &mut Vec<Verts>,
-    h: &Hypergraph,
-    p: &Partition,
-    runs: &[Result<Vec<u32>, NoMemory>],
-) -> Result<(), NoMemory>
-    requires belongs { p.now.hyper ≡ h.now }
-    requires some { 0 < length runs.now }
-    requires cut { (i : ℕ) (d : _) → i < length runs.now → IfOk (slice_index_or runs.now i d) (λ cut. HoldsCutOfRun
-        h.now p.now.blocks (length runs.now) i cut.items) }
-    requires none { AreCutListsBelow h.now p.now.k p.now.blocks 0 lists.old.items }
-    ensures { OnOk result (AreCutListsBelow h.now p.now.k p.now.blocks (net_count h.now) lists.new.items) }
-{
-    let blocks = p.blocks();
-    for run in runs {
-        let Ok(cut) = run else {
-            return Err(NoMemory);
-        };
-        note_nets(lists, h, blocks, cut.as_slice())?;
-    }
-    Ok(())
-}
 
 /// Appends the nets of the vertices that moved to the list of a block.
 fn extend_list(
@@ -150,8 +57,8 @@ impl CutNets {
         requires { p.now.hyper ≡ h.now }
         ensures { IfOk result (AreCutLists h.now p.now.k p.now.blocks) }
     {
-        let cut = cut_nets_in(alloc, h, p, 0, h.nets());
-        Self::of_runs(alloc, h, p, &[cut])
+        let lists = cut_lists_in(alloc, h, p, 0, h.nets())?;
+        Ok(CutNets { lists })
     }
 
     /// The cut nets of a partition, for which the workers look all at once, each in a run of the nets. There are as
@@ -167,25 +74,7 @@ impl CutNets {
         requires workers { (1 ≤ workers) × (workers ≤ 64) }
         ensures { IfOk result (AreCutLists h.now p.now.k p.now.blocks) }
     {
-        let runs = cut_nets_by_run(rt, alloc, h, p, workers)?;
-        Self::of_runs(alloc, h, p, runs.as_slice())
-    }
-
-    /// The cut nets of a partition, of which each run of the nets has a list.
-    fn of_runs(
-        alloc: Global,
-        h: &Hypergraph,
-        p: &Partition,
-        runs: &[Result<Vec<u32>, NoMemory>],
-    ) -> Result<Self, NoMemory>
-        requires belongs { p.now.hyper ≡ h.now }
-        requires some { 0 < length runs.now }
-        requires cut { (i : ℕ) (d : _) → i < length runs.now → IfOk (slice_index_or runs.now i d) (λ cut. HoldsCutOfRun
-            h.now p.now.blocks (length runs.now) i cut.items) }
-        ensures { IfOk result (AreCutLists h.now p.now.k p.now.blocks) }
-    {
-        let mut lists = empty_lists(alloc, p.k())?;
-        note_runs(&mut lists, h, p, runs)?;
+        let lists = cut_lists_with(rt, alloc, h, p, workers)?;
         Ok(CutNets { lists })
     }
 

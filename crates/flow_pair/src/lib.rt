@@ -5,6 +5,7 @@
 mod balance;
 mod bits;
 mod cut;
+mod cut_lists;
 mod cut_nets;
 mod distinct;
 pub mod laws;

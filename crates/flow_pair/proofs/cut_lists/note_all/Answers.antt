@@ -3,7 +3,7 @@ use Rattle.std.proofs.lemmas.List.{take_all}
 use Rattle.std.proofs.lemmas.List.Elements.{All-nil, All-more, All-weaker}
 use Rattle.hg_defs.specs.Partition.{block_of}
 use Rattle.flow_pair.proofs.CutNetLaws.{keep_none, keep_more}
-use Rattle.flow_pair.proofs.cut_nets.note_all.Goals as goal
+use Rattle.flow_pair.proofs.cut_lists.note_all.Goals as goal
 
 pub loop-v-init : goal.loop-v-init
 loop-v-init c = record {

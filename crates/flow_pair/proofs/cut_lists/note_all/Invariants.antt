@@ -1,7 +1,7 @@
 use Rattle.std.proofs.Common.{ℕ, ◌<◌, [], All, Contains, take, slice_index_or}
 use Rattle.hg_defs.specs.Partition.{block_of}
 use Rattle.flow_pair.specs.CutNets.{KeepNets}
-use Rattle.flow_pair.proofs.cut_nets.note_all.Given as goal
+use Rattle.flow_pair.proofs.cut_lists.note_all.Given as goal
 
 abbrev pub invariant-loop-v : goal.invariant-loop-v
 invariant-loop-v l = record {

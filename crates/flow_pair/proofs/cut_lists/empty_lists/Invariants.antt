@@ -1,5 +1,5 @@
 use Rattle.std.proofs.Common.{◌≡◌, [], replicate}
-use Rattle.flow_pair.proofs.cut_nets.empty_lists.Given as goal
+use Rattle.flow_pair.proofs.cut_lists.empty_lists.Given as goal
 
 abbrev pub invariant-loop : goal.invariant-loop
 invariant-loop l = l.lists.items ≡ replicate l.counter []
