@@ -21,6 +21,7 @@ use hg_base::{FREE, Verts};
 use incidence::Hypergraph;
 use pin_plain::Partition;
 use std::alloc::Global;
+use std::thread::{Threads, join_mut};
 
 /// The most pins of a net through which a region grows.
 const MOST_PINS: usize = 1000;
@@ -360,10 +361,62 @@ fn take_side(
     Ok(())
 }
 
+/// Makes the spots as many as there are vertices or nets, where they are fewer.
+pub(crate) fn make_spots(spots: &mut Vec<usize>, h: &Hypergraph) -> Result<(), NoMemory>
+    ensures { OnOk result ((vertex_count h.now ≤ length spots.new.items) × (net_count h.now ≤ length spots.new.items)) }
+{
+    let count = h.vertices().max(h.nets()) as usize;
+    spots.resize(count, 0)?;
+    Ok(())
+}
+
+/// What one block may send to the other one, in the order in which it is taken.
+fn side_of(
+    alloc: Global,
+    spots: &mut Vec<usize>,
+    h: &Hypergraph,
+    p: &Partition,
+    from: u32,
+    to: u32,
+    nets: &[u32],
+    least: u64,
+) -> Result<Vec<u32>, NoMemory>
+    requires belongs { p.now.hyper ≡ h.now }
+    requires fits { Fits p.now.hyper p.now.k p.now.limit p.now.blocks }
+    requires to { to < p.now.k }
+    requires nets { nets.now ≡ touching_nets h.now p.now.blocks from to }
+    requires least { WeighsAtLeast h.now least }
+    ensures { IfOk result (λ list. list.items ≡ side h.now p.now.limit p.now.blocks from to) }
+{
+    make_spots(spots, h)?;
+    let mut list = Vec::new(alloc);
+    take_side(
+        alloc,
+        spots.as_mut_slice(),
+        h,
+        p,
+        from,
+        to,
+        nets,
+        least,
+        &mut list,
+    )?;
+    Ok(list)
+}
+
+/// The region that two sides make up.
+fn joined(firsts: Vec<u32>, seconds: Vec<u32>) -> Result<Verts, NoMemory>
+    ensures { IfOk result (λ region. region ≡ set_of nat_cmp (firsts.items ++ seconds.items)) }
+{
+    let mut list = firsts;
+    list.extend_from_slice(seconds.as_slice())?;
+    Ok(Verts::from_vec(distinct(list)))
+}
+
 /// The region of a pair, formed from the nets that touch both blocks.
 pub(crate) fn form_region(
     alloc: Global,
-    spots: &mut [usize],
+    spots: &mut Vec<usize>,
     h: &Hypergraph,
     p: &Partition,
     a: u32,
@@ -377,12 +430,51 @@ pub(crate) fn form_region(
     requires blocks { b < p.now.k }
     requires nets { nets.now ≡ touching_nets h.now p.now.blocks a b }
     requires least { WeighsAtLeast h.now least }
-    requires spots { (vertex_count h.now ≤ length spots.old) × (net_count h.now ≤ length spots.old) }
-    ensures size { length spots.new ≡ length spots.old }
-    ensures region { IfOk result (λ list. list ≡ region h.now p.now.limit p.now.blocks a b) }
+    ensures { IfOk result (λ list. list ≡ region h.now p.now.limit p.now.blocks a b) }
 {
-    let mut list = Vec::new(alloc);
-    take_side(alloc, spots, h, p, a, b, nets, least, &mut list)?;
-    take_side(alloc, spots, h, p, b, a, nets, least, &mut list)?;
-    Ok(Verts::from_vec(distinct(list)))
+    let firsts = side_of(alloc, spots, h, p, a, b, nets, least)?;
+    let seconds = side_of(alloc, spots, h, p, b, a, nets, least)?;
+    joined(firsts, seconds)
+}
+
+/// Does what [`form_region`] does: a new thread forms the side of the first block, with other spots, and this one
+/// that of the second block.
+pub(crate) fn form_region_with<R: Threads + Sync>(
+    rt: &R,
+    alloc: Global,
+    spots: &mut Vec<usize>,
+    others: &mut Vec<usize>,
+    h: &Hypergraph,
+    p: &Partition,
+    a: u32,
+    b: u32,
+    nets: &[u32],
+    least: u64,
+) -> Result<Verts, NoMemory>
+    requires belongs { p.now.hyper ≡ h.now }
+    requires fits { Fits p.now.hyper p.now.k p.now.limit p.now.blocks }
+    requires order { a < b }
+    requires blocks { b < p.now.k }
+    requires nets { nets.now ≡ touching_nets h.now p.now.blocks a b }
+    requires least { WeighsAtLeast h.now least }
+    ensures { IfOk result (λ list. list ≡ region h.now p.now.limit p.now.blocks a b) }
+{
+    let mut front = ||
+        requires belongs { p.now.hyper ≡ h.now }
+        requires fits { Fits p.now.hyper p.now.k p.now.limit p.now.blocks }
+        requires to { b < p.now.k }
+        requires nets { nets.now ≡ touching_nets h.now p.now.blocks a b }
+        requires least { WeighsAtLeast h.now least }
+        ensures { IfOk result (λ list. list.items ≡ side h.entry.now p.entry.now.limit p.entry.now.blocks a b) }
+    { side_of(alloc, others, h, p, a, b, nets, least) };
+    let mut back = ||
+        requires belongs { p.now.hyper ≡ h.now }
+        requires fits { Fits p.now.hyper p.now.k p.now.limit p.now.blocks }
+        requires to { a < p.now.k }
+        requires nets { nets.now ≡ touching_nets h.now p.now.blocks b a }
+        requires least { WeighsAtLeast h.now least }
+        ensures { IfOk result (λ list. list.items ≡ side h.entry.now p.entry.now.limit p.entry.now.blocks b a) }
+    { side_of(alloc, spots, h, p, b, a, nets, least) };
+    let (firsts, seconds) = join_mut(rt, &mut front, &mut back);
+    joined(firsts?, seconds?)
 }

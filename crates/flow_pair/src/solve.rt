@@ -5,6 +5,7 @@ ghost use Rattle.std.specs.Prelude.{if◌then◌else◌, IfOk, IfSome, IsNone};
 ghost use Rattle.hg_defs.specs.Partition.{Fits};
 ghost use Rattle.flow_net.specs.Flow.{is_in};
 ghost use Rattle.round_log.specs.Rounds.{touching};
+ghost use Rattle.round_log.specs.Rounds as rounds;
 ghost use Rattle.flow_pair.specs.CutNets.{AreCutLists};
 ghost use Rattle.flow_pair.specs.PairEnds.{IsPairEnd};
 ghost use Rattle.flow_pair.specs.PairNetwork.{unbounded};
@@ -14,7 +15,7 @@ use crate::balance::balanced_side;
 use crate::cut::touching_nets_of;
 use crate::cut_nets::CutNets;
 use crate::pair::{more_than_all, place_region};
-use crate::region::{form_region, least_weight};
+use crate::region::{form_region, form_region_with, least_weight, make_spots};
 use crate::short::build_short;
 use flow_net::{NoMemory, Workspace};
 use hg_base::{Blocks, Verts};
@@ -23,6 +24,11 @@ use pin_plain::Partition;
 use std::alloc::Global;
 use std::marker::Model;
 use std::snapshot::Snapshot;
+use std::thread::Threads;
+
+/// A region is formed by two threads where so many nets touch both blocks: to form it from fewer takes little longer
+/// than to start one.
+const LEAST_NETS: usize = 1024;
 
 /// The end of a pair of blocks.
 #[derive(Debug, Drop)]
@@ -60,26 +66,24 @@ fn solve_region(
     p: &Partition,
     a: u32,
     b: u32,
+    region: Verts,
     nets: &[u32],
     most: u64,
-    least: u64,
 ) -> Result<PairEnd, NoMemory>
     requires belongs { p.now.hyper ≡ h.now }
     requires fits { Fits p.now.hyper p.now.k p.now.limit p.now.blocks }
     requires order { a < b }
     requires blocks { b < p.now.k }
+    requires region { region ≡ rounds.region h.now p.now.limit p.now.blocks a b }
     requires nets { nets.now ≡ touching_nets h.now p.now.blocks a b }
     requires most { most ≡ unbounded h.now }
     requires bounded { most ≤ 2 ^ 56 }
-    requires least { WeighsAtLeast h.now least }
     ensures { IfOk result (IsPairEnd h.now p.now.k p.now.limit p.now.blocks a b) }
 {
     let _blocks = p.blocks();
-    let most_spots = h.vertices().max(h.nets()) as usize;
-    spots.resize(most_spots, 0)?;
-    let spots = spots.as_mut_slice();
-    let region = form_region(alloc, spots, h, p, a, b, nets, least)?;
+    make_spots(spots, h)?;
     place_region(h, region.slice(), places)?;
+    let spots = spots.as_mut_slice();
     let places = places.as_slice();
     let mut short = build_short(alloc, spots, h, p, a, b, region.slice(), places, nets, most)?;
     let cut = short.network.max_flow_in(space, 0, 1)?;
@@ -111,6 +115,8 @@ pub struct PairSolver {
     places: Vec<u32>,
     /// Spots of the vertices and nets, for lists that have many of them more than once.
     spots: Vec<usize>,
+    /// Those for a second thread.
+    others: Vec<usize>,
     /// More than all nets can pay.
     most: u64,
     /// The least weight of a vertex.
@@ -142,6 +148,7 @@ impl PairSolver {
             space: Workspace::new(alloc),
             places: Vec::new(alloc),
             spots: Vec::new(alloc),
+            others: Vec::new(alloc),
             most: more_than_all(h),
             least: least_weight(h),
         }
@@ -164,8 +171,7 @@ impl PairSolver {
         ensures hyper { self.new ≡ self.old }
         ensures nets { IfOk result (λ nets. nets.items ≡ touching_nets h.now p.now.blocks a b) }
     {
-        let most_spots = h.vertices().max(h.nets()) as usize;
-        self.spots.resize(most_spots, 0)?;
+        make_spots(&mut self.spots, h)?;
         cut.between(self.alloc, self.spots.as_mut_slice(), h, p, a, b)
     }
 
@@ -192,7 +198,63 @@ impl PairSolver {
         if nets.is_empty() {
             return Ok(None);
         }
-        let end = solve_region(
+        let spots = &mut self.spots;
+        let region = form_region(self.alloc, spots, h, p, a, b, nets, self.least)?;
+        let end = self.solve_within(h, p, a, b, region, nets)?;
+        Ok(Some(end))
+    }
+
+    /// Does what [`solve`](Self::solve) does. Where many nets touch both blocks, two threads form the region.
+    pub fn solve_with<R: Threads + Sync>(
+        &mut self,
+        rt: &R,
+        h: &Hypergraph,
+        p: &Partition,
+        a: u32,
+        b: u32,
+        nets: &[u32],
+    ) -> Result<Option<PairEnd>, NoMemory>
+        requires hyper { self.old ≡ h.now }
+        requires belongs { p.now.hyper ≡ h.now }
+        requires fits { Fits p.now.hyper p.now.k p.now.limit p.now.blocks }
+        requires order { a < b }
+        requires blocks { b < p.now.k }
+        requires nets { nets.now ≡ touching_nets h.now p.now.blocks a b }
+        ensures hyper { self.new ≡ self.old }
+        ensures none { IfOk result (λ found. IsNone found ↔ (touching h.now p.now.blocks a b ≡ [])) }
+        ensures end { IfOk result (λ found. IfSome found (IsPairEnd h.now p.now.k p.now.limit p.now.blocks a b)) }
+    {
+        if nets.len() < LEAST_NETS {
+            return self.solve(h, p, a, b, nets);
+        }
+        let (spots, others) = (&mut self.spots, &mut self.others);
+        let least = self.least;
+        let region = form_region_with(rt, self.alloc, spots, others, h, p, a, b, nets, least)?;
+        let end = self.solve_within(h, p, a, b, region, nets)?;
+        Ok(Some(end))
+    }
+
+    /// The cheapest assignment of the region of a pair of blocks, which was formed from the nets that touch both.
+    fn solve_within(
+        &mut self,
+        h: &Hypergraph,
+        p: &Partition,
+        a: u32,
+        b: u32,
+        region: Verts,
+        nets: &[u32],
+    ) -> Result<PairEnd, NoMemory>
+        requires hyper { self.old ≡ h.now }
+        requires belongs { p.now.hyper ≡ h.now }
+        requires fits { Fits p.now.hyper p.now.k p.now.limit p.now.blocks }
+        requires order { a < b }
+        requires blocks { b < p.now.k }
+        requires region { region ≡ rounds.region h.now p.now.limit p.now.blocks a b }
+        requires nets { nets.now ≡ touching_nets h.now p.now.blocks a b }
+        ensures hyper { self.new ≡ self.old }
+        ensures end { IfOk result (IsPairEnd h.now p.now.k p.now.limit p.now.blocks a b) }
+    {
+        solve_region(
             &mut self.space,
             &mut self.places,
             &mut self.spots,
@@ -201,11 +263,10 @@ impl PairSolver {
             p,
             a,
             b,
+            region,
             nets,
             self.most,
-            self.least,
-        )?;
-        Ok(Some(end))
+        )
     }
 }
 

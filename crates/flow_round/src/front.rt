@@ -80,13 +80,15 @@ impl Front {
         Ok(())
     }
 
-    /// Takes the turns of all pairs, wave after wave. The workers solve the pairs of a wave beforehand.
+    /// Takes the turns of all pairs, wave after wave. The workers solve the pairs of a wave beforehand, where
+    /// `threads` may run.
     pub(crate) fn take_waves<R: Threads + Sync, G: Gate>(
         &mut self,
         rt: &R,
         gate: &G,
         alloc: Global,
         h: &Hypergraph,
+        threads: u32,
         workers: &mut [Worker],
     ) -> Result<(), NoMemory>
         requires front { IsFront h.now self.old }
@@ -108,6 +110,7 @@ impl Front {
                 &self.part,
                 &self.cut,
                 wave,
+                threads,
                 workers,
                 self.ends.as_mut_slice(),
             )?;

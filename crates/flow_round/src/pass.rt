@@ -174,7 +174,8 @@ pub fn wave_pass<R: Threads + Sync, G: Gate>(
         made: no_moves(alloc, k)?,
         part: p,
     };
-    front.take_waves(rt, gate, alloc, h, workers.as_mut_slice())?;
+    let threads = task.workers;
+    front.take_waves(rt, gate, alloc, h, threads, workers.as_mut_slice())?;
     let mut rounds = Vec::new(alloc);
     let after = record_turns(
         alloc,

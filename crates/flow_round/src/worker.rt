@@ -1,6 +1,7 @@
 //! The workers that solve the pairs of a wave.
 
 ghost use Rattle.std.specs.Prelude.{◌≡◌, ◌⊎◌, ℕ, ◌<◌, ◌≤◌, ◌+◌, ◌-◌, ◌*◌, [], All, IfOk, OnOk, length, map, true};
+ghost use Rattle.std.specs.Thread.{IsSync};
 ghost use Rattle.hg_defs.specs.Partition.{Fits};
 ghost use Rattle.flow_pair.specs.CutNets.{AreCutLists};
 ghost use Rattle.flow_round.specs.PairTurns.{IsPairBelow, IsTurn, is_of_wave};
@@ -36,14 +37,16 @@ pub(crate) struct Worker {
     pub(crate) turn: u64,
 }
 
-/// The end of a pair on the lent partition.
-fn solve_pair(
+/// The end of a pair on the lent partition. Where there is a thread to spare, two form the region.
+fn solve_pair<R: Threads + Sync>(
+    rt: &R,
     solver: &mut PairSolver,
     h: &Hypergraph,
     p: &Partition,
     cut: &CutNets,
     first: u32,
     second: u32,
+    is_spare: bool,
 ) -> Result<Option<PairEnd>, NoMemory>
     requires solver { solver.old ≡ h.now }
     requires belongs { p.now.hyper ≡ h.now }
@@ -54,18 +57,23 @@ fn solve_pair(
     ensures turn { IfOk result (IsTurn h.now p.now.k p.now.limit p.now.blocks (first, second)) }
 {
     let nets = solver.nets_between(h, p, cut, first, second)?;
+    if is_spare {
+        return solver.solve_with(rt, h, p, first, second, nets.as_slice());
+    }
     solver.solve(h, p, first, second, nets.as_slice())
 }
 
 impl Worker {
     /// Solves a pair on the lent partition.
-    fn solve(
+    fn solve<R: Threads + Sync>(
         &mut self,
+        rt: &R,
         h: &Hypergraph,
         p: &Partition,
         cut: &CutNets,
         first: u32,
         second: u32,
+        is_spare: bool,
     ) -> Result<(), NoMemory>
         requires belongs { p.now.hyper ≡ h.now }
         requires fits { Fits p.now.hyper p.now.k p.now.limit p.now.blocks }
@@ -74,21 +82,24 @@ impl Worker {
         requires solved { IsSolved h.now p.now (first + second) self.old }
         ensures { IsSolved h.now p.now (first + second) self.new }
     {
-        let end = solve_pair(&mut self.solver, h, p, cut, first, second)?;
+        let solver = &mut self.solver;
+        let end = solve_pair(rt, solver, h, p, cut, first, second, is_spare)?;
         self.found.push(Found { first, second, end })?;
         Ok(())
     }
 
     /// Solves pairs of a wave on the lent partition: each time the next one that no worker took yet. It passes
     /// the gate before each of them. Where there is no memory, it takes no further ones.
-    fn run<G: Gate>(
+    fn run<R: Threads + Sync, G: Gate>(
         &mut self,
+        rt: &R,
         gate: &G,
         h: &Hypergraph,
         p: &Partition,
         cut: &CutNets,
         wave: u32,
         pairs: &[Touched],
+        is_spare: bool,
         next: &AtomicUsize,
     )
         requires belongs { p.now.hyper ≡ h.now }
@@ -106,7 +117,8 @@ impl Worker {
             gate.pass(self.number, self.turn);
             self.turn = self.turn.wrapping_add(1);
             let first = pairs[place].1;
-            if self.solve(h, p, cut, first, wave - first).is_err() {
+            let second = wave - first;
+            if self.solve(rt, h, p, cut, first, second, is_spare).is_err() {
                 return;
             }
         }
@@ -151,13 +163,15 @@ fn hand_all_over(
 
 /// Solves those pairs of a wave that have no end yet, since a worker had no memory, and writes their ends into the
 /// table.
-fn solve_rest(
+fn solve_rest<R: Threads + Sync>(
+    rt: &R,
     solver: &mut PairSolver,
     h: &Hypergraph,
     p: &Partition,
     cut: &CutNets,
     wave: u32,
     pairs: &[Touched],
+    is_spare: bool,
     ends: &mut [Option<PairEnd>],
 ) -> Result<(), NoMemory>
     requires solver { solver.old ≡ h.now }
@@ -177,7 +191,7 @@ fn solve_rest(
         let second = wave - first;
         let place = place_of(k, first, second);
         if end_of(ends, place).is_none() {
-            let end = solve_pair(solver, h, p, cut, first, second)?;
+            let end = solve_pair(rt, solver, h, p, cut, first, second, is_spare)?;
             put_end(ends, place, end);
         }
     }
@@ -193,6 +207,7 @@ fn solve_all<R: Threads + Sync, G: Gate>(
     cut: &CutNets,
     wave: u32,
     pairs: &[Touched],
+    is_spare: bool,
     workers: &mut [Worker],
 )
     requires belongs { p.now.hyper ≡ h.now }
@@ -207,12 +222,12 @@ fn solve_all<R: Threads + Sync, G: Gate>(
         rt,
         workers,
         &|_i, worker: &mut Worker|
-            requires { (p.now.hyper ≡ h.now) × Fits p.now.hyper p.now.k p.now.limit p.now.blocks × AreCutLists h.now
+            requires { IsSync R.row × (p.now.hyper ≡ h.now) × Fits p.now.hyper p.now.k p.now.limit p.now.blocks × AreCutLists h.now
                 p.now.k p.now.blocks cut.now × All (λ a. is_of_wave p.now.k wave a ≡ true) (map (λ pair. pair.1)
                 pairs.now) × IsSolved h.now p.now wave worker.now }
             ensures { IsSolved h.entry.now p.entry.now wave worker.exit.now }
         {
-            worker.run(gate, h, p, cut, wave, pairs, &next);
+            worker.run(rt, gate, h, p, cut, wave, pairs, is_spare, &next);
         },
     );
 }
@@ -227,6 +242,7 @@ fn solve_pairs<R: Threads + Sync, G: Gate>(
     cut: &CutNets,
     wave: u32,
     pairs: &[Touched],
+    is_spare: bool,
     workers: &mut [Worker],
     ends: &mut [Option<PairEnd>],
 ) -> Result<(), NoMemory>
@@ -242,14 +258,15 @@ fn solve_pairs<R: Threads + Sync, G: Gate>(
     ensures ends { OnOk result (GainsEnds h.now p.now wave ends.old ends.new) }
 {
     let _blocks = p.blocks();
-    solve_all(rt, gate, h, p, cut, wave, pairs, workers);
+    solve_all(rt, gate, h, p, cut, wave, pairs, is_spare, workers);
     hand_all_over(workers, h, p, wave, ends);
-    solve_rest(&mut workers[0].solver, h, p, cut, wave, pairs, ends)
+    let solver = &mut workers[0].solver;
+    solve_rest(rt, solver, h, p, cut, wave, pairs, is_spare, ends)
 }
 
 /// Solves the pairs of a wave that a net touches, all at once on the lent partition, and writes their ends into
-/// the table. No more workers start than there are pairs, and for one pair no thread. Where no net touches a
-/// pair, it has no end.
+/// the table. No more workers start than there are pairs, and for one pair no thread. Where the pairs are fewer than
+/// `threads`, a worker forms a large region by two. Where no net touches a pair, it has no end.
 pub(crate) fn solve_wave<R: Threads + Sync, G: Gate>(
     rt: &R,
     gate: &G,
@@ -258,6 +275,7 @@ pub(crate) fn solve_wave<R: Threads + Sync, G: Gate>(
     p: &Partition,
     cut: &CutNets,
     wave: u32,
+    threads: u32,
     workers: &mut [Worker],
     ends: &mut [Option<PairEnd>],
 ) -> Result<(), NoMemory>
@@ -277,6 +295,8 @@ pub(crate) fn solve_wave<R: Threads + Sync, G: Gate>(
     if pairs.is_empty() {
         return Ok(());
     }
+    let is_spare = pairs.len() < threads as usize;
     let busy = pairs.len().min(workers.len());
-    solve_pairs(rt, gate, h, p, cut, wave, pairs, &mut workers[..busy], ends)
+    let workers = &mut workers[..busy];
+    solve_pairs(rt, gate, h, p, cut, wave, pairs, is_spare, workers, ends)
 }

@@ -14,26 +14,26 @@ use Rattle.flow_pair.proofs.solve.solve_region.Goals as goal
 pub place_region-requires-clause-rising : goal.place_region-requires-clause-rising
 place_region-requires-clause-rising c =
     let p = c.args.p.now in
-    subst IsStrictlyIncreasing (sym (c.slice.ensures ∙ c.in_ok-region.ensures.region)) (region_rises c.args.h.now p.limit p.blocks c.args.a c.args.b)
+    subst IsStrictlyIncreasing (sym (c.slice.ensures ∙ c.requires.region)) (region_rises c.args.h.now p.limit p.blocks c.args.a c.args.b)
 
 pub place_region-requires-clause-vertices : goal.place_region-requires-clause-vertices
 place_region-requires-clause-vertices c =
     let p = c.args.p.now in
     let sound : IsHypergraph c.args.h.now = subst IsHypergraph c.requires.belongs c.blocks-blocks.ensures.parted.sound in
-    subst (All (λ v. v < vertex_count c.args.h.now)) (sym (c.slice.ensures ∙ c.in_ok-region.ensures.region))
+    subst (All (λ v. v < vertex_count c.args.h.now)) (sym (c.slice.ensures ∙ c.requires.region))
     (region_vertices c.args.h.now p.limit p.blocks c.args.a
     c.args.b sound)
 
 pub build_short-requires-clause-rising : goal.build_short-requires-clause-rising
 build_short-requires-clause-rising c =
     let p = c.args.p.now in
-    subst IsStrictlyIncreasing (sym (c.slice-2.ensures ∙ c.in_ok-region.ensures.region)) (region_rises c.args.h.now p.limit p.blocks c.args.a c.args.b)
+    subst IsStrictlyIncreasing (sym (c.slice-2.ensures ∙ c.requires.region)) (region_rises c.args.h.now p.limit p.blocks c.args.a c.args.b)
 
 pub build_short-requires-clause-vertices : goal.build_short-requires-clause-vertices
 build_short-requires-clause-vertices c =
     let p = c.args.p.now in
     let sound : IsHypergraph c.args.h.now = subst IsHypergraph c.requires.belongs c.blocks-blocks.ensures.parted.sound in
-    subst (All (λ v. v < vertex_count c.args.h.now)) (sym (c.slice-2.ensures ∙ c.in_ok-region.ensures.region))
+    subst (All (λ v. v < vertex_count c.args.h.now)) (sym (c.slice-2.ensures ∙ c.requires.region))
     (region_vertices c.args.h.now p.limit p.blocks c.args.a
     c.args.b sound)
 
@@ -41,7 +41,7 @@ pub balanced_side-side-requires-clause-region : goal.balanced_side-side-requires
 balanced_side-side-requires-clause-region c =
     let p = c.args.p.now in
     let sound : IsHypergraph c.args.h.now = subst IsHypergraph c.requires.belongs c.blocks-blocks.ensures.parted.sound in
-    subst (All (λ v. v < vertex_count c.args.h.now)) (sym (c.slice-3.ensures ∙ c.in_ok-region.ensures.region))
+    subst (All (λ v. v < vertex_count c.args.h.now)) (sym (c.slice-3.ensures ∙ c.requires.region))
     (region_vertices c.args.h.now p.limit p.blocks c.args.a
     c.args.b sound)
 
@@ -52,7 +52,7 @@ overflow_cast-result c =
     let a = c.args.a in
     let b = c.args.b in
     let parted = c.blocks-blocks.ensures.parted in
-    let is = c.slice-2.ensures ∙ c.in_ok-region.ensures.region in
+    let is = c.slice-2.ensures ∙ c.requires.region in
     let fixed = c.in_ok-short.ensures.fixed ∙ ap (fixed_cost h p.blocks a b) is in
     let network = c.in_ok-short.ensures.network ∙ ap (short_network h p.blocks a b) is in
     let nodes = c.in_ok-cut.ensures.kept.0 ∙ ap (λ n. n.nodes) network in
@@ -70,7 +70,7 @@ overflow_cast-result c =
     (subst (λ x. IsPartition x p.k p.blocks) c.requires.belongs parted.partition) (subst (λ x. Fits x p.k p.limit p.blocks) c.requires.belongs
     c.requires.fits) c.requires.order c.requires.blocks (omega arith) pays
     c.in_ok-cut.ensures.sound c.in_ok-cut.ensures.flow cut
-    (c.in_ok-blocks.ensures.count ∙ c.len.ensures ∙ ap length c.in_ok-region.ensures.region)
+    (c.in_ok-blocks.ensures.count ∙ c.len.ensures ∙ ap length c.requires.region)
     c.in_ok-blocks.ensures.each in
     omega arith
 
@@ -81,7 +81,7 @@ overflow_add-result c =
     let a = c.args.a in
     let b = c.args.b in
     let parted = c.blocks-blocks.ensures.parted in
-    let is = c.slice-2.ensures ∙ c.in_ok-region.ensures.region in
+    let is = c.slice-2.ensures ∙ c.requires.region in
     let fixed = c.in_ok-short.ensures.fixed ∙ ap (fixed_cost h p.blocks a b) is in
     let network = c.in_ok-short.ensures.network ∙ ap (short_network h p.blocks a b) is in
     let nodes = c.in_ok-cut.ensures.kept.0 ∙ ap (λ n. n.nodes) network in
@@ -99,7 +99,7 @@ overflow_add-result c =
     (subst (λ x. IsPartition x p.k p.blocks) c.requires.belongs parted.partition) (subst (λ x. Fits x p.k p.limit p.blocks) c.requires.belongs
     c.requires.fits) c.requires.order c.requires.blocks (omega arith) pays
     c.in_ok-cut.ensures.sound c.in_ok-cut.ensures.flow cut
-    (c.in_ok-blocks.ensures.count ∙ c.len.ensures ∙ ap length c.in_ok-region.ensures.region)
+    (c.in_ok-blocks.ensures.count ∙ c.len.ensures ∙ ap length c.requires.region)
     c.in_ok-blocks.ensures.each in
     omega arith
 
@@ -110,7 +110,7 @@ returns c =
     let a = c.args.a in
     let b = c.args.b in
     let parted = c.blocks-blocks.ensures.parted in
-    let is = c.slice-2.ensures ∙ c.in_ok-region.ensures.region in
+    let is = c.slice-2.ensures ∙ c.requires.region in
     let fixed = c.in_ok-short.ensures.fixed ∙ ap (fixed_cost h p.blocks a b) is in
     let network = c.in_ok-short.ensures.network ∙ ap (short_network h p.blocks a b) is in
     let nodes = c.in_ok-cut.ensures.kept.0 ∙ ap (λ n. n.nodes) network in
@@ -127,7 +127,7 @@ returns c =
     (subst (λ x. IsPartition x p.k p.blocks) c.requires.belongs parted.partition) (subst (λ x. Fits x p.k p.limit p.blocks) c.requires.belongs
     c.requires.fits) c.requires.order c.requires.blocks (omega arith) pays
     c.in_ok-cut.ensures.sound c.in_ok-cut.ensures.flow cut
-    (c.in_ok-blocks.ensures.count ∙ c.len.ensures ∙ ap length c.in_ok-region.ensures.region)
+    (c.in_ok-blocks.ensures.count ∙ c.len.ensures ∙ ap length c.requires.region)
     c.in_ok-blocks.ensures.each
-    (record { region = c.in_ok-region.region; blocks = c.in_ok-blocks.blocks; value = c.in_ok-cut.cut.value + c.in_ok-short.short.fixed })
-    c.in_ok-region.ensures.region refl refl
+    (record { region = c.args.region; blocks = c.in_ok-blocks.blocks; value = c.in_ok-cut.cut.value + c.in_ok-short.short.fixed })
+    c.requires.region refl refl

@@ -11,7 +11,7 @@ solve_all-requires-clause-solved g c =
     λ lfts lives. All-weaker (IsIdle h) (IsSolved h p c.args.wave) (solved_none h p c.args.wave) c.args.workers.now c.requires.workers
 
 pub solve_rest-requires-clause-ends : goal.solve_rest-requires-clause-ends
-solve_rest-requires-clause-ends g c =
+solve_rest-requires-clause-ends g c κs within =
     may_have c.args.h.now c.args.p.now c.args.wave c.args.ends.now c.hand_all_over.new.ends c.requires.none c.hand_all_over.ensures.ends
 
 on_ok : {T E A B : Type 0} (r : Result T E) → OnOk r A → (A → B) → OnOk r B

@@ -15,13 +15,13 @@ abbrev first_of : Reverse (ℕ × ℕ) × ℕ → ℕ
 first_of pair = pair.1
 
 pub overflow_sub-second : goal.overflow_sub-second
-overflow_sub-second c =
+overflow_sub-second g c =
     let sum = (pair_at first_of c.args.p.now.k c.args.wave c.args.pairs.now c.loop-pair.pair-index (record { 0 = (0, 0) }, 0) c.loop-pair-test.true
     c.requires.pairs.wave).1 in
     omega (arith, sum)
 
 pub place_of-place-requires-clause-first : goal.place_of-place-requires-clause-first
-place_of-place-requires-clause-first c =
+place_of-place-requires-clause-first g c =
     let below = (pair_at first_of c.args.p.now.k c.args.wave c.args.pairs.now c.loop-pair.pair-index (record { 0 = (0, 0) }, 0) c.loop-pair-test.true
     c.requires.pairs.wave).0 in
     let a = below.order in
@@ -30,7 +30,7 @@ place_of-place-requires-clause-first c =
     omega arith
 
 pub place_of-place-requires-clause-second : goal.place_of-place-requires-clause-second
-place_of-place-requires-clause-second c =
+place_of-place-requires-clause-second g c =
     let below = (pair_at first_of c.args.p.now.k c.args.wave c.args.pairs.now c.loop-pair.pair-index (record { 0 = (0, 0) }, 0) c.loop-pair-test.true
     c.requires.pairs.wave).0 in
     let b = below.below in
@@ -38,12 +38,12 @@ place_of-place-requires-clause-second c =
     omega arith
 
 pub solve_pair-requires-clause-below : goal.solve_pair-requires-clause-below
-solve_pair-requires-clause-below c =
+solve_pair-requires-clause-below g c κs within =
     (pair_at first_of c.args.p.now.k c.args.wave c.args.pairs.now c.loop-pair.pair-index (record { 0 = (0, 0) }, 0) c.loop-pair-test.true
     c.requires.pairs.wave).0
 
 pub loop-pair-preserved : goal.loop-pair-preserved
-loop-pair-preserved c =
+loop-pair-preserved g c =
     let h = c.args.h.now in
     let p = c.args.p.now in
     let s = c.args.wave in
@@ -91,7 +91,7 @@ loop-pair-preserved c =
     ]
 
 pub returns-clause-ends : goal.returns-clause-ends
-returns-clause-ends c =
+returns-clause-ends g c =
     let h = c.args.h.now in
     let p = c.args.p.now in
     let s = c.args.wave in

@@ -5,7 +5,7 @@ use Rattle.flow_round.proofs.FoundLaws.{HasTurn}
 use Rattle.flow_round.proofs.worker.solve_rest.Given as goal
 
 abbrev pub invariant-loop-pair : goal.invariant-loop-pair
-invariant-loop-pair l = record {
+invariant-loop-pair g l = record {
   solver : l.solver ≡ l.fn.solver;
   table : length l.ends ≡ l.p.k * l.p.k;
   may : MayHaveEnds l.h l.p l.wave l.ends;

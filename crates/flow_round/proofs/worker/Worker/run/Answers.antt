@@ -7,8 +7,8 @@ use Rattle.flow_round.proofs.worker.Worker.run.Goals as goal
 abbrev first_of : Reverse (ℕ × ℕ) × ℕ → ℕ
 first_of pair = pair.1
 
-pub overflow_sub-wave : goal.overflow_sub-wave
-overflow_sub-wave g c =
+pub overflow_sub-second : goal.overflow_sub-second
+overflow_sub-second g c =
     let pairs = c.args.pairs.now in
     let at = c.fetch_add-place.result in
     let low : at < length pairs = (let f = c.if-place-pairs.false in omega arith) in
@@ -16,14 +16,14 @@ overflow_sub-wave g c =
     omega (arith, sum)
 
 pub solve-requires-clause-below : goal.solve-requires-clause-below
-solve-requires-clause-below g c =
+solve-requires-clause-below g c κs within =
     let pairs = c.args.pairs.now in
     let at = c.fetch_add-place.result in
     let low : at < length pairs = (let f = c.if-place-pairs.false in omega arith) in
     (pair_at first_of c.args.p.now.k c.args.wave pairs at (record { 0 = (0, 0) }, 0) low c.requires.wave).0
 
 pub solve-requires-clause-solved : goal.solve-requires-clause-solved
-solve-requires-clause-solved g c =
+solve-requires-clause-solved g c κs within =
     let pairs = c.args.pairs.now in
     let at = c.fetch_add-place.result in
     let low : at < length pairs = (let f = c.if-place-pairs.false in omega arith) in
