@@ -1,7 +1,7 @@
 //! The cheapest assignment of the region of a pair of blocks.
 
 ghost use Rattle.std.specs.Prelude.{◌≡◌, ◌≢◌, ℕ, ◌+◌, ◌^◌, ◌<◌, ◌≤◌, [], ◌↔◌, length, slice_index};
-ghost use Rattle.std.specs.Prelude.{if◌then◌else◌, IfOk, IfSome, IsNone};
+ghost use Rattle.std.specs.Prelude.{if◌then◌else◌, IfOk, IfSome, IsNone, IsTrue};
 ghost use Rattle.hg_defs.specs.Partition.{Fits};
 ghost use Rattle.flow_net.specs.Flow.{is_in};
 ghost use Rattle.round_log.specs.Rounds.{touching};
@@ -104,6 +104,23 @@ fn solve_region(
     })
 }
 
+/// Whether a block has room for the lightest vertex.
+fn has_room(p: &Partition, block: u32, least: u64) -> bool
+    requires { block < p.now.k }
+{
+    p.limit().saturating_sub(p.weight(block)) >= least
+}
+
+/// Whether it pays to form the region of a pair by two threads, one for each block: many nets touch both blocks, and
+/// neither of them is full.
+fn two_pay(p: &Partition, a: u32, b: u32, nets: &[u32], least: u64) -> bool
+    requires order { a < b }
+    requires blocks { b < p.now.k }
+    ensures { IsTrue result → 0 < length nets.now }
+{
+    nets.len() >= LEAST_NETS && has_room(p, a, least) && has_room(p, b, least)
+}
+
 /// What solves one pair after the other of a hypergraph, in the same memory. It is seen as the
 /// hypergraph.
 #[derive(Drop)]
@@ -204,7 +221,8 @@ impl PairSolver {
         Ok(Some(end))
     }
 
-    /// Does what [`solve`](Self::solve) does. Where many nets touch both blocks, two threads form the region.
+    /// Does what [`solve`](Self::solve) does. Where many nets touch both blocks, two threads form the region, one for
+    /// each block, unless one of them is full.
     pub fn solve_with<R: Threads + Sync>(
         &mut self,
         rt: &R,
@@ -224,11 +242,11 @@ impl PairSolver {
         ensures none { IfOk result (λ found. IsNone found ↔ (touching h.now p.now.blocks a b ≡ [])) }
         ensures end { IfOk result (λ found. IfSome found (IsPairEnd h.now p.now.k p.now.limit p.now.blocks a b)) }
     {
-        if nets.len() < LEAST_NETS {
+        let least = self.least;
+        if !two_pay(p, a, b, nets, least) {
             return self.solve(h, p, a, b, nets);
         }
         let (spots, others) = (&mut self.spots, &mut self.others);
-        let least = self.least;
         let region = form_region_with(rt, self.alloc, spots, others, h, p, a, b, nets, least)?;
         let end = self.solve_within(h, p, a, b, region, nets)?;
         Ok(Some(end))

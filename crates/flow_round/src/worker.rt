@@ -265,8 +265,8 @@ fn solve_pairs<R: Threads + Sync, G: Gate>(
 }
 
 /// Solves the pairs of a wave that a net touches, all at once on the lent partition, and writes their ends into
-/// the table. No more workers start than there are pairs, and for one pair no thread. Where the pairs are fewer than
-/// `threads`, a worker forms a large region by two. Where no net touches a pair, it has no end.
+/// the table. No more workers start than there are pairs, and for one pair none. Where there are two of `threads` for
+/// each pair, a worker forms a large region by two. Where no net touches a pair, it has no end.
 pub(crate) fn solve_wave<R: Threads + Sync, G: Gate>(
     rt: &R,
     gate: &G,
@@ -295,7 +295,7 @@ pub(crate) fn solve_wave<R: Threads + Sync, G: Gate>(
     if pairs.is_empty() {
         return Ok(());
     }
-    let is_spare = pairs.len() < threads as usize;
+    let is_spare = pairs.len() <= threads as usize / 2;
     let busy = pairs.len().min(workers.len());
     let workers = &mut workers[..busy];
     solve_pairs(rt, gate, h, p, cut, wave, pairs, is_spare, workers, ends)

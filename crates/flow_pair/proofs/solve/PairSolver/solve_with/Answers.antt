@@ -4,7 +4,7 @@ use Rattle.flow_pair.proofs.solve.PairSolver.solve_with.Goals as goal
 
 pub returns-clause-none : goal.returns-clause-none
 returns-clause-none g c =
-    let some = c.if-nets-lt-LEAST_NETS.false in (
+    let some = c.two_pay.ensures (c.if-not-two_pay.false) in (
       λ e. absurd (true≢false e),
       λ e. absurd (
           let none : length c.args.nets.now ≡ 0 =
