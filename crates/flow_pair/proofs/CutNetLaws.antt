@@ -324,13 +324,6 @@ pub record AreJoinedBelow (m : ℕ) (xs ys joined : List (List ℕ)) : Type 0 wh
   pub done : (a : ℕ) → a < m → slice_index_or joined a [] ≡ slice_index_or xs a [] ++ slice_index_or ys a []
   pub rest : (a : ℕ) → m ≤ a → slice_index_or joined a [] ≡ slice_index_or xs a []
 
-pub joined_none : (xs ys : List (List ℕ)) → AreJoinedBelow 0 xs ys xs
-joined_none xs ys = record {
-  count = refl;
-  done = λ a low. absurd (let l : a < 0 = low in omega arith);
-  rest = λ a low. refl;
-}
-
 module _ (m : ℕ) (xs ys now : List (List ℕ)) (list : List ℕ) where
   abbrev long : List ℕ
   long = slice_index_or now m [] ++ list

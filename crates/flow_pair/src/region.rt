@@ -361,7 +361,7 @@ fn take_side(
     Ok(())
 }
 
-/// Makes the spots as many as there are vertices or nets, where they are fewer.
+/// Makes as many spots as there are vertices or nets, whichever are more.
 pub(crate) fn make_spots(spots: &mut Vec<usize>, h: &Hypergraph) -> Result<(), NoMemory>
     ensures { OnOk result ((vertex_count h.now ≤ length spots.new.items) × (net_count h.now ≤ length spots.new.items)) }
 {

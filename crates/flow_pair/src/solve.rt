@@ -222,7 +222,7 @@ impl PairSolver {
     }
 
     /// Does what [`solve`](Self::solve) does. Where many nets touch both blocks, two threads form the region, one for
-    /// each block, unless one of them is full.
+    /// each block, unless a block is full.
     pub fn solve_with<R: Threads + Sync>(
         &mut self,
         rt: &R,

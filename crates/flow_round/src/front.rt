@@ -80,8 +80,8 @@ impl Front {
         Ok(())
     }
 
-    /// Takes the turns of all pairs, wave after wave. The workers solve the pairs of a wave beforehand, where
-    /// `threads` may run.
+    /// Takes the turns of all pairs, wave after wave. The workers solve the pairs of a wave beforehand, in
+    /// no more than `threads` threads in all.
     pub(crate) fn take_waves<R: Threads + Sync, G: Gate>(
         &mut self,
         rt: &R,

@@ -46,7 +46,7 @@ fn solve_pair<R: Threads + Sync>(
     cut: &CutNets,
     first: u32,
     second: u32,
-    is_spare: bool,
+    has_spare: bool,
 ) -> Result<Option<PairEnd>, NoMemory>
     requires solver { solver.old ≡ h.now }
     requires belongs { p.now.hyper ≡ h.now }
@@ -57,7 +57,7 @@ fn solve_pair<R: Threads + Sync>(
     ensures turn { IfOk result (IsTurn h.now p.now.k p.now.limit p.now.blocks (first, second)) }
 {
     let nets = solver.nets_between(h, p, cut, first, second)?;
-    if is_spare {
+    if has_spare {
         return solver.solve_with(rt, h, p, first, second, nets.as_slice());
     }
     solver.solve(h, p, first, second, nets.as_slice())
@@ -73,7 +73,7 @@ impl Worker {
         cut: &CutNets,
         first: u32,
         second: u32,
-        is_spare: bool,
+        has_spare: bool,
     ) -> Result<(), NoMemory>
         requires belongs { p.now.hyper ≡ h.now }
         requires fits { Fits p.now.hyper p.now.k p.now.limit p.now.blocks }
@@ -83,7 +83,7 @@ impl Worker {
         ensures { IsSolved h.now p.now (first + second) self.new }
     {
         let solver = &mut self.solver;
-        let end = solve_pair(rt, solver, h, p, cut, first, second, is_spare)?;
+        let end = solve_pair(rt, solver, h, p, cut, first, second, has_spare)?;
         self.found.push(Found { first, second, end })?;
         Ok(())
     }
@@ -99,7 +99,7 @@ impl Worker {
         cut: &CutNets,
         wave: u32,
         pairs: &[Touched],
-        is_spare: bool,
+        has_spare: bool,
         next: &AtomicUsize,
     )
         requires belongs { p.now.hyper ≡ h.now }
@@ -118,7 +118,7 @@ impl Worker {
             self.turn = self.turn.wrapping_add(1);
             let first = pairs[place].1;
             let second = wave - first;
-            if self.solve(rt, h, p, cut, first, second, is_spare).is_err() {
+            if self.solve(rt, h, p, cut, first, second, has_spare).is_err() {
                 return;
             }
         }
@@ -171,7 +171,7 @@ fn solve_rest<R: Threads + Sync>(
     cut: &CutNets,
     wave: u32,
     pairs: &[Touched],
-    is_spare: bool,
+    has_spare: bool,
     ends: &mut [Option<PairEnd>],
 ) -> Result<(), NoMemory>
     requires solver { solver.old ≡ h.now }
@@ -191,7 +191,7 @@ fn solve_rest<R: Threads + Sync>(
         let second = wave - first;
         let place = place_of(k, first, second);
         if end_of(ends, place).is_none() {
-            let end = solve_pair(rt, solver, h, p, cut, first, second, is_spare)?;
+            let end = solve_pair(rt, solver, h, p, cut, first, second, has_spare)?;
             put_end(ends, place, end);
         }
     }
@@ -207,7 +207,7 @@ fn solve_all<R: Threads + Sync, G: Gate>(
     cut: &CutNets,
     wave: u32,
     pairs: &[Touched],
-    is_spare: bool,
+    has_spare: bool,
     workers: &mut [Worker],
 )
     requires belongs { p.now.hyper ≡ h.now }
@@ -227,7 +227,7 @@ fn solve_all<R: Threads + Sync, G: Gate>(
                 pairs.now) × IsSolved h.now p.now wave worker.now }
             ensures { IsSolved h.entry.now p.entry.now wave worker.exit.now }
         {
-            worker.run(rt, gate, h, p, cut, wave, pairs, is_spare, &next);
+            worker.run(rt, gate, h, p, cut, wave, pairs, has_spare, &next);
         },
     );
 }
@@ -242,7 +242,7 @@ fn solve_pairs<R: Threads + Sync, G: Gate>(
     cut: &CutNets,
     wave: u32,
     pairs: &[Touched],
-    is_spare: bool,
+    has_spare: bool,
     workers: &mut [Worker],
     ends: &mut [Option<PairEnd>],
 ) -> Result<(), NoMemory>
@@ -258,15 +258,15 @@ fn solve_pairs<R: Threads + Sync, G: Gate>(
     ensures ends { OnOk result (GainsEnds h.now p.now wave ends.old ends.new) }
 {
     let _blocks = p.blocks();
-    solve_all(rt, gate, h, p, cut, wave, pairs, is_spare, workers);
+    solve_all(rt, gate, h, p, cut, wave, pairs, has_spare, workers);
     hand_all_over(workers, h, p, wave, ends);
     let solver = &mut workers[0].solver;
-    solve_rest(rt, solver, h, p, cut, wave, pairs, is_spare, ends)
+    solve_rest(rt, solver, h, p, cut, wave, pairs, has_spare, ends)
 }
 
 /// Solves the pairs of a wave that a net touches, all at once on the lent partition, and writes their ends into
-/// the table. No more workers start than there are pairs, and for one pair none. Where there are two of `threads` for
-/// each pair, a worker forms a large region by two. Where no net touches a pair, it has no end.
+/// the table. No more workers start than there are pairs, and a single pair is solved in this thread. Where there are
+/// two of `threads` for each pair, a worker forms a large region by two. Where no net touches a pair, it has no end.
 pub(crate) fn solve_wave<R: Threads + Sync, G: Gate>(
     rt: &R,
     gate: &G,
@@ -295,8 +295,8 @@ pub(crate) fn solve_wave<R: Threads + Sync, G: Gate>(
     if pairs.is_empty() {
         return Ok(());
     }
-    let is_spare = pairs.len() <= threads as usize / 2;
+    let has_spare = pairs.len() <= threads as usize / 2;
     let busy = pairs.len().min(workers.len());
     let workers = &mut workers[..busy];
-    solve_pairs(rt, gate, h, p, cut, wave, pairs, is_spare, workers, ends)
+    solve_pairs(rt, gate, h, p, cut, wave, pairs, has_spare, workers, ends)
 }

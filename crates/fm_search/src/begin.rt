@@ -8,7 +8,7 @@ ghost use Rattle.move_table.specs.Calls.{AreFresh};
 ghost use Rattle.move_table.specs.Standing.{IsTerms};
 ghost use Rattle.fm_search.specs.Opened.{IsBelow};
 
-use crate::opening::Openings;
+use crate::opening::{LEAST_NETS, Openings};
 use crate::seeds::marked;
 use hg_base::NoMemory;
 use incidence::Hypergraph;
@@ -70,7 +70,7 @@ fn beside<H: Threads + Sync>(
 }
 
 /// Opens a round over a partition, reads what the marked vertices may do, and lists them. One worker does one
-/// after the other, and starts no thread.
+/// after the other, and starts no thread, nor do several on a small level.
 pub(crate) fn open_round<'h, H: Threads + Sync>(
     rt: &H,
     alloc: Global,
@@ -96,7 +96,7 @@ pub(crate) fn open_round<'h, H: Threads + Sync>(
     let _blocks = part.blocks();
     let terms = Terms { part, workers };
     let _vertices = h.vertices();
-    let (begun, seeds) = if workers > 1 {
+    let (begun, seeds) = if workers > 1 && h.nets() >= LEAST_NETS {
         beside(rt, alloc, h, &terms, cut, workers - 1, openings)?
     } else {
         openings.read(rt, h, &terms, cut, 1)?;

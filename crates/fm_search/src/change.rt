@@ -44,7 +44,7 @@ impl Change {
         }
     }
 
-    /// Whether all stays as it was for the other pins.
+    /// Whether no gain changes for the other pins, though what pulls them may.
     pub(crate) fn is_nothing(&self) -> bool {
         self.saved_from == 0
             && self.saved_to == 0

@@ -23,7 +23,7 @@ const MOST_CELLS: usize = 1 << 20;
 /// What a worker remembers of a vertex.
 #[derive(Clone, Copy)]
 pub(crate) struct Mark {
-    /// The search in which it was read last.
+    /// The search in which it was read or offered last.
     search: u32,
     /// Its row of cells; 0 where it was offered unread.
     row: u32,
@@ -64,8 +64,8 @@ fn reach_rows(used: &mut Vec<Used>, count: usize) -> Result<(), NoMemory>
 }
 
 /// What a worker remembers while it searches: a mark for each vertex, the search that walked each net last, and
-/// for the vertices that were read in this search a row of cells and which of them are used. Contracts see how large
-/// it is.
+/// for the vertices that were read in this search, or whose rows were drawn up, a row of cells and which of them are
+/// used. Contracts see how large it is.
 #[derive(Drop)]
 pub(crate) struct Desk {
     alloc: Global,
@@ -306,7 +306,7 @@ impl Desk {
         best_block(shared, mover, row, &self.used[number as usize], v, block)
     }
 
-    /// Whether a vertex was read in this search.
+    /// Whether a vertex has a row in this search: it was read, or its row was drawn up.
     pub(crate) fn is_read(&self, v: u32) -> bool
         requires { v < self.now.vertices }
     {

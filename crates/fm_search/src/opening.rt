@@ -1,6 +1,6 @@
-//! What vertices may do where a round opens. It is read off the partition, by threads, before the workers start, and
-//! again only around the vertices that moved since, so that a search that starts from many vertices reads none of them
-//! that it doesn't come to.
+//! What vertices may do where a round opens. Threads read it off the partition before the workers search, and again only
+//! around the vertices that moved since. So a search that starts from many vertices reads none of them that it doesn't
+//! come to, and in two blocks draws its rows up from it.
 
 ghost use Rattle.std.specs.Prelude.{◌≡◌, ◌≢◌, ℕ, ◌+◌, ◌<◌, ◌≤◌, All, IfSome, OnOk, [], length, slice_index_or, vec_len};
 ghost use Rattle.hg_defs.specs.Hypergraph.{vertex_count, net_count};
@@ -16,7 +16,7 @@ use std::alloc::Global;
 use std::thread::Threads;
 
 /// A thread reads the vertices of so many nets at least: to start one costs as much.
-const LEAST_NETS: u32 = 4096;
+pub(crate) const LEAST_NETS: u32 = 4096;
 
 /// What one vertex may do.
 #[derive(Clone, Copy)]
@@ -200,20 +200,20 @@ fn read_marked<H: Threads + Sync>(
     h: &Hypergraph,
     terms: &Terms,
     cut: &[bool],
-    workers: u32,
+    threads: u32,
     all: &mut [Opening],
 )
     requires belongs { terms.now.part.hyper ≡ h.now }
     requires few { terms.now.part.k ≤ 256 }
-    requires workers { (1 ≤ workers) × (workers ≤ 64) }
+    requires threads { (1 ≤ threads) × (threads ≤ 64) }
     requires marks { length cut.now ≡ vertex_count h.now }
     requires long { length all.old ≡ vertex_count h.now }
     requires below { All (IsBelow terms.now.part.k) all.old }
     ensures long { length all.new ≡ length all.old }
     ensures below { All (IsBelow terms.now.part.k) all.new }
 {
-    let threads = workers.min(1 + h.nets() / LEAST_NETS);
-    let size = h.vertices().div_ceil(threads).max(1);
+    let runs = threads.min(1 + h.nets() / LEAST_NETS);
+    let size = h.vertices().div_ceil(runs).max(1);
     each_chunk(
         rt,
         all,
@@ -295,10 +295,10 @@ impl Openings {
         h: &Hypergraph,
         terms: &Terms,
         cut: &[bool],
-        workers: u32,
+        threads: u32,
     ) -> Result<(), NoMemory>
         requires belongs { terms.now.part.hyper ≡ h.now }
-        requires workers { (1 ≤ workers) × (workers ≤ 64) }
+        requires threads { (1 ≤ threads) × (threads ≤ 64) }
         requires marks { length cut.now ≡ vertex_count h.now }
         requires below { All (IsBelow terms.now.part.k) self.old.all.items }
         ensures below { All (IsBelow terms.now.part.k) self.new.all.items }
@@ -314,7 +314,7 @@ impl Openings {
             self.blocks.as_mut_slice(),
             self.all.as_mut_slice(),
         );
-        read_marked(rt, h, terms, cut, workers, self.all.as_mut_slice());
+        read_marked(rt, h, terms, cut, threads, self.all.as_mut_slice());
         Ok(())
     }
 }

@@ -100,7 +100,7 @@ impl Worker {
     }
 
     /// What vertices may do, where rows can be drawn up from it: in two blocks, while nobody has moved anything since
-    /// it was read but this worker in its first search. Else nothing.
+    /// it was read but this worker in the search that it grows. Else nothing.
     fn openings<'s>(&self, shared: &'s Shared<'_>) -> &'s [Opening]
         ensures { All (IsBelow shared.now.k) result.now }
     {

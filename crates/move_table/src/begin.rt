@@ -66,7 +66,8 @@ impl Begun {
     /// Takes all memory of a round over these terms, copies its words, and makes its passes.
     pub fn new(alloc: Global, terms: &Terms) -> Result<Self, NoMemory>
         requires { IsTerms terms.now }
-        ensures { IfOk result (λ b. b.terms ≡ terms.now) }
+        ensures terms { IfOk result (λ b. b.terms ≡ terms.now) }
+        ensures passes { IfOk result (λ b. AreFresh b.table b.terms b.passes) }
     {
         let (table, seat) = Table::of_words(alloc, terms.part.words(), terms)?;
         let passes = make_passes(alloc, &table.shared, seat, terms.workers)?;
@@ -87,6 +88,8 @@ impl<'h> Round<'h> {
         requires begun { begun.terms ≡ terms }
         requires cost { opening_cost ≡ cost hyper.now terms.part.blocks }
         ensures terms { result.0.terms ≡ terms }
+        ensures table { result.0.table ≡ begun.table }
+        ensures given { result.1 ≡ begun.passes }
         ensures passes { AreFresh result.0.table result.0.terms result.1 }
     {
         let Begun { table, passes } = begun;
