@@ -1,23 +1,24 @@
 -- Nets of lines, whatever the lines' numbers and the pins before them, and of parts of a text, all of them together.
 use Rattle.std.proofs.Common.{◌≡◌, ℕ, zero, suc, ◌+◌, ◌-◌, ◌*◌, ◌^◌, ◌<◌, ◌≤◌, Bool, true, false, ◌&&◌, nat_lt, nat_le, if◌then◌else◌, List, [], ◌∷◌, ◌++◌}
-use Rattle.std.proofs.Common.{length, map, take, drop, replicate, slice_index, slice_range, get_or, inl, inr, All, Option, Some, IfSome, set, Result, Ok, Err, refl, sym, ◌∙◌, ap, ap₂, subst, arith, get_or-set_other}
+use Rattle.std.proofs.Common.{length, map, take, drop, replicate, slice_index, slice_range, get_or, inl, inr, All, Option, Some, IfSome, Result, Ok, Err, refl, sym, ◌∙◌, ap, ap₂, subst, arith}
 use Rattle.std.specs.List.{enumerate_from}
 use Rattle.std.specs.Ordering.{nat_cmp}
 use Rattle.std.proofs.lemmas.Bool.{ltb-true, lt-ltb, le-leb, cases_lt}
-use Rattle.std.proofs.lemmas.List.{length-map, length-append, length-take-le, length_push, get_or_append_left, get_or_push, drop-drop, take_all, drop_all, append-nil, append_assoc}
+use Rattle.std.proofs.lemmas.List.{length-map, length-append, length-replicate, length_push, get_or_append_left, get_or_push, drop-drop, take_all, drop_all, append-nil, append_assoc}
 use Rattle.std.proofs.lemmas.List.FromFn.{length-enumerate_from}
-use Rattle.std.proofs.lemmas.List.Elements.{All-cons, All-head, All-tail, All-append, All-take}
-use Rattle.hg_defs.specs.Hypergraph.{Net, Hyper, net_count}
+use Rattle.std.proofs.lemmas.List.Elements.{All-cons, All-head, All-tail, All-append, All-push, All-contains, Contains-get_or}
+use Rattle.std.proofs.lemmas.Cmp.{nat_cmp_total}
+use Rattle.hg_defs.specs.Hypergraph.{Net, Hyper, net_count, IsNet, IsWithinLimits}
 use Rattle.hg_defs.specs.Sorting.{set_of}
 use Rattle.hg_defs.specs.Sums.{total}
-use Rattle.hg_defs.proofs.SumLaws.{total-append, total_more-le}
-use Rattle.hg_defs.proofs.SortLaws.{length-set_of-le}
+use Rattle.hg_defs.proofs.SumLaws.{total-append, total-replicate}
+use Rattle.hg_defs.proofs.SortLaws.{nat_cmp_exact, length-set_of-le, increasing-set_of, Contains-from_set_of}
 use Rattle.hg_text.specs.Kept.{Line, Reading, reading, field_lists}
 use Rattle.hg_text.specs.declared.numeral.BadNumber.{BadNumber}
 use Rattle.hg_text.specs.declared.numeral.BadNumber.TheVariants.{NotDigits, TooBig}
 use Rattle.hmetis_read.specs.Graph.{Read, ◌>>=◌, each, guarded, value_in, weight_in, pin_in, first_number, net_weight_in, pin_numbers, net_in}
 use Rattle.hmetis_read.specs.Graph.{with_pins_before, nets_in, first_in, read_on, vertex_in, ended, body_in, shape_of, graph}
-use Rattle.hmetis_read.specs.Shares.{line_with, net_at, pins_spelt, with_nets, SpellsNets, HasLightNets, AreCuts, part_of}
+use Rattle.hmetis_read.specs.Shares.{line_with, net_at, pins_spelt, with_nets, SpellsNets, AreLight, AreCuts, part_of}
 use Rattle.hmetis_read.specs.declared.fault.GraphFault.{GraphFault}
 use Rattle.hmetis_read.specs.declared.fault.GraphFault.TheVariants.{Bad, TooLarge}
 use Rattle.hmetis_read.specs.declared.fault.What.TheVariants.{Pins}
@@ -116,11 +117,15 @@ net_more shape front line kept later before net first few e =
     sym (ap (λ (ls : List Line). with_front front (each (net_at shape) (map fields_of ls))) first
     ∙ front_ok (net_at shape) front line.fields (map fields_of later) net (net_moves shape line.number 0 before 0 line.fields net (omega arith) e))
 
--- the nets change alone
-pub others_kept : (shape : Shape) (old new : Hyper) (es : List Net) → old ≡ with_nets shape old.nets → new ≡ record old { nets = es } →
-    new ≡ with_nets shape new.nets
-others_kept shape old new es d e =
-    e ∙ ap (λ (h : Hyper). record h { nets = es }) d ∙ ap (with_nets shape) (sym (ap (λ (h : Hyper). h.nets) e))
+-- one more net of the vertices, whose pins are a set of them
+pub sound_more : (vertices weight : ℕ) (nets : List Net) (pins : List ℕ) → All (IsNet vertices) nets → All (λ v. v < vertices) pins →
+    All (IsNet vertices) (nets ++ record { weight = weight; pins = set_of nat_cmp pins } ∷ [])
+sound_more vertices weight nets pins sound below =
+    All-push (IsNet vertices) nets (record { weight = weight; pins = set_of nat_cmp pins }) sound (record {
+      rising = increasing-set_of pins;
+      pins = λ k d l. All-contains (λ v. v < vertices) pins (get_or (set_of nat_cmp pins) k d) below
+          (Contains-from_set_of nat_cmp_total nat_cmp_exact pins (get_or (set_of nat_cmp pins) k d) (Contains-get_or (set_of nat_cmp pins) k d l));
+    })
 
 -- ---- nets that were read are light
 
@@ -163,12 +168,12 @@ nets_light shape (fields ∷ lists) nets e =
     (ok_same (one.0 ∷ more.0) nets more.2)
     (All-cons (λ (e : Net). e.weight < 2 ^ 32) one.0 more.0 light.0 later.0, omega arith)
 
-pub are_light : (shape : Shape) (lists : List (List (List ℕ))) (h : Hyper) (pins : ℕ) → SpellsNets shape lists h pins → HasLightNets shape h pins
-are_light shape lists h pins spells =
-    let light = nets_light shape lists h.nets spells.nets in
+pub are_light : (shape : Shape) (lists : List (List (List ℕ))) (nets : List Net) (pins : ℕ) → SpellsNets shape lists nets pins → AreLight shape nets pins
+are_light shape lists nets pins spells =
+    let light = nets_light shape lists nets spells.read in
     let size = spells.spelt in
     let sum = light.1 in
-    record { light = light.0; most = omega arith; limit = spells.limit; others = spells.others }
+    record { light = light.0; most = omega arith; limit = spells.limit; count = spells.count; sound = spells.sound }
 
 weights_light : (es : List Net) → All (λ e. e.weight < 2 ^ 32) es → total (λ e. e.weight) es ≤ (2 ^ 32 - 1) * length es
 weights_light [] all = omega arith
@@ -184,28 +189,27 @@ products_light (e ∷ es) all =
       product_le e.weight (length e.pins) (length e.pins) (All-head (λ (f : Net). f.weight < 2 ^ 32) e es all) (omega arith),
     )
 
--- one more net is within the limits
-pub record HasRoom (front : List Net) (e : Net) : Type 0 where
-  pub nets : length front < 2 ^ 22
-  pub pins : total (λ f. length f.pins) front + length e.pins ≤ 2 ^ 25
-  pub net_weight : total (λ f. f.weight) front + e.weight < 2 ^ 54
-  pub pin_weight : total (λ f. f.weight * length f.pins) front + e.weight * length e.pins < 2 ^ 57
-
-pub has_room : (ns ms : List Net) (i : ℕ) (d : Net) → All (λ e. e.weight < 2 ^ 32) ns → All (λ e. e.weight < 2 ^ 32) ms → length ns + length ms ≤ 2 ^ 22 →
-    total (λ e. length e.pins) ns + total (λ e. length e.pins) ms ≤ 2 ^ 25 → i < length ms → HasRoom (ns ++ take i ms) (get_or ms i d)
-has_room ns ms i d light more few within low =
-    let front = ns ++ take i ms in
-    let e = get_or ms i d in
-    let all = All-append (λ (f : Net). f.weight < 2 ^ 32) ns (take i ms) light (All-take (λ (f : Net). f.weight < 2 ^ 32) i ms more) in
-    let size = length-append ns (take i ms) in
-    let taken = length-take-le i ms (omega arith) in
-    let sum = total-append (λ (f : Net). length f.pins) ns (take i ms) in
-    let part = total_more-le (λ (f : Net). length f.pins) ms i d low in
-    let light_at : e.weight < 2 ^ 32 = more i d low in
-    let weights = weights_light front all in
-    let products = products_light front all in
-    let product = product_le e.weight (length e.pins) (length e.pins) light_at (omega arith) in
-    record { nets = omega arith; pins = omega arith; net_weight = omega arith; pin_weight = omega arith }
+-- the nets of a part behind those of others are within the limits
+pub within_limits : (shape : Shape) (ns ms : List Net) (p q : ℕ) → AreLight shape ns p → AreLight shape ms q → p + q ≤ 2 ^ 25 →
+    length ns + length ms ≤ 2 ^ 22 → shape.vertices ≤ 2 ^ 22 → IsWithinLimits (with_nets shape (ns ++ ms))
+within_limits shape ns ms p q first second limit few vertices =
+    let all = All-append (λ (e : Net). e.weight < 2 ^ 32) ns ms first.light second.light in
+    let size = length-append ns ms in
+    let sum = total-append (λ (e : Net). length e.pins) ns ms in
+    let one = first.most in
+    let two = second.most in
+    let weights = weights_light (ns ++ ms) all in
+    let products = products_light (ns ++ ms) all in
+    let count = length-replicate {A = ℕ} shape.vertices 1 in
+    let ones = total-replicate (λ w. w) shape.vertices 1 in
+    record {
+      vertices = omega arith;
+      nets = omega arith;
+      pins = omega arith;
+      weight = omega arith;
+      net_weight = omega arith;
+      pin_weight = omega arith;
+    }
 
 -- ---- parts together
 
@@ -218,27 +222,24 @@ each-append {B = B} f (x ∷ xs) ys vs ws e d =
     ∙ ap (λ (r : Read (List B)). r >>= λ zs. Ok (one.0 ∷ zs)) (each-append f xs ys more.0 ws more.1 d)
     ∙ ap (λ (cs : List B). Ok (cs ++ ws)) (ok_same (one.0 ∷ more.0) vs more.2)
 
-pub spells_joined : (shape : Shape) (xs ys : List (List (List ℕ))) (g h all : Hyper) (p q sum : ℕ) → SpellsNets shape xs g p → SpellsNets shape ys h q →
-    all ≡ with_nets shape (g.nets ++ h.nets) → sum ≡ p + q → sum ≤ 2 ^ 25 → net_count all ≤ shape.nets → SpellsNets shape (xs ++ ys) all sum
-spells_joined shape xs ys g h all p q sum first second whole both limit count =
-    let nets = ap (λ (i : Hyper). i.nets) whole in
+pub spells_joined : (shape : Shape) (xs ys : List (List (List ℕ))) (ns ms : List Net) (p q sum : ℕ) → SpellsNets shape xs ns p → SpellsNets shape ys ms q →
+    sum ≡ p + q → sum ≤ 2 ^ 25 → length (ns ++ ms) ≤ shape.nets → SpellsNets shape (xs ++ ys) (ns ++ ms) sum
+spells_joined shape xs ys ns ms p q sum first second both limit count =
     let size = total-append (λ (fields : List (List ℕ)). length (pin_numbers shape (line_with fields))) xs ys in
     let one = first.spelt in
     let two = second.spelt in
     record {
-      nets = each-append (net_at shape) xs ys g.nets h.nets first.nets second.nets ∙ ap Ok (sym nets);
+      read = each-append (net_at shape) xs ys ns ms first.read second.read;
       spelt = omega arith;
       limit = limit;
       count = count;
-      others = whole ∙ ap (with_nets shape) (sym nets);
+      sound = All-append (IsNet shape.vertices) ns ms first.sound second.sound;
     }
 
--- a part that isn't the first, which was taken out
-pub part_at : {X : Type 0} (parts : List (Option X)) (first part : Option X) (j : ℕ) (x : X) (P : X → Type 0) → 1 ≤ j →
-    part ≡ get_or (set parts 0 first) j part → part ≡ Some x → IfSome (get_or parts j part) P → P x
-part_at {X = X} parts first part j x P low read is h =
-    let other : get_or (set parts 0 first) j part ≡ get_or parts j part = get_or-set_other parts 0 j first part (λ same. absurd (omega arith)) in
-    subst (λ (o : Option X). IfSome o P) (sym other ∙ sym read ∙ is) h
+-- a part that is there
+pub part_at : {X : Type 0} (parts : List (Option X)) (part : Option X) (j : ℕ) (x : X) (P : X → Type 0) →
+    part ≡ get_or parts j part → part ≡ Some x → IfSome (get_or parts j part) P → P x
+part_at {X = X} parts part j x P read is h = subst (λ (o : Option X). IfSome o P) (sym read ∙ is) h
 
 -- the lines of the first parts
 abbrev pub lists_before : List ℕ → List ℕ → ℕ → List (List (List ℕ))
@@ -326,14 +327,14 @@ nets_first shape text nets e size =
     ∙ ap (λ (r : Read (List Net)). r >>= λ values. guarded (nat_le shape.nets (length text.kept)) fault values) e
     ∙ ap (λ (b : Bool). guarded b fault nets) enough
 
-body_spelt : (shape : Shape) (text : Reading) (h : Hyper) (pins : ℕ) → shape.vertex_weights ≡ false → SpellsNets shape (map fields_of text.kept) h pins →
-    net_count h ≡ shape.nets → body_in shape text ≡ Ok h
-body_spelt shape text h pins plain spells count =
+body_spelt : (shape : Shape) (text : Reading) (h : Hyper) (pins : ℕ) → shape.vertex_weights ≡ false →
+    SpellsNets shape (map fields_of text.kept) h.nets pins → h ≡ with_nets shape h.nets → net_count h ≡ shape.nets → body_in shape text ≡ Ok h
+body_spelt shape text h pins plain spells others count =
     let lists = map fields_of text.kept in
     let few = spells.limit in
     let spelt = spells.spelt in
-    let nets = nets_move shape 0 text.kept h.nets (omega arith) spells.nets in
-    let size = each_length (net_at shape) lists h.nets spells.nets in
+    let nets = nets_move shape 0 text.kept h.nets (omega arith) spells.read in
+    let size = each_length (net_at shape) lists h.nets spells.read in
     let same = length-map text.kept fields_of in
     let long : length text.kept ≡ shape.nets = omega arith in
     let none : drop shape.nets text.kept ≡ [] = drop_all shape.nets text.kept (omega arith) in
@@ -343,13 +344,13 @@ body_spelt shape text h pins plain spells count =
     ended (drop (if b then shape.vertices else 0) ls) (whole es ws) in
     ap (λ (r : Read (List Net)). r >>= λ es. behind es shape.vertex_weights (drop shape.nets text.kept)) (nets_first shape text h.nets nets long)
     ∙ ap₂ (λ (b : Bool) (ls : List Line). behind h.nets b ls) plain none
-    ∙ ap Ok (sym spells.others)
+    ∙ ap Ok (sym others)
 
 -- the text is spelt by the nets of the lines behind its header
 pub graph_spelt : (bytes rest : List ℕ) (shape : Shape) (h : Hyper) (pins : ℕ) → shape_of (reading bytes) ≡ Ok shape → shape.vertex_weights ≡ false →
-    map fields_of (read_on 1 (reading bytes)).kept ≡ field_lists rest → SpellsNets shape (field_lists rest) h pins → net_count h ≡ shape.nets →
-    graph bytes ≡ Ok h
-graph_spelt bytes rest shape h pins header plain lists spells count =
+    map fields_of (read_on 1 (reading bytes)).kept ≡ field_lists rest → SpellsNets shape (field_lists rest) h.nets pins → h ≡ with_nets shape h.nets →
+    net_count h ≡ shape.nets → graph bytes ≡ Ok h
+graph_spelt bytes rest shape h pins header plain lists spells others count =
     ap (λ (r : Read Shape). r >>= λ s. body_in s (read_on 1 (reading bytes))) header
     ∙ body_spelt shape (read_on 1 (reading bytes)) h pins plain
-    (subst (λ (fs : List (List (List ℕ))). SpellsNets shape fs h pins) (sym lists) spells) count
+    (subst (λ (fs : List (List (List ℕ))). SpellsNets shape fs h.nets pins) (sym lists) spells) others count

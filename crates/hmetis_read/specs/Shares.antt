@@ -2,7 +2,7 @@
 use Rattle.std.specs.Prelude.{◌≡◌, ℕ, ◌+◌, ◌-◌, ◌^◌, ◌<◌, ◌≤◌, List, ◌++◌, length, drop, replicate, slice_index, slice_range, All, Ok}
 use Rattle.hg_defs.specs.declared.objective.TheConstants.{FREE}
 use Rattle.hg_defs.specs.declared.objective.Objective.TheVariants.{Connectivity}
-use Rattle.hg_defs.specs.Hypergraph.{Net, Hyper, net_count, pin_count}
+use Rattle.hg_defs.specs.Hypergraph.{Net, Hyper, IsNet}
 use Rattle.hg_defs.specs.Sums.{total}
 use Rattle.hg_text.specs.Kept.{Line, field_lists}
 use Rattle.hmetis_read.specs.Graph.{Read, each, net_in, pin_numbers}
@@ -30,19 +30,20 @@ with_nets shape nets = record {
 }
 
 -- the nets are those that lists of fields spell, and are within the limits
-pub record SpellsNets (shape : Shape) (lists : List (List (List ℕ))) (h : Hyper) (pins : ℕ) : Type 0 where
-  pub nets : each (net_at shape) lists ≡ Ok h.nets
+pub record SpellsNets (shape : Shape) (lists : List (List (List ℕ))) (nets : List Net) (pins : ℕ) : Type 0 where
+  pub read : each (net_at shape) lists ≡ Ok nets
   pub spelt : pins_spelt shape lists ≡ pins
   pub limit : pins ≤ 2 ^ 25
-  pub count : net_count h ≤ shape.nets
-  pub others : h ≡ with_nets shape h.nets
+  pub count : length nets ≤ shape.nets
+  pub sound : All (IsNet shape.vertices) nets
 
--- no net weighs 2^32 or more, and the nets have so many pins at most, within the limit
-pub record HasLightNets (shape : Shape) (h : Hyper) (pins : ℕ) : Type 0 where
-  pub light : All (λ e. e.weight < 2 ^ 32) h.nets
-  pub most : pin_count h ≤ pins
+-- nets of the shape's vertices within the limits: none weighs 2^32 or more, and they have so many pins at most
+pub record AreLight (shape : Shape) (nets : List Net) (pins : ℕ) : Type 0 where
+  pub light : All (λ e. e.weight < 2 ^ 32) nets
+  pub most : total (λ e. length e.pins) nets ≤ pins
   pub limit : pins ≤ 2 ^ 25
-  pub others : h ≡ with_nets shape h.nets
+  pub count : length nets ≤ shape.nets
+  pub sound : All (IsNet shape.vertices) nets
 
 -- the text between two cuts
 abbrev pub part_of : List ℕ → List ℕ → ℕ → List ℕ

@@ -7,6 +7,7 @@
 #![tactic(auto)]
 
 mod fault;
+mod flat;
 mod header;
 mod hypergraph;
 mod laws;

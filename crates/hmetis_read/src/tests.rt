@@ -183,6 +183,12 @@ fn shared_files(rt: HostRuntime) -> Result<(), Fail> {
     assert!(rt; is_first(&hyper, &[1, 2, 3]));
     let hyper = read_with(&rt, rt.alloc(), FIRST, 3)?;
     assert!(rt; is_first(&hyper, &[1, 2, 3]));
+    let repeated = read_shares(&rt, rt.alloc(), b"2 4\n4 1 4 2\n3 3\n", 2).ok_or("refused by two")?;
+    assert!(rt;
+        repeated.nets() == 2 && net_is(&repeated, 0, 1, &[0, 1, 3]) && net_is(&repeated, 1, 1, &[2])
+    );
+    let bare = read_shares(&rt, rt.alloc(), b"0 3\n", 3).ok_or("refused without nets")?;
+    assert!(rt; bare.vertices() == 3 && bare.nets() == 0);
     Ok(())
 }
 
@@ -193,6 +199,5 @@ fn refused_files(rt: HostRuntime) {
     assert!(rt; is_refused(&rt, alloc, b"2 3\n1 2\n2 3\n1 3\n"));
     assert!(rt; is_refused(&rt, alloc, b"3 3\n1 2\n2 3\n"));
     assert!(rt; is_refused(&rt, alloc, b"3 3\n1 2\n2 3\n1 4\n"));
-    assert!(rt; is_refused(&rt, alloc, b"0 3\n"));
     assert!(rt; is_refused(&rt, alloc, b""));
 }
