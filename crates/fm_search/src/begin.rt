@@ -1,6 +1,6 @@
 //! How a round of searches begins: what its vertices may do is read while its words are copied.
 
-ghost use Rattle.std.specs.Prelude.{◌≡◌, ◌<◌, ◌≤◌, ◌^◌, All, IfOk, OnOk, length, vec_len};
+ghost use Rattle.std.specs.Prelude.{◌≡◌, ◌+◌, ◌<◌, ◌≤◌, ◌^◌, All, IfOk, OnOk, length, vec_len};
 ghost use Rattle.std.specs.Thread.{IsSync};
 ghost use Rattle.hg_defs.specs.Hypergraph.{vertex_count};
 ghost use Rattle.hg_defs.specs.Partition.{Fits};
@@ -8,14 +8,19 @@ ghost use Rattle.move_table.specs.Calls.{AreFresh};
 ghost use Rattle.move_table.specs.Standing.{IsTerms};
 ghost use Rattle.fm_search.specs.Opened.{IsBelow};
 
-use crate::opening::{LEAST_NETS, Openings};
-use crate::seeds::marked;
+use crate::cells::Cell;
+use crate::opening::{LEAST_NETS, Opening, read_marked, read_run};
+use crate::openings::Openings;
+use crate::seeds::{cut_marks, marked};
 use hg_base::NoMemory;
 use incidence::Hypergraph;
 use move_table::{Begun, Passes, Round, Terms};
 use pin_plain::Partition;
 use std::alloc::Global;
 use std::thread::{Threads, join_mut};
+
+/// To read what a vertex may do takes as long as to copy the words of so many.
+const VERTICES_A_READING: u64 = 10;
 
 /// What a round begins with, and the marked places.
 fn begin_and_list(alloc: Global, terms: &Terms, cut: &[bool]) -> Result<(Begun, Vec<u32>), NoMemory>
@@ -30,60 +35,176 @@ fn begin_and_list(alloc: Global, terms: &Terms, cut: &[bool]) -> Result<(Begun, 
     Ok((begun, seeds))
 }
 
-/// Copies the words of a round and lists the marked vertices in this thread, while others, at most so many, read what
-/// these may do.
-fn beside<H: Threads + Sync>(
+/// Reads what the marked vertices may do by one thread fewer than there are workers, while this one copies the words of
+/// the round and lists the marked vertices, and then reads those of them from a first one on.
+fn read_beside<H: Threads + Sync>(
     rt: &H,
     alloc: Global,
     h: &Hypergraph,
     terms: &Terms,
     cut: &[bool],
-    threads: u32,
-    openings: &mut Openings,
+    first: usize,
+    all: &mut [Opening],
+    rows: &mut [Cell],
 ) -> Result<(Begun, Vec<u32>), NoMemory>
     requires belongs { terms.now.part.hyper ≡ h.now }
     requires over { IsTerms terms.now }
-    requires threads { (1 ≤ threads) × (threads ≤ 64) }
-    requires marks { (length cut.now ≡ vertex_count h.now) × (length cut.now < 2 ^ 32) }
-    requires below { All (IsBelow terms.now.part.k) openings.old.all.items }
-    ensures below { All (IsBelow terms.now.part.k) openings.new.all.items }
-    ensures full { OnOk result (vec_len openings.new.all ≡ vertex_count h.now) }
+    requires workers { 2 ≤ terms.now.workers }
+    requires marks { length cut.now ≡ vertex_count h.now }
+    requires long { length all.old ≡ vertex_count h.now }
+    requires first { first ≤ length all.old }
+    requires below { All (IsBelow terms.now.part.k) all.old }
+    ensures long { length all.new ≡ length all.old }
+    ensures below { All (IsBelow terms.now.part.k) all.new }
     ensures begun { IfOk result (λ r. r.0.terms ≡ terms.now) }
     ensures seeds { IfOk result (λ r. All (λ v. v < length cut.now) r.1.items) }
     ensures few { IfOk result (λ r. vec_len r.1 ≤ length cut.now) }
 {
+    let _blocks = terms.part.blocks();
+    let _vertices = h.vertices();
+    let threads = terms.workers - 1;
+    let (theirs, own) = all.split_at_mut(first);
     let mut front = ||
         requires { IsSync H.row × (terms.now.part.hyper ≡ h.now) × (1 ≤ threads) × (threads ≤ 64)
-            × (length cut.now ≡ vertex_count h.now) × All (IsBelow terms.now.part.k) openings.now.all.items }
-        ensures below { All (IsBelow terms.entry.now.part.k) openings.exit.now.all.items }
-        ensures full { OnOk result (vec_len openings.exit.now.all ≡ vertex_count h.entry.now) }
-    { openings.read(rt, h, terms, cut, threads) };
+            × (length cut.now ≡ vertex_count h.now) × (length theirs.now ≤ vertex_count h.now)
+            × All (IsBelow terms.now.part.k) theirs.now }
+        ensures long { length theirs.exit.now ≡ length theirs.entry.now }
+        ensures below { All (IsBelow terms.entry.now.part.k) theirs.exit.now }
+    { read_marked(rt, h, terms, cut, threads, theirs, rows) };
     let mut back = ||
-        requires { IsTerms terms.now × (length cut.now < 2 ^ 32) }
+        requires { IsTerms terms.now × (terms.now.part.hyper ≡ h.now) × (terms.now.part.k ≤ 256)
+            × (length cut.now ≡ vertex_count h.now) × (length cut.now < 2 ^ 32)
+            × (first + length own.now ≤ vertex_count h.now) × All (IsBelow terms.now.part.k) own.now }
+        ensures long { length own.exit.now ≡ length own.entry.now }
+        ensures below { All (IsBelow terms.entry.now.part.k) own.exit.now }
         ensures begun { IfOk result (λ r. r.0.terms ≡ terms.entry.now) }
-        ensures below { IfOk result (λ r. All (λ v. v < length cut.entry.now) r.1.items) }
+        ensures seeds { IfOk result (λ r. All (λ v. v < length cut.entry.now) r.1.items) }
         ensures few { IfOk result (λ r. vec_len r.1 ≤ length cut.entry.now) }
-    { begin_and_list(alloc, terms, cut) };
-    let (read, begun) = join_mut(rt, &mut front, &mut back);
-    read?;
+    {
+        let begun = begin_and_list(alloc, terms, cut);
+        read_run(h, terms, cut, first, own);
+        begun
+    };
+    let (_read, begun) = join_mut(rt, &mut front, &mut back);
     begun
 }
 
-/// Opens a round over a partition, reads what the marked vertices may do, and lists them. One worker does one
+/// How many vertices of a level this thread reads, beside copying the words of them all, so that it takes as long as
+/// each of the other workers does for its share of the rest, where some are due.
+fn own_share(vertices: u32, due: u32, workers: u32) -> u32
+    ensures { result ≤ vertices }
+{
+    let (all, due, workers) = (u64::from(vertices), u64::from(due), u64::from(workers));
+    let to_read = due.saturating_mul(VERTICES_A_READING);
+    let to_copy = all.saturating_mul(workers.saturating_sub(1));
+    let spare = to_read.saturating_sub(to_copy);
+    let share = all.saturating_mul(spare) / to_read.saturating_mul(workers).max(1);
+    share.min(all) as u32
+}
+
+/// Begins with the words of a round and the marked vertices, and has all workers read what these may do, so many at
+/// most, but for one worker where whole rows are kept.
+fn begin_beside<H: Threads + Sync>(
+    rt: &H,
+    alloc: Global,
+    h: &Hypergraph,
+    terms: &Terms,
+    cut: &[bool],
+    due: u32,
+    openings: &mut Openings,
+) -> Result<(Begun, Vec<u32>), NoMemory>
+    requires belongs { terms.now.part.hyper ≡ h.now }
+    requires over { IsTerms terms.now }
+    requires workers { 2 ≤ terms.now.workers }
+    requires marks { length cut.now ≡ vertex_count h.now }
+    requires below { All (IsBelow terms.now.part.k) openings.old.all.items }
+    requires full { vec_len openings.old.all ≡ vertex_count h.now }
+    ensures below { All (IsBelow terms.now.part.k) openings.new.all.items }
+    ensures full { vec_len openings.new.all ≡ vertex_count h.now }
+    ensures begun { IfOk result (λ r. r.0.terms ≡ terms.now) }
+    ensures seeds { IfOk result (λ r. All (λ v. v < length cut.now) r.1.items) }
+    ensures few { IfOk result (λ r. vec_len r.1 ≤ length cut.now) }
+{
+    let vertices = h.vertices();
+    let own = if openings.rows.is_empty() {
+        own_share(vertices, due, terms.workers)
+    } else {
+        0
+    };
+    let first = (vertices - own) as usize;
+    let (all, rows) = (openings.all.as_mut_slice(), openings.rows.as_mut_slice());
+    read_beside(rt, alloc, h, terms, cut, first, all, rows)
+}
+
+/// Marks the vertices on cut nets by one thread fewer than there are workers, while this one forgets what they may do
+/// that may have changed. Answers how many are forgotten, or less.
+fn mark_beside<H: Threads + Sync>(
+    rt: &H,
+    alloc: Global,
+    h: &Hypergraph,
+    terms: &Terms,
+    openings: &mut Openings,
+) -> Result<(Vec<bool>, u32), NoMemory>
+    requires belongs { terms.now.part.hyper ≡ h.now }
+    requires workers { (2 ≤ terms.now.workers) × (terms.now.workers ≤ 64) }
+    requires below { All (IsBelow terms.now.part.k) openings.old.all.items }
+    ensures below { All (IsBelow terms.now.part.k) openings.new.all.items }
+    ensures full { OnOk result (vec_len openings.new.all ≡ vertex_count h.now) }
+    ensures marks { IfOk result (λ r. vec_len r.0 ≡ vertex_count h.now) }
+{
+    let threads = terms.workers - 1;
+    let mut front = ||
+        requires { IsSync H.row × (terms.now.part.hyper ≡ h.now) × (1 ≤ threads) × (threads ≤ 64) }
+        ensures { IfOk result (λ cut. vec_len cut ≡ vertex_count h.entry.now) }
+    { cut_marks(rt, alloc, h, terms, threads) };
+    let mut back = ||
+        requires { (terms.now.part.hyper ≡ h.now) × All (IsBelow terms.now.part.k) openings.now.all.items }
+        ensures below { All (IsBelow terms.entry.now.part.k) openings.exit.now.all.items }
+        ensures full { OnOk result (vec_len openings.exit.now.all ≡ vertex_count h.entry.now) }
+    { openings.forget(h, terms) };
+    let (cut, due) = join_mut(rt, &mut front, &mut back);
+    Ok((cut?, due?))
+}
+
+/// Begins with the words of a round and the marked vertices, and reads what these may do, all in this thread.
+fn begin_alone<H: Threads + Sync>(
+    rt: &H,
+    alloc: Global,
+    h: &Hypergraph,
+    terms: &Terms,
+    openings: &mut Openings,
+) -> Result<(Begun, Vec<u32>), NoMemory>
+    requires belongs { terms.now.part.hyper ≡ h.now }
+    requires over { IsTerms terms.now }
+    requires below { All (IsBelow terms.now.part.k) openings.old.all.items }
+    ensures below { All (IsBelow terms.now.part.k) openings.new.all.items }
+    ensures full { OnOk result (vec_len openings.new.all ≡ vertex_count h.now) }
+    ensures begun { IfOk result (λ r. r.0.terms ≡ terms.now) }
+    ensures seeds { IfOk result (λ r. All (λ v. v < vertex_count h.now) r.1.items) }
+    ensures few { IfOk result (λ r. vec_len r.1 ≤ vertex_count h.now) }
+{
+    let _vertices = h.vertices();
+    openings.forget(h, terms)?;
+    let cut = cut_marks(rt, alloc, h, terms, terms.workers)?;
+    let cut = cut.as_slice();
+    let (all, rows) = (openings.all.as_mut_slice(), openings.rows.as_mut_slice());
+    read_marked(rt, h, terms, cut, 1, all, rows);
+    begin_and_list(alloc, terms, cut)
+}
+
+/// Opens a round over a partition, reads what the vertices on cut nets may do, and lists these. One worker does one
 /// after the other, and starts no thread, nor do several on a small level.
 pub(crate) fn open_round<'h, H: Threads + Sync>(
     rt: &H,
     alloc: Global,
     h: &'h Hypergraph,
     p: Partition,
-    cut: &[bool],
     workers: u32,
     openings: &mut Openings,
 ) -> Result<(Round<'h>, Passes, Vec<u32>), NoMemory>
     requires belongs { p.hyper ≡ h.now }
     requires fits { Fits h.now p.k p.limit p.blocks }
     requires workers { (1 ≤ workers) × (workers ≤ 64) }
-    requires marks { length cut.now ≡ vertex_count h.now }
     requires below { All (IsBelow p.k) openings.old.all.items }
     ensures below { All (IsBelow p.k) openings.new.all.items }
     ensures full { OnOk result (vec_len openings.new.all ≡ vertex_count h.now) }
@@ -97,10 +218,10 @@ pub(crate) fn open_round<'h, H: Threads + Sync>(
     let terms = Terms { part, workers };
     let _vertices = h.vertices();
     let (begun, seeds) = if workers > 1 && h.nets() >= LEAST_NETS {
-        beside(rt, alloc, h, &terms, cut, workers - 1, openings)?
+        let (cut, due) = mark_beside(rt, alloc, h, &terms, openings)?;
+        begin_beside(rt, alloc, h, &terms, cut.as_slice(), due, openings)?
     } else {
-        openings.read(rt, h, &terms, cut, 1)?;
-        begin_and_list(alloc, &terms, cut)?
+        begin_alone(rt, alloc, h, &terms, openings)?
     };
     let (round, passes) = Round::of(h, terms, opening_cost, begun);
     Ok((round, passes, seeds))

@@ -3,7 +3,7 @@
 //! Sums and products wrap: all nets weigh less than 2^54 together, so none of them comes near the end of 64
 //! bits, and they decide nothing but which move is tried.
 
-ghost use Rattle.std.specs.Prelude.{◌≡◌, ◌<◌, ◌≤◌, IfSome, length};
+ghost use Rattle.std.specs.Prelude.{◌≡◌, ◌*◌, ◌<◌, ◌≤◌, IfSome, length};
 
 use hg_base::Objective;
 
@@ -92,6 +92,14 @@ impl Cell {
     }
 }
 
+/// Where a row of cells starts.
+pub(crate) fn start_of(row: u32, k: u32) -> usize
+    requires { k ≤ 256 }
+    ensures { result ≡ row * k }
+{
+    row as usize * k as usize
+}
+
 /// The cells of the blocks that a vertex may know of, as bits; the others are blank, whatever stands in them.
 #[derive(Clone, Copy)]
 pub(crate) struct Used {
@@ -102,6 +110,13 @@ impl Used {
     /// No cell is used yet.
     pub(crate) fn none() -> Self {
         Used { words: [0; 4] }
+    }
+
+    /// All cells are used.
+    pub(crate) fn all() -> Self {
+        Used {
+            words: [u64::MAX; 4],
+        }
     }
 
     /// The first block from a number on, and below another one, that is used.

@@ -5,10 +5,10 @@ ghost use Rattle.hg_defs.specs.Hypergraph.{vertex_count};
 ghost use Rattle.fm_search.specs.Standing.{IsOf, size_for};
 ghost use Rattle.fm_search.specs.Opened.{IsBelow};
 
-use crate::cells::{BLANK, Cell, Used};
+use crate::cells::{BLANK, Cell, Used, start_of};
 use crate::change::Change;
 use crate::mover::Mover;
-use crate::opening::Opening;
+use crate::opening::{Known, Opening};
 use crate::reading::{Choice, approach, best_block, read_vertex};
 use crate::shared::Shared;
 use gain_heap::{GainHeap, Offer};
@@ -31,14 +31,6 @@ pub(crate) struct Mark {
     round: u32,
     /// Whether it waits to be offered.
     listed: bool,
-}
-
-/// Where a row of cells starts.
-fn start_of(row: u32, k: u32) -> usize
-    requires { k ≤ 256 }
-    ensures { result ≡ row * k }
-{
-    row as usize * k as usize
 }
 
 /// Makes room for so many cells.
@@ -337,24 +329,30 @@ impl Desk {
         Ok(())
     }
 
-    /// Draws up the row of a vertex in `block`, of two blocks, where it is given what the vertex may do. Of its cells
-    /// only the difference matters, so that its own is left blank.
-    fn draw_up(&mut self, openings: &[Opening], v: u32, block: u32) -> Result<(), NoMemory>
-        requires openings { All (IsBelow self.old.blocks) openings.now }
+    /// Draws up the row of a vertex in `block` where it is known what the vertex may do: from its whole row, or else in
+    /// two blocks, where only the difference of its cells matters, so that its own is left blank.
+    pub(crate) fn draw_up(&mut self, known: &Known<'_>, v: u32, block: u32) -> Result<(), NoMemory>
+        requires known { All (IsBelow self.old.blocks) known.now.openings.now }
         requires vertex { v < self.old.vertices }
         requires block { block < self.old.blocks }
         ensures { self.new ≡ self.old }
     {
-        let Some(Opening::Moves(choice)) = openings.get(v as usize) else {
+        let Some(Opening::Moves(choice)) = known.openings.get(v as usize) else {
             return Ok(());
         };
         if !self.take_row(v)? {
             return Ok(());
         }
-        let number = self.marks[v as usize].row;
+        let (number, length) = (self.marks[v as usize].row, self.k as usize);
         let start = start_of(number, self.k);
-        let row = &mut self.cells.as_mut_slice()[start..start + self.k as usize];
+        let row = &mut self.cells.as_mut_slice()[start..start + length];
         let used = &mut self.used[number as usize];
+        let from = start_of(v, self.k);
+        if let Some(cells) = known.rows.get(from..from + length) {
+            row.copy_from_slice(cells);
+            *used = Used::all();
+            return Ok(());
+        }
         *used = Used::none();
         used.reach(row, block);
         used.reach(row, choice.to);
@@ -366,16 +364,15 @@ impl Desk {
     }
 
     /// Tells a vertex in `block` of a change on one of its nets, and lists it where it was neither read nor offered
-    /// yet or one of its gains may have risen. One that was offered unread gets its row off what vertices may do, where
-    /// that is given.
+    /// yet or one of its gains may have risen. One without a row gets it off what is known of it, where that is given.
     pub(crate) fn tell(
         &mut self,
-        openings: &[Opening],
+        known: &Known<'_>,
         v: u32,
         block: u32,
         change: &Change,
     ) -> Result<(), NoMemory>
-        requires openings { All (IsBelow self.old.blocks) openings.now }
+        requires known { All (IsBelow self.old.blocks) known.now.openings.now }
         requires vertex { v < self.old.vertices }
         requires block { block < self.old.blocks }
         requires from { change.now.from < self.old.blocks }
@@ -386,8 +383,8 @@ impl Desk {
         if mark.round == self.round {
             return Ok(());
         }
-        if mark.search == self.search && mark.row == 0 {
-            self.draw_up(openings, v, block)?;
+        if !self.is_read(v) {
+            self.draw_up(known, v, block)?;
         }
         if self.is_read(v) {
             self.adjust(v, block, change);

@@ -14,6 +14,7 @@ mod fm;
 mod memory;
 mod mover;
 mod opening;
+mod openings;
 mod pass;
 mod possible;
 mod progress;

@@ -3,7 +3,7 @@
 ghost use Rattle.std.specs.Prelude.{◌≡◌, []};
 
 use crate::desk::Desk;
-use crate::opening::Openings;
+use crate::openings::Openings;
 use std::alloc::Global;
 
 /// The memory of workers that were there before, and what vertices may do as it was read last.

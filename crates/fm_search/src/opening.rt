@@ -1,21 +1,21 @@
-//! What vertices may do where a round opens. Threads read it off the partition before the workers search, and again only
-//! around the vertices that moved since. So a search that starts from many vertices reads none of them that it doesn't
-//! come to, and in two blocks draws its rows up from it.
+//! What vertices may do where a round opens. Threads read it off the partition before the workers search, and again
+//! only around the vertices that moved since. So a search that starts from many vertices reads none of them that it
+//! doesn't come to. It draws its rows up from it: from the whole rows, which are kept on small levels, and in two
+//! blocks from what a vertex may do.
 
-ghost use Rattle.std.specs.Prelude.{◌≡◌, ◌≢◌, ℕ, ◌+◌, ◌<◌, ◌≤◌, All, IfSome, OnOk, [], length, slice_index_or, vec_len};
+ghost use Rattle.std.specs.Prelude.{◌≡◌, ◌≢◌, ◌+◌, ◌*◌, ◌^◌, ◌<◌, ◌≤◌, All, IfSome, length};
 ghost use Rattle.hg_defs.specs.Hypergraph.{vertex_count, net_count};
 ghost use Rattle.fm_search.specs.Opened.{IsBelow};
 
-use crate::cells::{BLANK, Cell, Used, share};
-use crate::reading::{Choice, Entered, MOST_PINS, WORDS_A_PIN, enter, scored};
+use crate::cells::{BLANK, Cell, Used, share, start_of};
+use crate::reading::{Choice, Entered, WORDS_A_PIN, enter, scored};
 use crew::each_chunk;
-use hg_base::{FREE, NoMemory};
+use hg_base::FREE;
 use incidence::Hypergraph;
 use move_table::Terms;
-use std::alloc::Global;
 use std::thread::Threads;
 
-/// A thread reads the vertices of so many nets at least: to start one costs as much.
+/// A thread more reads vertices for each so many nets: to start one costs as much.
 pub(crate) const LEAST_NETS: u32 = 4096;
 
 /// What one vertex may do.
@@ -27,6 +27,14 @@ pub(crate) enum Opening {
     Stays,
     /// Where it gains most, the lowest block at a tie, whether there is room or not.
     Moves(Choice),
+}
+
+/// What is known of all vertices where a round opens, or of none: what they may do, and their rows one after the other
+/// where whole rows are kept.
+#[derive(Clone, Copy)]
+pub(crate) struct Known<'a> {
+    pub(crate) openings: &'a [Opening],
+    pub(crate) rows: &'a [Cell],
 }
 
 /// Enters a net by its counts in all blocks, until all of its pins are found.
@@ -148,6 +156,33 @@ fn highest(row: &[Cell], used: &Used, block: u32) -> Option<Choice>
     best
 }
 
+/// Enters the nets of a vertex in `block` into its row, in which no cell is used. That of its own block is then.
+fn read_row(h: &Hypergraph, terms: &Terms, row: &mut [Cell], used: &mut Used, v: u32, block: u32)
+    requires belongs { terms.now.part.hyper ≡ h.now }
+    requires vertex { v < vertex_count h.now }
+    requires block { block < terms.now.part.k }
+    requires row { length row.old ≡ terms.now.part.k }
+    requires few { terms.now.part.k ≤ 256 }
+    ensures row { length row.new ≡ length row.old }
+{
+    used.reach(row, block);
+    'nets: for e in h.nets_of(v) {
+        enter_net(h, terms, row, used, *e, block);
+    }
+}
+
+/// What a free vertex in `block` may do, by its row.
+fn opening_of(row: &[Cell], used: &Used, block: u32) -> Opening
+    requires few { length row.now ≤ 256 }
+    requires block { block < length row.now }
+    ensures below { IsBelow (length row.now) result }
+{
+    match highest(row, used, block) {
+        Some(choice) => Opening::Moves(choice),
+        None => Opening::Stays,
+    }
+}
+
 /// Reads what a vertex may do.
 fn read_opening(h: &Hypergraph, terms: &Terms, row: &mut [Cell], v: u32) -> Opening
     requires belongs { terms.now.part.hyper ≡ h.now }
@@ -162,18 +197,26 @@ fn read_opening(h: &Hypergraph, terms: &Terms, row: &mut [Cell], v: u32) -> Open
     }
     let block = terms.part.blocks()[v as usize];
     let mut used = Used::none();
-    used.reach(row, block);
-    'nets: for e in h.nets_of(v) {
-        enter_net(h, terms, row, &mut used, *e, block);
-    }
-    match highest(row, &used, block) {
-        Some(choice) => Opening::Moves(choice),
-        None => Opening::Stays,
+    read_row(h, terms, row, &mut used, v, block);
+    opening_of(row, &used, block)
+}
+
+/// Whether a vertex wasn't read and is marked.
+fn is_due(opening: &Opening, cut: bool) -> bool {
+    match opening {
+        Opening::Unread => cut,
+        Opening::Stays | Opening::Moves(_) => false,
     }
 }
 
 /// Reads the marked vertices of a run that weren't read.
-fn read_run(h: &Hypergraph, terms: &Terms, cut: &[bool], first: usize, run: &mut [Opening])
+pub(crate) fn read_run(
+    h: &Hypergraph,
+    terms: &Terms,
+    cut: &[bool],
+    first: usize,
+    run: &mut [Opening],
+)
     requires belongs { terms.now.part.hyper ≡ h.now }
     requires few { terms.now.part.k ≤ 256 }
     requires marks { length cut.now ≡ vertex_count h.now }
@@ -186,135 +229,184 @@ fn read_run(h: &Hypergraph, terms: &Terms, cut: &[bool], first: usize, run: &mut
     let mut cells = [BLANK; 256];
     let row = &mut cells[..terms.part.k() as usize];
     'vertices: for i in 0..run.len() {
-        if let Opening::Unread = run[i] {
-            if cut[first + i] {
-                run[i] = read_opening(h, terms, row, (first + i) as u32);
-            }
+        if is_due(&run[i], cut[first + i]) {
+            run[i] = read_opening(h, terms, row, (first + i) as u32);
         }
     }
 }
 
-/// Reads the marked vertices that weren't read, by at most so many threads.
-fn read_marked<H: Threads + Sync>(
+/// Reads the whole rows of the marked free vertices that weren't read, of those from a first one on whose rows stand in
+/// a run.
+fn read_rows(
+    h: &Hypergraph,
+    terms: &Terms,
+    cut: &[bool],
+    all: &[Opening],
+    first: usize,
+    run: &mut [Cell],
+)
+    requires belongs { terms.now.part.hyper ≡ h.now }
+    requires marks { length cut.now ≡ vertex_count h.now }
+    requires long { length all.now ≡ vertex_count h.now }
+    ensures { length run.new ≡ length run.old }
+{
+    let _vertices = h.vertices();
+    let blocks = terms.part.blocks();
+    let k = terms.part.k();
+    'vertices: for v in first..all.len() {
+        let start = start_of((v - first) as u32, k);
+        let Some(row) = run.get_mut(start..start + k as usize) else {
+            return;
+        };
+        if is_due(&all[v], cut[v]) && h.fix(v as u32) == FREE {
+            row.fill(BLANK);
+            read_row(h, terms, row, &mut Used::none(), v as u32, blocks[v]);
+        }
+    }
+}
+
+/// Tells what a vertex may do, by its whole row.
+fn choose(h: &Hypergraph, terms: &Terms, rows: &[Cell], v: u32) -> Opening
+    requires belongs { terms.now.part.hyper ≡ h.now }
+    requires vertex { v < vertex_count h.now }
+    ensures { IsBelow terms.now.part.k result }
+{
+    let block = terms.part.blocks()[v as usize];
+    let start = start_of(v, terms.part.k());
+    match rows.get(start..start + terms.part.k() as usize) {
+        Some(row) if h.fix(v) == FREE => opening_of(row, &Used::all(), block),
+        _ => Opening::Stays,
+    }
+}
+
+/// Tells what the marked vertices of a run may do that weren't read, by their whole rows.
+fn choose_run(
+    h: &Hypergraph,
+    terms: &Terms,
+    cut: &[bool],
+    rows: &[Cell],
+    first: usize,
+    run: &mut [Opening],
+)
+    requires belongs { terms.now.part.hyper ≡ h.now }
+    requires marks { length cut.now ≡ vertex_count h.now }
+    requires within { first + length run.old ≤ vertex_count h.now }
+    requires below { All (IsBelow terms.now.part.k) run.old }
+    ensures long { length run.new ≡ length run.old }
+    ensures below { All (IsBelow terms.now.part.k) run.new }
+{
+    let _vertices = h.vertices();
+    'vertices: for i in 0..run.len() {
+        if is_due(&run[i], cut[first + i]) {
+            run[i] = choose(h, terms, rows, (first + i) as u32);
+        }
+    }
+}
+
+/// Reads what the marked vertices may do that weren't read, a thread for each run of so many.
+fn read_all<H: Threads + Sync>(
     rt: &H,
     h: &Hypergraph,
     terms: &Terms,
     cut: &[bool],
-    threads: u32,
+    size: usize,
     all: &mut [Opening],
 )
     requires belongs { terms.now.part.hyper ≡ h.now }
     requires few { terms.now.part.k ≤ 256 }
-    requires threads { (1 ≤ threads) × (threads ≤ 64) }
+    requires size { 0 < size }
+    requires marks { length cut.now ≡ vertex_count h.now }
+    requires long { length all.old ≤ vertex_count h.now }
+    requires below { All (IsBelow terms.now.part.k) all.old }
+    ensures long { length all.new ≡ length all.old }
+    ensures below { All (IsBelow terms.now.part.k) all.new }
+{
+    each_chunk(
+        rt,
+        all,
+        size,
+        &|first: usize, run: &mut [Opening]|
+            requires { (first + length run.now ≤ vertex_count h.now) × (terms.now.part.hyper ≡ h.now)
+                × (terms.now.part.k ≤ 256) × (length cut.now ≡ vertex_count h.now)
+                × All (IsBelow terms.now.part.k) run.now }
+            ensures { (length run.exit.now ≡ length run.entry.now)
+                × All (IsBelow terms.entry.now.part.k) run.exit.now }
+        { read_run(h, terms, cut, first, run) },
+    );
+}
+
+/// Reads the whole rows of the marked vertices that weren't read, a thread for each run of so many, and then tells what
+/// they may do.
+fn read_whole<H: Threads + Sync>(
+    rt: &H,
+    h: &Hypergraph,
+    terms: &Terms,
+    cut: &[bool],
+    size: u32,
+    all: &mut [Opening],
+    rows: &mut [Cell],
+)
+    requires belongs { terms.now.part.hyper ≡ h.now }
+    requires size { 0 < size }
     requires marks { length cut.now ≡ vertex_count h.now }
     requires long { length all.old ≡ vertex_count h.now }
     requires below { All (IsBelow terms.now.part.k) all.old }
     ensures long { length all.new ≡ length all.old }
     ensures below { All (IsBelow terms.now.part.k) all.new }
 {
-    let runs = threads.min(1 + h.nets() / LEAST_NETS);
-    let size = h.vertices().div_ceil(runs).max(1);
+    let _blocks = terms.part.blocks();
+    let k = terms.part.k() as usize;
+    let known = &*all;
+    each_chunk(
+        rt,
+        rows,
+        start_of(size, terms.part.k()).max(1),
+        &|place: usize, run: &mut [Cell]|
+            requires { (2 ≤ k) × (terms.now.part.hyper ≡ h.now) × (length cut.now ≡ vertex_count h.now)
+                × (length known.now ≡ vertex_count h.now) }
+            ensures { length run.exit.now ≡ length run.entry.now }
+        { read_rows(h, terms, cut, known, place / k, run) },
+    );
+    let rows = &*rows;
     each_chunk(
         rt,
         all,
         size as usize,
         &|first: usize, run: &mut [Opening]|
-            requires { (first + length run.now ≤ vertex_count h.now) × (terms.now.part.hyper ≡ h.now) × (terms.now.part.k ≤ 256)
+            requires { (first + length run.now ≤ vertex_count h.now) × (terms.now.part.hyper ≡ h.now)
                 × (length cut.now ≡ vertex_count h.now) × All (IsBelow terms.now.part.k) run.now }
-            ensures { (length run.exit.now ≡ length run.entry.now) × All (IsBelow terms.entry.now.part.k) run.exit.now }
-        { read_run(h, terms, cut, first, run) },
+            ensures { (length run.exit.now ≡ length run.entry.now)
+                × All (IsBelow terms.entry.now.part.k) run.exit.now }
+        { choose_run(h, terms, cut, rows, first, run) },
     );
 }
 
-/// Forgets what vertices may do that stand in other blocks than before, and what those on their nets may, but for large
-/// ones. The blocks are then those where they stand.
-fn forget_moved(h: &Hypergraph, terms: &Terms, blocks: &mut [u32], all: &mut [Opening])
+/// Reads what the marked vertices may do that weren't read, by at most so many threads: of the first vertices, or of
+/// all with their whole rows, where these are kept.
+pub(crate) fn read_marked<H: Threads + Sync>(
+    rt: &H,
+    h: &Hypergraph,
+    terms: &Terms,
+    cut: &[bool],
+    threads: u32,
+    all: &mut [Opening],
+    rows: &mut [Cell],
+)
     requires belongs { terms.now.part.hyper ≡ h.now }
-    requires known { length blocks.old ≡ vertex_count h.now }
-    requires long { length all.old ≡ vertex_count h.now }
+    requires threads { (1 ≤ threads) × (threads ≤ 64) }
+    requires marks { length cut.now ≡ vertex_count h.now }
+    requires long { length all.old ≤ vertex_count h.now }
     requires below { All (IsBelow terms.now.part.k) all.old }
-    ensures known { length blocks.new ≡ length blocks.old }
     ensures long { length all.new ≡ length all.old }
     ensures below { All (IsBelow terms.now.part.k) all.new }
 {
-    'vertices: for v in 0..h.vertices() {
-        let block = terms.part.blocks()[v as usize];
-        if blocks[v as usize] == block {
-            continue;
-        }
-        blocks[v as usize] = block;
-        all[v as usize] = Opening::Unread;
-        'nets: for e in h.nets_of(v) {
-            let pins = h.pins(*e);
-            if pins.len() > MOST_PINS {
-                continue;
-            }
-            'pins: for u in pins {
-                all[*u as usize] = Opening::Unread;
-            }
-        }
-    }
-}
-
-/// What vertices may do, and the blocks where they stood when it was read.
-#[derive(Drop)]
-pub(crate) struct Openings {
-    pub(crate) all: Vec<Opening>,
-    blocks: Vec<u32>,
-}
-
-impl Openings {
-    /// Nothing is read.
-    pub(crate) fn none(alloc: Global) -> Self
-        ensures { result.all.items ≡ [] }
-    {
-        Openings {
-            all: Vec::new(alloc),
-            blocks: Vec::new(alloc),
-        }
-    }
-
-    /// Makes room for all vertices, of which none is read.
-    fn fill(&mut self, blocks: &[u32]) -> Result<(), NoMemory>
-        ensures below { (k : ℕ) → All (IsBelow k) self.new.all.items }
-        ensures full { OnOk result (vec_len self.new.all ≡ length blocks.now) }
-        ensures known { OnOk result (vec_len self.new.blocks ≡ length blocks.now) }
-    {
-        self.all.clear();
-        self.blocks.clear();
-        self.blocks.extend_from_slice(blocks)?;
-        self.all.resize(blocks.len(), Opening::Unread)?;
-        Ok(())
-    }
-
-    /// Reads what the marked vertices may do, as far as it may have changed since it was read last, by at most so
-    /// many threads.
-    pub(crate) fn read<H: Threads + Sync>(
-        &mut self,
-        rt: &H,
-        h: &Hypergraph,
-        terms: &Terms,
-        cut: &[bool],
-        threads: u32,
-    ) -> Result<(), NoMemory>
-        requires belongs { terms.now.part.hyper ≡ h.now }
-        requires threads { (1 ≤ threads) × (threads ≤ 64) }
-        requires marks { length cut.now ≡ vertex_count h.now }
-        requires below { All (IsBelow terms.now.part.k) self.old.all.items }
-        ensures below { All (IsBelow terms.now.part.k) self.new.all.items }
-        ensures full { OnOk result (vec_len self.new.all ≡ vertex_count h.now) }
-    {
-        let blocks = terms.part.blocks();
-        if self.all.len() != blocks.len() || self.blocks.len() != blocks.len() {
-            self.fill(blocks)?;
-        }
-        forget_moved(
-            h,
-            terms,
-            self.blocks.as_mut_slice(),
-            self.all.as_mut_slice(),
-        );
-        read_marked(rt, h, terms, cut, threads, self.all.as_mut_slice());
-        Ok(())
+    let _blocks = terms.part.blocks();
+    let vertices = h.vertices();
+    let runs = threads.min(1 + h.nets() / LEAST_NETS);
+    let size = (all.len() as u32).div_ceil(runs).max(1);
+    if rows.is_empty() || all.len() < vertices as usize {
+        read_all(rt, h, terms, cut, size as usize, all);
+    } else {
+        read_whole(rt, h, terms, cut, size, all, rows);
     }
 }

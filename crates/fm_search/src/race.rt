@@ -12,8 +12,9 @@ use crate::begin::open_round;
 use crate::desk::Desk;
 use crate::memory::Memory;
 use crate::mover::Mover;
+use crate::opening::Known;
 use crate::progress::Progress;
-use crate::seeds::{cut_marks, first_place};
+use crate::seeds::first_place;
 use crate::shared::Shared;
 use crate::worker::Worker;
 use crew::{Gate, each};
@@ -137,16 +138,7 @@ pub(crate) fn race<H: Threads + Sync, G: Gate>(
     ensures memory { IsMemoryFor p.k memory.new }
 {
     let (k, limit) = (p.k(), p.limit());
-    let cut = cut_marks(rt, alloc, h, &p, task.workers)?;
-    let (round, passes, seeds) = open_round(
-        rt,
-        alloc,
-        h,
-        p,
-        cut.as_slice(),
-        task.workers,
-        &mut memory.openings,
-    )?;
+    let (round, passes, seeds) = open_round(rt, alloc, h, p, task.workers, &mut memory.openings)?;
     let first = first_place(seeds.len(), task.seed, task.level);
     let mut workers = workers_of(alloc, h, k, passes, &mut memory.desks)?;
     let progress = Progress::new();
@@ -159,7 +151,10 @@ pub(crate) fn race<H: Threads + Sync, G: Gate>(
         seeds: seeds.as_slice(),
         first,
         progress: &progress,
-        openings: memory.openings.all.as_slice(),
+        known: Known {
+            openings: memory.openings.all.as_slice(),
+            rows: memory.openings.rows.as_slice(),
+        },
     };
     search_all(rt, gate, &shared, workers.as_mut_slice());
     if progress.is_stopped() {

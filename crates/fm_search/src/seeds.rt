@@ -6,35 +6,35 @@ ghost use Rattle.hg_defs.specs.Hypergraph.{vertex_count, net_count};
 use crew::{Span, each, span_of};
 use hg_base::NoMemory;
 use incidence::Hypergraph;
-use pin_plain::Partition;
+use move_table::Terms;
 use rand_core::utils::NextWord;
 use rand_pcg::Lcg64Xsh32;
 use std::alloc::Global;
 use std::thread::Threads;
 
-/// A thread marks the pins of so many nets at least: to start one costs as much.
+/// A thread more marks pins for each so many nets: to start one costs as much.
 const LEAST_NETS: u32 = 16384;
 
 /// Whether a net touches two blocks at least.
-fn is_cut(h: &Hypergraph, p: &Partition, e: u32) -> bool
-    requires belongs { p.now.hyper ≡ h.now }
+fn is_cut(h: &Hypergraph, terms: &Terms, e: u32) -> bool
+    requires belongs { terms.now.part.hyper ≡ h.now }
     requires net { e < net_count h.now }
 {
     let pins = h.pins(e);
     match pins.first() {
-        Some(v) => (p.count(e, p.blocks()[*v as usize]) as usize) < pins.len(),
+        Some(v) => (terms.count(e, terms.part.blocks()[*v as usize]) as usize) < pins.len(),
         None => false,
     }
 }
 
 /// Marks the pins of the cut nets of a span.
-fn mark_span(h: &Hypergraph, p: &Partition, span: Span, cut: &mut [bool])
-    requires belongs { p.now.hyper ≡ h.now }
+fn mark_span(h: &Hypergraph, terms: &Terms, span: Span, cut: &mut [bool])
+    requires belongs { terms.now.part.hyper ≡ h.now }
     requires within { span.to ≤ net_count h.now }
     requires long { length cut.old ≡ vertex_count h.now }
 {
     for e in span.from..span.to {
-        if is_cut(h, p, e) {
+        if is_cut(h, terms, e) {
             for v in h.pins(e) {
                 cut[*v as usize] = true;
             }
@@ -43,8 +43,8 @@ fn mark_span(h: &Hypergraph, p: &Partition, span: Span, cut: &mut [bool])
 }
 
 /// Marks the pins of the cut nets, each list of marks those of its share of the nets, all at once.
-fn mark_all<H: Threads + Sync>(rt: &H, h: &Hypergraph, p: &Partition, cuts: &mut [Vec<bool>])
-    requires belongs { p.now.hyper ≡ h.now }
+fn mark_all<H: Threads + Sync>(rt: &H, h: &Hypergraph, terms: &Terms, cuts: &mut [Vec<bool>])
+    requires belongs { terms.now.part.hyper ≡ h.now }
     requires few { length cuts.old ≤ 64 }
     requires long { All (λ cut. vec_len cut ≡ vertex_count h.now) cuts.old }
     ensures { All (λ cut. vec_len cut ≡ vertex_count h.now) cuts.new }
@@ -54,12 +54,13 @@ fn mark_all<H: Threads + Sync>(rt: &H, h: &Hypergraph, p: &Partition, cuts: &mut
         rt,
         cuts,
         &|i, cut: &mut Vec<bool>|
-            requires { (i < shares) × (shares ≤ 64) × (p.now.hyper ≡ h.now) × (vec_len cut.now ≡ vertex_count h.now) }
+            requires { (i < shares) × (shares ≤ 64) × (terms.now.part.hyper ≡ h.now)
+                × (vec_len cut.now ≡ vertex_count h.now) }
             ensures { vec_len cut.exit.now ≡ vertex_count h.entry.now }
         {
             mark_span(
                 h,
-                p,
+                terms,
                 span_of(h.nets(), shares, i as u32),
                 cut.as_mut_slice(),
             )
@@ -110,16 +111,16 @@ pub(crate) fn cut_marks<H: Threads + Sync>(
     rt: &H,
     alloc: Global,
     h: &Hypergraph,
-    p: &Partition,
+    terms: &Terms,
     workers: u32,
 ) -> Result<Vec<bool>, NoMemory>
-    requires belongs { p.now.hyper ≡ h.now }
+    requires belongs { terms.now.part.hyper ≡ h.now }
     requires workers { (1 ≤ workers) × (workers ≤ 64) }
     ensures { IfOk result (λ cut. vec_len cut ≡ vertex_count h.now) }
 {
     let lists = workers.min(1 + h.nets() / LEAST_NETS);
     let mut cuts = blank_marks(alloc, h.vertices(), lists)?;
-    mark_all(rt, h, p, cuts.as_mut_slice());
+    mark_all(rt, h, terms, cuts.as_mut_slice());
     let mut cut = vec![in alloc; false; h.vertices() as usize]?;
     'lists: for more in cuts.as_slice() {
         add_marks(cut.as_mut_slice(), more.as_slice());

@@ -5,7 +5,7 @@ ghost use Rattle.hg_defs.specs.Hypergraph.{vertex_count};
 ghost use Rattle.std.proofs.Props.{props};
 ghost use Rattle.fm_search.specs.Opened.{IsBelow};
 
-use crate::opening::Opening;
+use crate::opening::Known;
 use crate::progress::Progress;
 use incidence::Hypergraph;
 use move_table::Round;
@@ -21,7 +21,7 @@ const MOST_SEED_CELLS: u64 = 1 << 16;
 const FEW_SEEDS: u64 = 2048;
 
 /// The round, its hypergraph, its number of blocks and its limit, the number of workers, the seeds with the place of
-/// the first one that is drawn, how far the round has come, and what the vertices may do at its opening.
+/// the first one that is drawn, how far the round has come, and what is known of the vertices at its opening.
 #[derive(Drop)]
 pub(crate) struct Shared<'a> {
     pub(crate) round: &'a Round<'a>,
@@ -32,15 +32,15 @@ pub(crate) struct Shared<'a> {
     pub(crate) seeds: &'a [u32],
     pub(crate) first: u32,
     pub(crate) progress: &'a Progress,
-    pub(crate) openings: &'a [Opening],
+    pub(crate) known: Known<'a>,
     ghost hyper: { round.now.terms.part.hyper ≡ h.now },
     ghost blocks: { round.now.terms.part.k ≡ k },
     ghost few: { k ≤ 256 },
     ghost seeded: { All (λ v. v < vertex_count h.now) seeds.now },
     ghost countable: { length seeds.now < 2 ^ 31 },
     ghost begins: { first ≤ length seeds.now },
-    ghost opened: { length openings.now ≡ vertex_count h.now },
-    ghost below: { All (IsBelow k) openings.now } by { Prim.hlevel props },
+    ghost opened: { length known.openings.now ≡ vertex_count h.now },
+    ghost below: { All (IsBelow k) known.openings.now } by { Prim.hlevel props },
 }
 
 impl Shared<'_> {

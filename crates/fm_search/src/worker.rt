@@ -9,7 +9,7 @@ ghost use Rattle.fm_search.specs.Opened.{IsBelow};
 use crate::change::Change;
 use crate::desk::Desk;
 use crate::mover::{Mover, Outcome};
-use crate::opening::Opening;
+use crate::opening::{Known, Opening};
 use crate::reading::{Choice, MOST_PINS, scored};
 use crate::shared::{Apart, Shared};
 use crate::streak::Streak;
@@ -30,9 +30,9 @@ pub(crate) struct Worker {
 }
 
 impl Worker {
-    /// Tells where a vertex gains most, by its row where it has one and nobody else has moved anything in this round,
-    /// and else by gains that are read anew. One that another worker has moved by now isn't read: it stands in another
-    /// block than at the opening.
+    /// Tells where a vertex gains most, by its row where it has one, or one can be drawn up, and nobody else has moved
+    /// anything in this round, and else by gains that are read anew. One that another worker has moved by now isn't
+    /// read: it stands in another block than at the opening.
     fn look(&mut self, shared: &Shared<'_>, v: u32, block: u32) -> Result<Option<Choice>, NoMemory>
         requires fit { IsFit shared.now.round.now shared.now.h.now shared.now.k self.old.mover self.old.desk }
         requires vertex { v < vertex_count shared.now.h.now }
@@ -45,6 +45,10 @@ impl Worker {
         if shared.workers > 1 && self.mover.block(shared.round, v) != block {
             self.desk.leave(v);
             return Ok(None);
+        }
+        if !self.desk.is_read(v) {
+            let known = self.known(shared);
+            self.desk.draw_up(&known, v, block)?;
         }
         if self.desk.is_read(v) && shared.progress.moves() == self.made {
             return Ok(self.desk.choose(shared, &mut self.mover, v, block));
@@ -86,7 +90,7 @@ impl Worker {
         ensures mover { self.new.mover ≡ self.old.mover }
         ensures desk { self.new.desk ≡ self.old.desk }
     {
-        let Opening::Moves(choice) = shared.openings[v as usize] else {
+        let Opening::Moves(choice) = shared.known.openings[v as usize] else {
             return Ok(());
         };
         let load = self.mover.load(shared.round, choice.to);
@@ -99,16 +103,19 @@ impl Worker {
         self.offer(shared, v)
     }
 
-    /// What vertices may do, where rows can be drawn up from it: in two blocks, while nobody has moved anything since
-    /// it was read but this worker in the search that it grows. Else nothing.
-    fn openings<'s>(&self, shared: &'s Shared<'_>) -> &'s [Opening]
-        ensures { All (IsBelow shared.now.k) result.now }
+    /// What is known of vertices, where rows can be drawn up from it: in two blocks or where whole rows are kept, while
+    /// nobody has moved anything since the round opened but this worker in the search that it grows. Else nothing.
+    fn known<'s>(&self, shared: &'s Shared<'_>) -> Known<'s>
+        ensures { All (IsBelow shared.now.k) result.openings.now }
     {
-        let all = shared.openings;
-        if shared.k == 2 && self.before == 0 && shared.progress.moves() == self.made {
-            all
-        } else {
-            &all[..0]
+        let Known { openings, rows } = shared.known;
+        let is_enough = shared.k == 2 || !rows.is_empty();
+        if is_enough && self.before == 0 && shared.progress.moves() == self.made {
+            return shared.known;
+        }
+        Known {
+            openings: &openings[..0],
+            rows: &rows[..0],
         }
     }
 
@@ -116,13 +123,13 @@ impl Worker {
     fn tell_net(
         &mut self,
         shared: &Shared<'_>,
-        openings: &[Opening],
+        known: &Known<'_>,
         e: u32,
         from: u32,
         to: u32,
     ) -> Result<(), NoMemory>
         requires fit { IsFit shared.now.round.now shared.now.h.now shared.now.k self.old.mover self.old.desk }
-        requires openings { All (IsBelow shared.now.k) openings.now }
+        requires known { All (IsBelow shared.now.k) known.now.openings.now }
         requires net { e < net_count shared.now.h.now }
         requires pins { 2 ≤ length (net_of shared.now.h.now e).pins }
         requires from { from < shared.now.k }
@@ -139,7 +146,7 @@ impl Worker {
         }
         'pins: for v in shared.h.pins(e) {
             self.desk
-                .tell(openings, *v, shared.round.opening(*v), &change)?;
+                .tell(known, *v, shared.round.opening(*v), &change)?;
         }
         Ok(())
     }
@@ -153,11 +160,11 @@ impl Worker {
         ensures mover { self.new.mover ≡ self.old.mover }
         ensures desk { self.new.desk ≡ self.old.desk }
     {
-        let openings = self.openings(shared);
+        let known = self.known(shared);
         'nets: for e in shared.h.nets_of(v) {
             let size = shared.h.pins(*e).len();
             if size >= 2 && size <= MOST_PINS {
-                self.tell_net(shared, openings, *e, from, to)?;
+                self.tell_net(shared, &known, *e, from, to)?;
             }
         }
         self.desk.approach(shared, &mut self.mover);

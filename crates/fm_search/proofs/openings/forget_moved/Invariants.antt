@@ -1,7 +1,7 @@
 use Rattle.std.proofs.Common.{◌≡◌, All, length}
 use Rattle.hg_defs.specs.Hypergraph.{vertex_count}
 use Rattle.fm_search.specs.Opened.{IsBelow}
-use Rattle.fm_search.proofs.opening.forget_moved.Given as goal
+use Rattle.fm_search.proofs.openings.forget_moved.Given as goal
 
 abbrev pub invariant-vertices : goal.invariant-vertices
 invariant-vertices l = record {
