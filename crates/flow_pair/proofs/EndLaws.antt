@@ -1,6 +1,6 @@
 -- The end of a pair: the side of a minimum cut is a cheapest assignment of the region.
 use Rattle.std.proofs.Common.{◌≡◌, ◌≢◌, ◌⊎◌, inl, inr, ℕ, ◌+◌, ◌^◌, ◌<◌, ◌≤◌, Bool}
-use Rattle.std.proofs.Common.{if◌then◌else◌, List, length, All}
+use Rattle.std.proofs.Common.{if◌then◌else◌, List, ◌++◌, length, All, ap₂}
 use Rattle.std.proofs.Common.{Contains, refl, sym, ap, ◌∙◌, subst, arith, slice_index}
 use Rattle.std.specs.List.Sorted.{IsStrictlyIncreasing}
 use Rattle.std.proofs.lemmas.List.{get_or_default}
@@ -17,6 +17,7 @@ use Rattle.round_log.proofs.AssignmentLaws.{assignment-fits}
 use Rattle.flow_pair.specs.declared.solve.PairEnd.{PairEnd}
 use Rattle.flow_pair.specs.PairNetwork.{source_node, sink_node, AreOfPair}
 use Rattle.flow_pair.specs.PairEnds.{reassigned, IsPairEnd}
+use Rattle.flow_pair.proofs.NetLaws.{all_from_set}
 use Rattle.flow_pair.proofs.PairLaws.{IsRearranged, rearranged}
 use Rattle.flow_pair.proofs.ReassignLaws.{reassigned-at, assigned_anew, anew_places}
 use Rattle.flow_pair.proofs.CheapestLaws.{CutsPay, HasPlaces, value-is, value-bound, cheapest}
@@ -41,6 +42,13 @@ region_vertices h l p a b sound = All-weaker (Contains (region h l p a b)) (λ v
     by : (v : ℕ) → Contains (side h l p a b) v ⊎ Contains (side h l p b a) v → v < vertex_count h
     by v (inl c) = ranked a b v (All-contains (λ u. IsNear h p a b u ⊎ IsNext h p a b u) (side h l p a b) v (side_is_ranked h l p a b) c)
     by v (inr c) = ranked b a v (All-contains (λ u. IsNear h p b a u ⊎ IsNext h p b a u) (side h l p b a) v (side_is_ranked h l p b a) c)
+
+-- and those of the sides that make it up
+pub sides-below : (h : Hyper) (l : ℕ) (p : List ℕ) (a b : ℕ) → IsHypergraph h → (firsts seconds : List ℕ) → firsts ≡ side h l p a b
+    → seconds ≡ side h l p b a → All (λ v. v < vertex_count h) (firsts ++ seconds)
+sides-below h l p a b sound firsts seconds e f =
+    subst (All (λ v. v < vertex_count h)) (sym (ap₂ (λ (xs ys : List ℕ). xs ++ ys) e f))
+    (all_from_set (λ v. v < vertex_count h) (side h l p a b ++ side h l p b a) (region_vertices h l p a b sound))
 
 -- ---- the end
 

@@ -5,6 +5,7 @@ pub mod CheapestLaws
 pub mod AssignmentLaws
 pub mod ShortLaws
 pub mod ShortArcLaws
+pub mod NoteLaws
 pub mod NetLaws
 pub mod CutNetLaws
 pub mod FormLaws

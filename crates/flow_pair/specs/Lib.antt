@@ -1,5 +1,6 @@
 pub mod PairNetwork
 pub mod ShortNetwork
+pub mod Notes
 pub mod Laws
 pub mod Sides
 pub mod CutNets

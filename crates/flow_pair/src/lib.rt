@@ -10,6 +10,7 @@ mod cut_nets;
 mod distinct;
 pub mod laws;
 mod network;
+mod notes;
 mod pair;
 mod pass;
 mod refine;

@@ -9,12 +9,13 @@ ghost use Rattle.hg_defs.specs.Hypergraph.{vertex_count, net_count, net_of};
 ghost use Rattle.hg_defs.specs.Incidence.{nets_of};
 ghost use Rattle.hg_defs.specs.Sorting.{set_of};
 ghost use Rattle.flow_pair.specs.PairNetwork.{pin_arcs, net_arcs, joined_nets, pair_network, AreOfPair};
-ghost use Rattle.flow_pair.specs.PairNetwork.{Extends, IsIdle};
+ghost use Rattle.flow_pair.specs.PairNetwork.{ArePlaces, Extends, IsIdle};
 ghost use Rattle.flow_pair.specs.Sides.{touching_nets};
 
 use crate::cut::touching_nets_of;
 use crate::distinct::distinct_of_many;
 use crate::pair::{Pair, more_than_all, place_region};
+use crate::region::make_spots;
 use flow_net::{Network, NoMemory};
 use incidence::Hypergraph;
 use pin_plain::Partition;
@@ -115,21 +116,43 @@ pub(crate) fn nets_of_pair(
     distinct_of_many(alloc, spots, nets)
 }
 
-/// The nets that hold a vertex of the region.
-pub(crate) fn nets_of_region(
+/// The nets that hold a vertex of a region.
+fn nets_of_region(
     alloc: Global,
     spots: &mut [usize],
-    pair: Pair<'_>,
+    h: &Hypergraph,
+    region: &[u32],
 ) -> Result<Vec<u32>, NoMemory>
-    requires spots { net_count pair.h.now ≤ length spots.old }
-    ensures nets { IfOk result (λ nets. nets.items ≡ set_of nat_cmp (flat_map (nets_of pair.entry.h.now)
-        pair.entry.region.now)) }
+    requires vertices { All (λ v. v < vertex_count h.now) region.now }
+    requires spots { net_count h.now ≤ length spots.old }
+    ensures size { length spots.new ≡ length spots.old }
+    ensures nets { IfOk result (λ nets. nets.items ≡ set_of nat_cmp (flat_map (nets_of h.now) region.now)) }
 {
     let mut nets = Vec::new(alloc);
-    for v in pair.region {
-        nets.extend_from_slice(pair.h.nets_of(*v))?;
+    for v in region {
+        nets.extend_from_slice(h.nets_of(*v))?;
     }
     distinct_of_many(alloc, spots, nets)
+}
+
+/// Writes the places of the vertices of a region, and answers the nets that hold one of them.
+pub(crate) fn open_region(
+    alloc: Global,
+    spots: &mut Vec<usize>,
+    places: &mut Vec<u32>,
+    h: &Hypergraph,
+    region: &[u32],
+) -> Result<Vec<u32>, NoMemory>
+    requires rising { IsStrictlyIncreasing region.now }
+    requires vertices { All (λ v. v < vertex_count h.now) region.now }
+    ensures spots { OnOk result (net_count h.now ≤ length spots.new.items) }
+    ensures long { OnOk result (length places.new.items ≡ vertex_count h.now) }
+    ensures placed { OnOk result (ArePlaces region.now places.new.items) }
+    ensures nets { IfOk result (λ nets. nets.items ≡ set_of nat_cmp (flat_map (nets_of h.now) region.now)) }
+{
+    make_spots(spots, h)?;
+    place_region(h, region, places)?;
+    nets_of_region(alloc, spots.as_mut_slice(), h, region)
 }
 
 /// A network of the source, the sink and the region alone.
@@ -163,15 +186,7 @@ pub fn region_network(
     let touching = touching_nets_of(alloc, h, p, a, b)?;
     let mut places = Vec::new(alloc);
     place_region(h, region, &mut places)?;
-    let pair = Pair {
-        h,
-        blocks: p.blocks(),
-        first: a,
-        second: b,
-        region,
-        places: places.as_slice(),
-        most: more_than_all(h),
-    };
+    let pair = Pair::of(h, p, a, b, region, places.as_slice(), more_than_all(h));
     let mut spots = vec![in alloc; 0usize; h.nets() as usize]?;
     let nets = nets_of_pair(alloc, spots.as_mut_slice(), pair, touching.as_slice())?;
     let mut network = bare_network(alloc, pair)?;

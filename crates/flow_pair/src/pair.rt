@@ -11,6 +11,7 @@ ghost use Rattle.hg_defs.specs.Partition.{block_of};
 use flow_net::NoMemory;
 use hg_base::Objective;
 use incidence::Hypergraph;
+use pin_plain::Partition;
 
 /// Two blocks of a partition of a hypergraph, and a region of vertices in strictly rising order.
 #[derive(Clone, Copy)]
@@ -94,7 +95,40 @@ pub(crate) fn place_region(
     Ok(())
 }
 
-impl Pair<'_> {
+impl<'a> Pair<'a> {
+    /// Lends two blocks of a partition, and a region with the places of its vertices.
+    pub(crate) fn of(
+        h: &'a Hypergraph,
+        p: &'a Partition,
+        first: u32,
+        second: u32,
+        region: &'a [u32],
+        places: &'a [u32],
+        most: u64,
+    ) -> Pair<'a>
+        requires belongs { p.now.hyper ≡ h.now }
+        requires rising { IsStrictlyIncreasing region.now }
+        requires vertices { All (λ v. v < vertex_count h.now) region.now }
+        requires long { length places.now ≡ vertex_count h.now }
+        requires placed { ArePlaces region.now places.now }
+        requires most { (most ≡ unbounded h.now) × (most ≤ 2 ^ 56) }
+        ensures hyper { result.h.now ≡ h.now }
+        ensures blocks { result.blocks.now ≡ p.now.blocks }
+        ensures first { result.first ≡ first }
+        ensures second { result.second ≡ second }
+        ensures region { result.region.now ≡ region.now }
+    {
+        Pair {
+            h,
+            blocks: p.blocks(),
+            first,
+            second,
+            region,
+            places,
+            most,
+        }
+    }
+
     /// The place of a vertex in the region, or the region's length where it is not there.
     pub(crate) fn place(&self, v: u32) -> usize
         requires { v < vertex_count self.now.h.now }

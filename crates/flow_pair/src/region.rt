@@ -14,7 +14,7 @@ ghost use Rattle.flow_pair.specs.Sides.{touching_nets, is_free_in, free_pins, is
 ghost use Rattle.flow_pair.specs.Sides as sides;
 ghost use Rattle.flow_pair.specs.Sides.{TakesAll, WeighsAtLeast, IsNoted};
 
-use crate::distinct::{distinct, distinct_of_many, is_kept, note_places, push_if};
+use crate::distinct::{distinct_of_many, is_kept, note_places, push_if, without};
 use crate::pair::contains;
 use flow_net::NoMemory;
 use hg_base::{FREE, Verts};
@@ -25,6 +25,10 @@ use std::thread::{Threads, join_mut};
 
 /// The most pins of a net through which a region grows.
 const MOST_PINS: usize = 1000;
+
+/// A region is formed by two threads where so many nets touch both blocks: to form it from fewer takes little longer
+/// than to start one.
+const LEAST_NETS: usize = 1024;
 
 /// So many vertices are asked in the time in which a net of a near vertex and its pins are listed.
 const VERTICES_A_NET: usize = 64;
@@ -85,6 +89,7 @@ fn free_on(
     ensures size { length spots.new ≡ length spots.old }
     ensures list { IfOk result (λ list. list.items ≡ set_of nat_cmp (flat_map (free_pins h.now blocks.now block)
         nets.now)) }
+    ensures below { IfOk result (λ list. All (λ v. v < vertex_count h.now) list.items) }
 {
     let mut list = Vec::new(alloc);
     for e in nets {
@@ -140,18 +145,6 @@ fn small_nets_of(
     distinct_of_many(alloc, spots, list)
 }
 
-/// The numbers of a list that aren't among some others, which rise.
-pub(crate) fn without(alloc: Global, list: &[u32], others: &[u32]) -> Result<Vec<u32>, NoMemory>
-    requires { IsStrictlyIncreasing others.now }
-    ensures { IfOk result (λ left. left.items ≡ filter (λ v. not (is_member nat_eq others.now v)) list.now) }
-{
-    let mut left = Vec::new(alloc);
-    for v in list {
-        push_if(&mut left, !contains(others, *v), *v)?;
-    }
-    Ok(left)
-}
-
 /// Takes a vertex where there is room for it. Answers the room that is left.
 fn take(h: &Hypergraph, v: u32, room: u64, list: &mut Vec<u32>) -> Result<u64, NoMemory>
     requires { v < vertex_count h.now }
@@ -204,7 +197,7 @@ fn take_listed(
 {
     let small = small_nets_of(alloc, spots, h, near)?;
     let reached = free_on(alloc, spots, h, p.blocks(), from, small.as_slice())?;
-    let next = without(alloc, reached.as_slice(), near)?;
+    let next = without(alloc, spots, reached.as_slice(), near)?;
     take_all(h, next.as_slice(), room, list)?;
     Ok(())
 }
@@ -319,9 +312,9 @@ fn scan_pays(h: &Hypergraph, near: &[u32]) -> bool
     nets.saturating_mul(VERTICES_A_NET) >= h.vertices() as usize
 }
 
-/// Appends what one block may send to the other one: free vertices on the nets that touch both, and
-/// then those on small nets that hold one of these. Where there is no room for the lightest vertex, no
-/// more of them are looked for.
+/// What one block may send to the other one, in the order in which it is taken: free vertices on the nets that touch
+/// both, and then those on small nets that hold one of these. Where there is no room for the lightest vertex, no more
+/// of them are looked for.
 fn take_side(
     alloc: Global,
     spots: &mut [usize],
@@ -331,8 +324,7 @@ fn take_side(
     to: u32,
     nets: &[u32],
     least: u64,
-    list: &mut Vec<u32>,
-) -> Result<(), NoMemory>
+) -> Result<Vec<u32>, NoMemory>
     requires belongs { p.now.hyper ≡ h.now }
     requires fits { Fits p.now.hyper p.now.k p.now.limit p.now.blocks }
     requires to { to < p.now.k }
@@ -340,25 +332,26 @@ fn take_side(
     requires least { WeighsAtLeast h.now least }
     requires spots { (vertex_count h.now ≤ length spots.old) × (net_count h.now ≤ length spots.old) }
     ensures size { length spots.new ≡ length spots.old }
-    ensures side { OnOk result (list.new.items ≡ list.old.items ++ side h.now p.now.limit p.now.blocks from to) }
+    ensures side { IfOk result (λ list. list.items ≡ side h.now p.now.limit p.now.blocks from to) }
 {
     let blocks = p.blocks();
+    let mut list = Vec::new(alloc);
     let room = p.limit() - p.weight(to);
     if room < least {
-        return Ok(());
+        return Ok(list);
     }
     let near = free_on(alloc, spots, h, blocks, from, nets)?;
-    let left = take_all(h, near.as_slice(), room, list)?;
+    let left = take_all(h, near.as_slice(), room, &mut list)?;
     if left < least {
-        return Ok(());
+        return Ok(list);
     }
     let near = near.as_slice();
     if scan_pays(h, near) {
-        take_scanned(alloc, spots, h, p, from, to, near, left, least, list)?;
+        take_scanned(alloc, spots, h, p, from, to, near, left, least, &mut list)?;
     } else {
-        take_listed(alloc, spots, h, p, from, to, near, left, list)?;
+        take_listed(alloc, spots, h, p, from, to, near, left, &mut list)?;
     }
-    Ok(())
+    Ok(list)
 }
 
 /// Makes as many spots as there are vertices or nets, whichever are more.
@@ -370,7 +363,7 @@ pub(crate) fn make_spots(spots: &mut Vec<usize>, h: &Hypergraph) -> Result<(), N
     Ok(())
 }
 
-/// What one block may send to the other one, in the order in which it is taken.
+/// What one block may send to the other one, with spots that are made first.
 fn side_of(
     alloc: Global,
     spots: &mut Vec<usize>,
@@ -389,28 +382,25 @@ fn side_of(
     ensures { IfOk result (λ list. list.items ≡ side h.now p.now.limit p.now.blocks from to) }
 {
     make_spots(spots, h)?;
-    let mut list = Vec::new(alloc);
-    take_side(
-        alloc,
-        spots.as_mut_slice(),
-        h,
-        p,
-        from,
-        to,
-        nets,
-        least,
-        &mut list,
-    )?;
-    Ok(list)
+    take_side(alloc, spots.as_mut_slice(), h, p, from, to, nets, least)
 }
 
 /// The region that two sides make up.
-fn joined(firsts: Vec<u32>, seconds: Vec<u32>) -> Result<Verts, NoMemory>
+fn joined(
+    alloc: Global,
+    spots: &mut Vec<usize>,
+    h: &Hypergraph,
+    firsts: Vec<u32>,
+    seconds: Vec<u32>,
+) -> Result<Verts, NoMemory>
+    requires { All (λ v. v < vertex_count h.now) (firsts.items ++ seconds.items) }
     ensures { IfOk result (λ region. region ≡ set_of nat_cmp (firsts.items ++ seconds.items)) }
 {
+    make_spots(spots, h)?;
     let mut list = firsts;
     list.extend_from_slice(seconds.as_slice())?;
-    Ok(Verts::from_vec(distinct(list)))
+    let region = distinct_of_many(alloc, spots.as_mut_slice(), list)?;
+    Ok(Verts::from_vec(region))
 }
 
 /// The region of a pair, formed from the nets that touch both blocks.
@@ -432,13 +422,30 @@ pub(crate) fn form_region(
     requires least { WeighsAtLeast h.now least }
     ensures { IfOk result (λ list. list ≡ region h.now p.now.limit p.now.blocks a b) }
 {
+    let _blocks = p.blocks();
     let firsts = side_of(alloc, spots, h, p, a, b, nets, least)?;
     let seconds = side_of(alloc, spots, h, p, b, a, nets, least)?;
-    joined(firsts, seconds)
+    joined(alloc, spots, h, firsts, seconds)
 }
 
-/// Does what [`form_region`] does: a new thread forms the side of the first block, with other spots, and this one
-/// that of the second block.
+/// Whether a block has room for the lightest vertex.
+fn has_room(p: &Partition, block: u32, least: u64) -> bool
+    requires { block < p.now.k }
+{
+    p.limit().saturating_sub(p.weight(block)) >= least
+}
+
+/// Whether it pays to form the region of a pair by two threads, one for each block: many nets touch both blocks, and
+/// neither of them is full.
+fn two_pay(p: &Partition, a: u32, b: u32, nets: &[u32], least: u64) -> bool
+    requires order { a < b }
+    requires blocks { b < p.now.k }
+{
+    nets.len() >= LEAST_NETS && has_room(p, a, least) && has_room(p, b, least)
+}
+
+/// Does what [`form_region`] does. Where that pays, a new thread forms the side of the first block, with other spots,
+/// and this one that of the second block.
 pub(crate) fn form_region_with<R: Threads + Sync>(
     rt: &R,
     alloc: Global,
@@ -459,6 +466,10 @@ pub(crate) fn form_region_with<R: Threads + Sync>(
     requires least { WeighsAtLeast h.now least }
     ensures { IfOk result (λ list. list ≡ region h.now p.now.limit p.now.blocks a b) }
 {
+    if !two_pay(p, a, b, nets, least) {
+        return form_region(alloc, spots, h, p, a, b, nets, least);
+    }
+    let _blocks = p.blocks();
     let mut front = ||
         requires belongs { p.now.hyper ≡ h.now }
         requires fits { Fits p.now.hyper p.now.k p.now.limit p.now.blocks }
@@ -476,5 +487,5 @@ pub(crate) fn form_region_with<R: Threads + Sync>(
         ensures { IfOk result (λ list. list.items ≡ side h.entry.now p.entry.now.limit p.entry.now.blocks b a) }
     { side_of(alloc, spots, h, p, b, a, nets, least) };
     let (firsts, seconds) = join_mut(rt, &mut front, &mut back);
-    joined(firsts?, seconds?)
+    joined(alloc, spots, h, firsts?, seconds?)
 }

@@ -1,26 +1,27 @@
 //! The network that the solver makes of a region: without pins outside of it, and without nets that are cut
 //! whatever the region does, whose cost is known beforehand.
 
-ghost use Rattle.std.specs.Prelude.{◌≡◌, ◌+◌, ◌*◌, ◌^◌, ◌<◌, ◌≤◌, [], ◌∷◌, ◌++◌, ◌&&◌, ◌||◌, not};
-ghost use Rattle.std.specs.Prelude.{nat_eq, length, map, All, IfOk, OnOk};
-ghost use Rattle.std.specs.List.Sorted.{IsStrictlyIncreasing};
-ghost use Rattle.std.specs.Set.{is_member};
-ghost use Rattle.hg_defs.specs.Hypergraph.{vertex_count, net_count, net_of};
+ghost use Rattle.std.specs.Prelude.{◌≡◌, ◌+◌, ◌*◌, ◌^◌, ◌<◌, ◌≤◌, [], ◌&&◌, ℕ};
+ghost use Rattle.std.specs.Prelude.{length, map, slice_index_or, if◌then◌else◌, All, IfOk, OnOk};
+ghost use Rattle.std.specs.List.{flat_map};
+ghost use Rattle.std.specs.Ordering.{nat_cmp};
+ghost use Rattle.hg_defs.specs.Hypergraph.{net_count, net_of};
+ghost use Rattle.hg_defs.specs.Incidence.{nets_of};
+ghost use Rattle.hg_defs.specs.Sorting.{set_of};
 ghost use Rattle.hg_defs.specs.Sums.{total};
-ghost use Rattle.hg_defs.specs.Partition.{block_of};
-ghost use Rattle.flow_pair.specs.PairNetwork.{has_pin_outside, net_price, unbounded};
-ghost use Rattle.flow_pair.specs.PairNetwork.{Extends, IsIdle, ArePlaces};
-ghost use Rattle.flow_pair.specs.ShortNetwork.{inner_nodes, arcs_to_each, arcs_from_each, source_arcs, sink_arcs};
-ghost use Rattle.flow_pair.specs.ShortNetwork.{inner_arcs, outer_count, inner_count, short_arcs, short_count};
-ghost use Rattle.flow_pair.specs.ShortNetwork.{inside_nets, fixed_price, fixed_cost, short_network};
+ghost use Rattle.flow_pair.specs.Notes.{AreNotes, IsNotedRun};
+ghost use Rattle.flow_pair.specs.PairNetwork.{net_price, Extends, IsIdle};
+ghost use Rattle.flow_pair.specs.ShortNetwork.{arcs_to_each, arcs_from_each, source_arcs, sink_arcs, inner_arcs};
+ghost use Rattle.flow_pair.specs.ShortNetwork.{end_arcs, end_count, outer_count, inner_count, short_count};
+ghost use Rattle.flow_pair.specs.ShortNetwork.{all_short_arcs, inside_nets, fixed_price, fixed_cost, short_network};
 ghost use Rattle.flow_pair.specs.Sides.{touching_nets};
 
-use crate::network::{bare_network, nets_of_region};
+use crate::distinct::without;
+use crate::network::bare_network;
+use crate::notes::{Note, Notes};
 use crate::pair::Pair;
-use crate::region::without;
+use crew::span_of;
 use flow_net::{Network, NoMemory};
-use incidence::Hypergraph;
-use pin_plain::Partition;
 use std::alloc::Global;
 
 /// The nodes of the two blocks outside the region.
@@ -33,51 +34,6 @@ const SINK: u32 = 1;
 pub(crate) struct ShortNetwork {
     pub(crate) network: Network,
     pub(crate) fixed: u64,
-}
-
-/// Notes a pin: its node where it is in the region, and else its block.
-fn note_pin(
-    pair: Pair<'_>,
-    v: u32,
-    nodes: &mut Vec<u32>,
-    outside: (bool, bool),
-) -> Result<(bool, bool), NoMemory>
-    requires vertex { v < vertex_count pair.h.now }
-    ensures nodes { OnOk result (nodes.new.items ≡ nodes.old.items ++ inner_nodes pair.entry.region.now (v ∷ [])) }
-    ensures first { IfOk result (λ r. r.0 ≡ (outside.0 || (nat_eq (block_of pair.entry.blocks.now v) pair.entry.first &&
-        not (is_member nat_eq pair.entry.region.now v)))) }
-    ensures second { IfOk result (λ r. r.1 ≡ (outside.1 || (nat_eq (block_of pair.entry.blocks.now v) pair.entry.second
-        && not (is_member nat_eq pair.entry.region.now v)))) }
-{
-    let place = pair.place(v);
-    if place < pair.region.len() {
-        nodes.push(2 + place as u32)?;
-        return Ok(outside);
-    }
-    let block = pair.blocks[v as usize];
-    Ok((
-        outside.0 || block == pair.first,
-        outside.1 || block == pair.second,
-    ))
-}
-
-/// Lists the nodes of those pins of a net that are in the region. Answers whether others are in the first
-/// block, and in the second one.
-fn note_pins(pair: Pair<'_>, e: u32, nodes: &mut Vec<u32>) -> Result<(bool, bool), NoMemory>
-    requires net { e < net_count pair.h.now }
-    ensures nodes { OnOk result (nodes.new.items ≡ inner_nodes pair.entry.region.now (net_of pair.entry.h.now e).pins) }
-    ensures first { IfOk result (λ r. r.0 ≡ has_pin_outside pair.entry.blocks.now pair.entry.region.now (net_of
-        pair.entry.h.now e) pair.entry.first) }
-    ensures second { IfOk result (λ r. r.1 ≡ has_pin_outside pair.entry.blocks.now pair.entry.region.now (net_of
-        pair.entry.h.now e) pair.entry.second) }
-{
-    nodes.clear();
-    let mut outside = (false, false);
-    let pins = pair.h.pins(e);
-    for v in pins {
-        outside = note_pin(pair, *v, nodes, outside)?;
-    }
-    Ok(outside)
 }
 
 /// Adds an arc from a node to each of some.
@@ -192,46 +148,76 @@ fn add_within(network: &mut Network, nodes: &[u32], price: u64, most: u64) -> Re
     fan_out(network, at + 1, nodes, most)
 }
 
-/// Adds a net. Answers what it pays whatever the region does.
-fn add_short(
-    pair: Pair<'_>,
-    network: &mut Network,
-    nodes: &mut Vec<u32>,
-    e: u32,
-) -> Result<u64, NoMemory>
-    requires net { e < net_count pair.h.now }
+/// Adds a net of these nodes, as its note says. Answers what it pays whatever the region does.
+fn add_short(network: &mut Network, nodes: &[u32], note: Note, most: u64) -> Result<u64, NoMemory>
     requires few { network.old.nodes + 2 ≤ 2 ^ 26 }
-    requires region { 2 + length pair.region.now ≤ network.old.nodes }
-    requires room { length network.old.arcs + 1 + 2 * length (net_of pair.h.now e).pins ≤ 2 ^ 28 }
+    requires ends { 2 ≤ network.old.nodes }
+    requires nodes { All (λ n. n < network.old.nodes) nodes.now }
+    requires price { note.price ≤ 2 ^ 62 }
+    requires most { most ≤ 2 ^ 62 }
+    requires room { length network.old.arcs + 1 + 2 * length nodes.now ≤ 2 ^ 28 }
     requires idle { IsIdle network.old }
-    ensures extended { OnOk result (Extends network.old network.new (short_count pair.entry.blocks.now
-        pair.entry.first pair.entry.second pair.entry.region.now (net_of pair.entry.h.now e)) (short_arcs
-        pair.entry.h.now pair.entry.blocks.now pair.entry.first pair.entry.second pair.entry.region.now
-        network.old.nodes (net_of pair.entry.h.now e))) }
-    ensures fixed { IfOk result (λ fixed. fixed ≡ fixed_price pair.entry.h.now pair.entry.blocks.now pair.entry.first
-        pair.entry.second pair.entry.region.now (net_of pair.entry.h.now e)) }
+    ensures extended { OnOk result (Extends network.old network.new (end_count note.outside.0 note.outside.1
+        nodes.now) (end_arcs note.outside.0 note.outside.1 most note.price network.old.nodes nodes.now)) }
+    ensures fixed { IfOk result (λ fixed. fixed ≡ (if note.outside.0 && note.outside.1 then note.price else 0)) }
 {
-    let price = pair.net_price(e);
-    let outside = note_pins(pair, e, nodes)?;
-    let nodes = nodes.as_slice();
-    match outside {
-        (true, true) => return Ok(price),
-        (true, false) => add_at_source(network, nodes, price, pair.most)?,
-        (false, true) => add_at_sink(network, nodes, price, pair.most)?,
-        (false, false) => add_within(network, nodes, price, pair.most)?,
+    match note.outside {
+        (true, true) => return Ok(note.price),
+        (true, false) => add_at_source(network, nodes, note.price, most)?,
+        (false, true) => add_at_sink(network, nodes, note.price, most)?,
+        (false, false) => add_within(network, nodes, note.price, most)?,
     }
     Ok(0)
 }
 
-/// Adds the nets with a pin in the region. Answers what they pay whatever the region does.
-fn add_all_short(
-    alloc: Global,
+/// Adds a run of nets that were noted. Answers what they pay whatever the region does.
+fn add_run(
     pair: Pair<'_>,
     network: &mut Network,
     nets: &[u32],
+    run: &Notes,
 ) -> Result<u64, NoMemory>
-    requires nets { All (λ e. e < net_count pair.h.now) nets.now }
+    requires noted { AreNotes pair.h.now pair.blocks.now pair.first pair.second pair.region.now nets.now
+        run.now.nodes.items run.now.nets.items }
+    requires few { network.old.nodes + 2 * length nets.now ≤ 2 ^ 26 }
+    requires region { 2 + length pair.region.now ≤ network.old.nodes }
+    requires room { length network.old.arcs + length nets.now + 2 * total (λ e. length (net_of pair.h.now e).pins)
+        nets.now ≤ 2 ^ 28 }
+    requires idle { IsIdle network.old }
+    requires bounded { total (fixed_price pair.h.now pair.blocks.now pair.first pair.second pair.region.now) (map
+        (net_of pair.h.now) nets.now) ≤ 2 ^ 56 }
+    ensures extended { OnOk result (Extends network.old network.new (total (short_count pair.entry.blocks.now
+        pair.entry.first pair.entry.second pair.entry.region.now) (map (net_of pair.entry.h.now) nets.now))
+        (all_short_arcs pair.entry.h.now pair.entry.blocks.now pair.entry.first pair.entry.second
+        pair.entry.region.now network.old.nodes (map (net_of pair.entry.h.now) nets.now))) }
+    ensures few { OnOk result (network.new.nodes ≤ network.old.nodes + 2 * length nets.now) }
+    ensures short { OnOk result (length network.new.arcs ≤ length network.old.arcs + length nets.now + 2 * total (λ e.
+        length (net_of pair.entry.h.now e).pins) nets.now) }
+    ensures fixed { IfOk result (λ fixed. fixed ≡ total (fixed_price pair.entry.h.now pair.entry.blocks.now
+        pair.entry.first pair.entry.second pair.entry.region.now) (map (net_of pair.entry.h.now) nets.now)) }
+{
+    let notes = run.nets.as_slice();
+    let nodes = run.nodes.as_slice();
+    let mut fixed = 0;
+    for i in 0..nets.len() {
+        let note = notes[i];
+        fixed += add_short(network, &nodes[note.from..note.to], note, pair.most)?;
+    }
+    Ok(fixed)
+}
+
+/// Adds the nets with a pin in the region, run after run. Answers what they pay whatever the region does.
+fn add_runs(
+    pair: Pair<'_>,
+    network: &mut Network,
+    nets: &[u32],
+    runs: &[Notes],
+) -> Result<u64, NoMemory>
     requires inside { map (net_of pair.h.now) nets.now ≡ inside_nets pair.h.now pair.region.now }
+    requires some { 0 < length runs.now }
+    requires runs { length runs.now ≤ 64 }
+    requires noted { (i : ℕ) (d : _) → i < length runs.now → IsNotedRun pair.h.now pair.blocks.now pair.first
+        pair.second pair.region.now nets.now (length runs.now) i (slice_index_or runs.now i d) }
     requires nodes { network.old.nodes ≡ 2 + length pair.region.now }
     requires arcs { network.old.arcs ≡ [] }
     requires flows { network.old.flows ≡ [] }
@@ -242,10 +228,15 @@ fn add_all_short(
         (inside_nets pair.entry.h.now pair.entry.region.now)) }
 {
     let _nets = pair.h.nets();
-    let mut nodes = Vec::new(alloc);
     let mut fixed = 0;
-    for e in nets {
-        fixed += add_short(pair, network, &mut nodes, *e)?;
+    for i in 0..runs.len() {
+        let run = &runs[i];
+        if !run.whole {
+            return Err(NoMemory);
+        }
+        let span = span_of(nets.len() as u32, runs.len() as u32, i as u32);
+        let part = &nets[span.from as usize..span.to as usize];
+        fixed += add_run(pair, network, part, run)?;
     }
     Ok(fixed)
 }
@@ -265,44 +256,31 @@ fn price_of(pair: Pair<'_>, nets: &[u32]) -> u64
     price
 }
 
-/// The short network of a region of two blocks, given the places of its vertices and the nets that touch both.
+/// The short network of a region of two blocks, given the nets that hold a vertex of it, which were noted, and those
+/// that touch both blocks.
 pub(crate) fn build_short(
     alloc: Global,
     spots: &mut [usize],
-    h: &Hypergraph,
-    p: &Partition,
-    a: u32,
-    b: u32,
-    region: &[u32],
-    places: &[u32],
+    pair: Pair<'_>,
+    nets: &[u32],
+    runs: &[Notes],
     touching: &[u32],
-    most: u64,
 ) -> Result<ShortNetwork, NoMemory>
-    requires belongs { p.now.hyper ≡ h.now }
-    requires rising { IsStrictlyIncreasing region.now }
-    requires vertices { All (λ v. v < vertex_count h.now) region.now }
-    requires long { length places.now ≡ vertex_count h.now }
-    requires placed { ArePlaces region.now places.now }
-    requires touching { touching.now ≡ touching_nets h.now p.now.blocks a b }
-    requires most { most ≡ unbounded h.now }
-    requires bounded { most ≤ 2 ^ 56 }
-    requires spots { net_count h.now ≤ length spots.old }
-    ensures network { IfOk result (λ short. short.network ≡ short_network h.now p.now.blocks a b region.now) }
-    ensures fixed { IfOk result (λ short. short.fixed ≡ fixed_cost h.now p.now.blocks a b region.now) }
+    requires nets { nets.now ≡ set_of nat_cmp (flat_map (nets_of pair.h.now) pair.region.now) }
+    requires some { 0 < length runs.now }
+    requires runs { length runs.now ≤ 64 }
+    requires noted { (i : ℕ) (d : _) → i < length runs.now → IsNotedRun pair.h.now pair.blocks.now pair.first
+        pair.second pair.region.now nets.now (length runs.now) i (slice_index_or runs.now i d) }
+    requires touching { touching.now ≡ touching_nets pair.h.now pair.blocks.now pair.first pair.second }
+    requires spots { net_count pair.h.now ≤ length spots.old }
+    ensures network { IfOk result (λ short. short.network ≡ short_network pair.entry.h.now pair.entry.blocks.now
+        pair.entry.first pair.entry.second pair.entry.region.now) }
+    ensures fixed { IfOk result (λ short. short.fixed ≡ fixed_cost pair.entry.h.now pair.entry.blocks.now
+        pair.entry.first pair.entry.second pair.entry.region.now) }
 {
-    let pair = Pair {
-        h,
-        blocks: p.blocks(),
-        first: a,
-        second: b,
-        region,
-        places,
-        most,
-    };
-    let nets = nets_of_region(alloc, spots, pair)?;
-    let others = without(alloc, touching, nets.as_slice())?;
+    let others = without(alloc, spots, touching, nets)?;
     let mut network = bare_network(alloc, pair)?;
-    let inside = add_all_short(alloc, pair, &mut network, nets.as_slice())?;
+    let inside = add_runs(pair, &mut network, nets, runs)?;
     let fixed = inside + price_of(pair, others.as_slice());
     Ok(ShortNetwork { network, fixed })
 }

@@ -1,20 +1,27 @@
 //! The cheapest assignment of the region of a pair of blocks.
 
 ghost use Rattle.std.specs.Prelude.{◌≡◌, ◌≢◌, ℕ, ◌+◌, ◌^◌, ◌<◌, ◌≤◌, [], ◌↔◌, length, slice_index};
-ghost use Rattle.std.specs.Prelude.{if◌then◌else◌, IfOk, IfSome, IsNone, IsTrue};
+ghost use Rattle.std.specs.Prelude.{slice_index_or, if◌then◌else◌, IfOk, IfSome, IsNone};
+ghost use Rattle.std.specs.List.{flat_map};
+ghost use Rattle.std.specs.Ordering.{nat_cmp};
+ghost use Rattle.hg_defs.specs.Hypergraph.{net_count};
+ghost use Rattle.hg_defs.specs.Incidence.{nets_of};
 ghost use Rattle.hg_defs.specs.Partition.{Fits};
+ghost use Rattle.hg_defs.specs.Sorting.{set_of};
 ghost use Rattle.flow_net.specs.Flow.{is_in};
 ghost use Rattle.round_log.specs.Rounds.{touching};
 ghost use Rattle.round_log.specs.Rounds as rounds;
 ghost use Rattle.flow_pair.specs.CutNets.{AreCutLists};
+ghost use Rattle.flow_pair.specs.Notes.{IsNotedRun};
 ghost use Rattle.flow_pair.specs.PairEnds.{IsPairEnd};
-ghost use Rattle.flow_pair.specs.PairNetwork.{unbounded};
 ghost use Rattle.flow_pair.specs.Sides.{touching_nets, WeighsAtLeast};
 
 use crate::balance::balanced_side;
 use crate::cut::touching_nets_of;
 use crate::cut_nets::CutNets;
-use crate::pair::{more_than_all, place_region};
+use crate::network::open_region;
+use crate::notes::{Notes, count_runs, make_runs, note_runs};
+use crate::pair::{Pair, more_than_all};
 use crate::region::{form_region, form_region_with, least_weight, make_spots};
 use crate::short::build_short;
 use flow_net::{NoMemory, Workspace};
@@ -25,10 +32,6 @@ use std::alloc::Global;
 use std::marker::Model;
 use std::snapshot::Snapshot;
 use std::thread::Threads;
-
-/// A region is formed by two threads where so many nets touch both blocks: to form it from fewer takes little longer
-/// than to start one.
-const LEAST_NETS: usize = 1024;
 
 /// The end of a pair of blocks.
 #[derive(Debug, Drop)]
@@ -55,70 +58,43 @@ fn blocks_of(alloc: Global, side: &[bool], count: usize, a: u32, b: u32) -> Resu
     Ok(Blocks::from_vec(blocks))
 }
 
-/// The cheapest assignment of the region of a pair, given the nets that touch both blocks: of the two
-/// extreme minimum cuts the one by which the greater load of the two blocks is lesser.
+/// The cheapest assignment of a region to its pair, with what the nets pay that touch both blocks afterwards, given the
+/// nets that hold a vertex of it, which were noted, and those that touch both blocks before: of the two extreme minimum
+/// cuts the one by which the greater load of the two blocks is lesser.
 fn solve_region(
     space: &mut Workspace,
-    places: &mut Vec<u32>,
-    spots: &mut Vec<usize>,
+    spots: &mut [usize],
     alloc: Global,
-    h: &Hypergraph,
     p: &Partition,
-    a: u32,
-    b: u32,
-    region: Verts,
+    pair: Pair<'_>,
     nets: &[u32],
-    most: u64,
-) -> Result<PairEnd, NoMemory>
-    requires belongs { p.now.hyper ≡ h.now }
+    runs: &[Notes],
+    touching: &[u32],
+) -> Result<(Blocks, u64), NoMemory>
+    requires belongs { p.now.hyper ≡ pair.h.now }
+    requires blocks { p.now.blocks ≡ pair.blocks.now }
     requires fits { Fits p.now.hyper p.now.k p.now.limit p.now.blocks }
-    requires order { a < b }
-    requires blocks { b < p.now.k }
-    requires region { region ≡ rounds.region h.now p.now.limit p.now.blocks a b }
-    requires nets { nets.now ≡ touching_nets h.now p.now.blocks a b }
-    requires most { most ≡ unbounded h.now }
-    requires bounded { most ≤ 2 ^ 56 }
-    ensures { IfOk result (IsPairEnd h.now p.now.k p.now.limit p.now.blocks a b) }
+    requires order { pair.first < pair.second }
+    requires second { pair.second < p.now.k }
+    requires region { pair.region.now ≡ rounds.region pair.h.now p.now.limit p.now.blocks pair.first pair.second }
+    requires nets { nets.now ≡ set_of nat_cmp (flat_map (nets_of pair.h.now) pair.region.now) }
+    requires some { 0 < length runs.now }
+    requires runs { length runs.now ≤ 64 }
+    requires noted { (i : ℕ) (d : _) → i < length runs.now → IsNotedRun pair.h.now pair.blocks.now pair.first
+        pair.second pair.region.now nets.now (length runs.now) i (slice_index_or runs.now i d) }
+    requires touching { touching.now ≡ touching_nets pair.h.now p.now.blocks pair.first pair.second }
+    requires spots { net_count pair.h.now ≤ length spots.old }
+    ensures { IfOk result (λ r. IsPairEnd pair.entry.h.now p.now.k p.now.limit p.now.blocks pair.entry.first
+        pair.entry.second (record { region = pair.entry.region.now; blocks = r.0; value = r.1 })) }
 {
     let _blocks = p.blocks();
-    make_spots(spots, h)?;
-    place_region(h, region.slice(), places)?;
-    let spots = spots.as_mut_slice();
-    let places = places.as_slice();
-    let mut short = build_short(alloc, spots, h, p, a, b, region.slice(), places, nets, most)?;
+    let mut short = build_short(alloc, spots, pair, nets, runs, touching)?;
     let cut = short.network.max_flow_in(space, 0, 1)?;
-    let side = balanced_side(
-        h,
-        p,
-        a,
-        b,
-        region.slice(),
-        cut.near.slice(),
-        cut.side.slice(),
-    );
-    let blocks = blocks_of(alloc, side, region.len(), a, b)?;
-    Ok(PairEnd {
-        region,
-        blocks,
-        value: cut.value as u64 + short.fixed,
-    })
-}
-
-/// Whether a block has room for the lightest vertex.
-fn has_room(p: &Partition, block: u32, least: u64) -> bool
-    requires { block < p.now.k }
-{
-    p.limit().saturating_sub(p.weight(block)) >= least
-}
-
-/// Whether it pays to form the region of a pair by two threads, one for each block: many nets touch both blocks, and
-/// neither of them is full.
-fn two_pay(p: &Partition, a: u32, b: u32, nets: &[u32], least: u64) -> bool
-    requires order { a < b }
-    requires blocks { b < p.now.k }
-    ensures { IsTrue result → 0 < length nets.now }
-{
-    nets.len() >= LEAST_NETS && has_room(p, a, least) && has_room(p, b, least)
+    let (a, b) = (pair.first, pair.second);
+    let (near, far) = (cut.near.slice(), cut.side.slice());
+    let side = balanced_side(pair.h, p, a, b, pair.region, near, far);
+    let blocks = blocks_of(alloc, side, pair.region.len(), a, b)?;
+    Ok((blocks, cut.value as u64 + short.fixed))
 }
 
 /// What solves one pair after the other of a hypergraph, in the same memory. It is seen as the
@@ -134,6 +110,8 @@ pub struct PairSolver {
     spots: Vec<usize>,
     /// Those for a second thread.
     others: Vec<usize>,
+    /// Notes of the nets of a region, a run for each thread.
+    runs: Vec<Notes>,
     /// More than all nets can pay.
     most: u64,
     /// The least weight of a vertex.
@@ -166,9 +144,17 @@ impl PairSolver {
             places: Vec::new(alloc),
             spots: Vec::new(alloc),
             others: Vec::new(alloc),
+            runs: Vec::new(alloc),
             most: more_than_all(h),
             least: least_weight(h),
         }
+    }
+
+    /// A weight below which no vertex is: the least of them, or the greatest number where there is no vertex.
+    pub fn least_weight(&self) -> u64
+        ensures { WeighsAtLeast self.now result }
+    {
+        self.least
     }
 
     /// The nets that touch both blocks of a pair, in rising order, looked for among the cut nets.
@@ -215,23 +201,40 @@ impl PairSolver {
         if nets.is_empty() {
             return Ok(None);
         }
+        let _blocks = p.blocks();
         let spots = &mut self.spots;
         let region = form_region(self.alloc, spots, h, p, a, b, nets, self.least)?;
-        let end = self.solve_within(h, p, a, b, region, nets)?;
-        Ok(Some(end))
+        let inside = open_region(self.alloc, spots, &mut self.places, h, region.slice())?;
+        make_runs(self.alloc, &mut self.runs, 1)?;
+        let runs = &mut self.runs.as_mut_slice()[..1];
+        let places = self.places.as_slice();
+        let pair = Pair::of(h, p, a, b, region.slice(), places, self.most);
+        let inside = inside.as_slice();
+        runs[0].note(pair, inside);
+        let space = &mut self.space;
+        let spots = spots.as_mut_slice();
+        let (blocks, value) = solve_region(space, spots, self.alloc, p, pair, inside, runs, nets)?;
+        Ok(Some(PairEnd {
+            region,
+            blocks,
+            value,
+        }))
     }
 
-    /// Does what [`solve`](Self::solve) does. Where many nets touch both blocks, two threads form the region, one for
-    /// each block, unless a block is full.
+    /// Does what [`solve`](Self::solve) does, by at most so many threads. Where many nets touch both blocks, two form
+    /// the region, one for each block, unless a block is full. Where many nets hold a vertex of it, each notes a run of
+    /// them.
     pub fn solve_with<R: Threads + Sync>(
         &mut self,
         rt: &R,
+        threads: u32,
         h: &Hypergraph,
         p: &Partition,
         a: u32,
         b: u32,
         nets: &[u32],
     ) -> Result<Option<PairEnd>, NoMemory>
+        requires threads { 1 ≤ threads }
         requires hyper { self.old ≡ h.now }
         requires belongs { p.now.hyper ≡ h.now }
         requires fits { Fits p.now.hyper p.now.k p.now.limit p.now.blocks }
@@ -242,49 +245,28 @@ impl PairSolver {
         ensures none { IfOk result (λ found. IsNone found ↔ (touching h.now p.now.blocks a b ≡ [])) }
         ensures end { IfOk result (λ found. IfSome found (IsPairEnd h.now p.now.k p.now.limit p.now.blocks a b)) }
     {
-        let least = self.least;
-        if !two_pay(p, a, b, nets, least) {
+        if threads == 1 || nets.is_empty() {
             return self.solve(h, p, a, b, nets);
         }
+        let _blocks = p.blocks();
         let (spots, others) = (&mut self.spots, &mut self.others);
-        let region = form_region_with(rt, self.alloc, spots, others, h, p, a, b, nets, least)?;
-        let end = self.solve_within(h, p, a, b, region, nets)?;
-        Ok(Some(end))
-    }
-
-    /// The cheapest assignment of the region of a pair of blocks, which was formed from the nets that touch both.
-    fn solve_within(
-        &mut self,
-        h: &Hypergraph,
-        p: &Partition,
-        a: u32,
-        b: u32,
-        region: Verts,
-        nets: &[u32],
-    ) -> Result<PairEnd, NoMemory>
-        requires hyper { self.old ≡ h.now }
-        requires belongs { p.now.hyper ≡ h.now }
-        requires fits { Fits p.now.hyper p.now.k p.now.limit p.now.blocks }
-        requires order { a < b }
-        requires blocks { b < p.now.k }
-        requires region { region ≡ rounds.region h.now p.now.limit p.now.blocks a b }
-        requires nets { nets.now ≡ touching_nets h.now p.now.blocks a b }
-        ensures hyper { self.new ≡ self.old }
-        ensures end { IfOk result (IsPairEnd h.now p.now.k p.now.limit p.now.blocks a b) }
-    {
-        solve_region(
-            &mut self.space,
-            &mut self.places,
-            &mut self.spots,
-            self.alloc,
-            h,
-            p,
-            a,
-            b,
+        let region = form_region_with(rt, self.alloc, spots, others, h, p, a, b, nets, self.least)?;
+        let inside = open_region(self.alloc, spots, &mut self.places, h, region.slice())?;
+        let count = count_runs(inside.len(), threads);
+        make_runs(self.alloc, &mut self.runs, count)?;
+        let runs = &mut self.runs.as_mut_slice()[..count];
+        let places = self.places.as_slice();
+        let pair = Pair::of(h, p, a, b, region.slice(), places, self.most);
+        let inside = inside.as_slice();
+        note_runs(rt, pair, inside, runs);
+        let space = &mut self.space;
+        let spots = spots.as_mut_slice();
+        let (blocks, value) = solve_region(space, spots, self.alloc, p, pair, inside, runs, nets)?;
+        Ok(Some(PairEnd {
             region,
-            nets,
-            self.most,
-        )
+            blocks,
+            value,
+        }))
     }
 }
 

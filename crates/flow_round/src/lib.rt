@@ -5,6 +5,7 @@ mod front;
 pub mod laws;
 mod pass;
 mod refine;
+mod shares;
 mod table;
 mod touched;
 mod worker;

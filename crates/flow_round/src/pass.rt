@@ -139,8 +139,8 @@ fn cut_and_cost<R: Threads + Sync>(
 
 /// Makes a flow pass over one level. The pairs of blocks are solved in waves of those with one sum,
 /// which have no block in common, by all workers at once, but by no more than half as many as there are blocks: no
-/// wave has more pairs. A worker passes the gate before each pair. Where there are two workers for each pair of a
-/// wave, two threads form a large region.
+/// wave has more pairs. A worker passes the gate before each pair. Beside pairs whose blocks have much room fewer
+/// workers start, and those pairs share the other threads.
 /// Two pairs that share a block stand in the waves in the order of a pass, so the ends are those of a
 /// pass in rising order, and their rounds are logged in that order at the end, with the costs there. Their
 /// moves are those of the waves, which save the same in both orders. Answers the partition after them.

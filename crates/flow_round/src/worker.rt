@@ -8,6 +8,7 @@ ghost use Rattle.flow_round.specs.PairTurns.{IsPairBelow, IsTurn, is_of_wave};
 ghost use Rattle.flow_round.specs.Waves.{AreTouched, AreWorkers, IsFound, IsSolved, HasEnd};
 ghost use Rattle.flow_round.specs.Waves.{GainsEnds, HaveNoEnds, MayGainEnd, MayHaveEnds, end_at};
 
+use crate::shares::Shares;
 use crate::table::{end_of, place_of, put_end};
 use crate::touched::{Touched, touched_pairs};
 use crew::{Gate, each};
@@ -37,7 +38,7 @@ pub(crate) struct Worker {
     pub(crate) turn: u64,
 }
 
-/// The end of a pair on the lent partition. Where there is a thread to spare, two form the region.
+/// The end of a pair on the lent partition, found by at most so many threads.
 fn solve_pair<R: Threads + Sync>(
     rt: &R,
     solver: &mut PairSolver,
@@ -46,8 +47,9 @@ fn solve_pair<R: Threads + Sync>(
     cut: &CutNets,
     first: u32,
     second: u32,
-    has_spare: bool,
+    threads: u32,
 ) -> Result<Option<PairEnd>, NoMemory>
+    requires threads { 1 ≤ threads }
     requires solver { solver.old ≡ h.now }
     requires belongs { p.now.hyper ≡ h.now }
     requires fits { Fits p.now.hyper p.now.k p.now.limit p.now.blocks }
@@ -57,14 +59,11 @@ fn solve_pair<R: Threads + Sync>(
     ensures turn { IfOk result (IsTurn h.now p.now.k p.now.limit p.now.blocks (first, second)) }
 {
     let nets = solver.nets_between(h, p, cut, first, second)?;
-    if has_spare {
-        return solver.solve_with(rt, h, p, first, second, nets.as_slice());
-    }
-    solver.solve(h, p, first, second, nets.as_slice())
+    solver.solve_with(rt, threads, h, p, first, second, nets.as_slice())
 }
 
 impl Worker {
-    /// Solves a pair on the lent partition.
+    /// Solves a pair on the lent partition, by at most so many threads.
     fn solve<R: Threads + Sync>(
         &mut self,
         rt: &R,
@@ -73,8 +72,9 @@ impl Worker {
         cut: &CutNets,
         first: u32,
         second: u32,
-        has_spare: bool,
+        threads: u32,
     ) -> Result<(), NoMemory>
+        requires threads { 1 ≤ threads }
         requires belongs { p.now.hyper ≡ h.now }
         requires fits { Fits p.now.hyper p.now.k p.now.limit p.now.blocks }
         requires cut { AreCutLists h.now p.now.k p.now.blocks cut.now }
@@ -83,7 +83,7 @@ impl Worker {
         ensures { IsSolved h.now p.now (first + second) self.new }
     {
         let solver = &mut self.solver;
-        let end = solve_pair(rt, solver, h, p, cut, first, second, has_spare)?;
+        let end = solve_pair(rt, solver, h, p, cut, first, second, threads)?;
         self.found.push(Found { first, second, end })?;
         Ok(())
     }
@@ -99,7 +99,7 @@ impl Worker {
         cut: &CutNets,
         wave: u32,
         pairs: &[Touched],
-        has_spare: bool,
+        shares: Shares,
         next: &AtomicUsize,
     )
         requires belongs { p.now.hyper ≡ h.now }
@@ -118,7 +118,8 @@ impl Worker {
             self.turn = self.turn.wrapping_add(1);
             let first = pairs[place].1;
             let second = wave - first;
-            if self.solve(rt, h, p, cut, first, second, has_spare).is_err() {
+            let threads = shares.threads_of(place);
+            if self.solve(rt, h, p, cut, first, second, threads).is_err() {
                 return;
             }
         }
@@ -161,8 +162,8 @@ fn hand_all_over(
     }
 }
 
-/// Solves those pairs of a wave that have no end yet, since a worker had no memory, and writes their ends into the
-/// table.
+/// Solves those pairs of a wave that have no end yet, since a worker had no memory, each by this thread alone, and
+/// writes their ends into the table.
 fn solve_rest<R: Threads + Sync>(
     rt: &R,
     solver: &mut PairSolver,
@@ -171,7 +172,6 @@ fn solve_rest<R: Threads + Sync>(
     cut: &CutNets,
     wave: u32,
     pairs: &[Touched],
-    has_spare: bool,
     ends: &mut [Option<PairEnd>],
 ) -> Result<(), NoMemory>
     requires solver { solver.old ≡ h.now }
@@ -191,7 +191,7 @@ fn solve_rest<R: Threads + Sync>(
         let second = wave - first;
         let place = place_of(k, first, second);
         if end_of(ends, place).is_none() {
-            let end = solve_pair(rt, solver, h, p, cut, first, second, has_spare)?;
+            let end = solve_pair(rt, solver, h, p, cut, first, second, 1)?;
             put_end(ends, place, end);
         }
     }
@@ -207,7 +207,7 @@ fn solve_all<R: Threads + Sync, G: Gate>(
     cut: &CutNets,
     wave: u32,
     pairs: &[Touched],
-    has_spare: bool,
+    shares: Shares,
     workers: &mut [Worker],
 )
     requires belongs { p.now.hyper ≡ h.now }
@@ -222,12 +222,13 @@ fn solve_all<R: Threads + Sync, G: Gate>(
         rt,
         workers,
         &|_i, worker: &mut Worker|
-            requires { IsSync R.row × (p.now.hyper ≡ h.now) × Fits p.now.hyper p.now.k p.now.limit p.now.blocks × AreCutLists h.now
-                p.now.k p.now.blocks cut.now × All (λ a. is_of_wave p.now.k wave a ≡ true) (map (λ pair. pair.1)
-                pairs.now) × IsSolved h.now p.now wave worker.now }
+            requires { IsSync R.row × (p.now.hyper ≡ h.now) × Fits p.now.hyper p.now.k p.now.limit p.now.blocks
+                × AreCutLists h.now p.now.k p.now.blocks cut.now
+                × All (λ a. is_of_wave p.now.k wave a ≡ true) (map (λ pair. pair.1) pairs.now)
+                × IsSolved h.now p.now wave worker.now }
             ensures { IsSolved h.entry.now p.entry.now wave worker.exit.now }
         {
-            worker.run(rt, gate, h, p, cut, wave, pairs, has_spare, &next);
+            worker.run(rt, gate, h, p, cut, wave, pairs, shares, &next);
         },
     );
 }
@@ -242,7 +243,7 @@ fn solve_pairs<R: Threads + Sync, G: Gate>(
     cut: &CutNets,
     wave: u32,
     pairs: &[Touched],
-    has_spare: bool,
+    shares: Shares,
     workers: &mut [Worker],
     ends: &mut [Option<PairEnd>],
 ) -> Result<(), NoMemory>
@@ -258,15 +259,15 @@ fn solve_pairs<R: Threads + Sync, G: Gate>(
     ensures ends { OnOk result (GainsEnds h.now p.now wave ends.old ends.new) }
 {
     let _blocks = p.blocks();
-    solve_all(rt, gate, h, p, cut, wave, pairs, has_spare, workers);
+    solve_all(rt, gate, h, p, cut, wave, pairs, shares, workers);
     hand_all_over(workers, h, p, wave, ends);
     let solver = &mut workers[0].solver;
-    solve_rest(rt, solver, h, p, cut, wave, pairs, has_spare, ends)
+    solve_rest(rt, solver, h, p, cut, wave, pairs, ends)
 }
 
 /// Solves the pairs of a wave that a net touches, all at once on the lent partition, and writes their ends into
-/// the table. No more workers start than there are pairs, and a single pair is solved in this thread. Where there are
-/// two of `threads` for each pair, a worker forms a large region by two. Where no net touches a pair, it has no end.
+/// the table. No more workers start than there are pairs, and a single pair is solved in this thread. Large pairs share
+/// those of `threads` threads that the workers leave. Where no net touches a pair, it has no end.
 pub(crate) fn solve_wave<R: Threads + Sync, G: Gate>(
     rt: &R,
     gate: &G,
@@ -295,8 +296,8 @@ pub(crate) fn solve_wave<R: Threads + Sync, G: Gate>(
     if pairs.is_empty() {
         return Ok(());
     }
-    let has_spare = pairs.len() <= threads as usize / 2;
-    let busy = pairs.len().min(workers.len());
-    let workers = &mut workers[..busy];
-    solve_pairs(rt, gate, h, p, cut, wave, pairs, has_spare, workers, ends)
+    let least = workers[0].solver.least_weight();
+    let shares = Shares::of(pairs, least, workers.len(), threads);
+    let workers = &mut workers[..shares.workers];
+    solve_pairs(rt, gate, h, p, cut, wave, pairs, shares, workers, ends)
 }

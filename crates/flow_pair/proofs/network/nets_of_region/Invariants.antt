@@ -4,4 +4,4 @@ use Rattle.hg_defs.specs.Incidence.{nets_of}
 use Rattle.flow_pair.proofs.network.nets_of_region.Given as goal
 
 abbrev pub invariant-loop-v : goal.invariant-loop-v
-invariant-loop-v l = l.nets.items ≡ flat_map (nets_of l.pair.h.now) (take l.v-index l.pair.region.now)
+invariant-loop-v l = l.nets.items ≡ flat_map (nets_of l.h) (take l.v-index l.region)

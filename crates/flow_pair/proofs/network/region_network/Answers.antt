@@ -1,21 +1,9 @@
-use Rattle.std.proofs.Common.{◌∙◌, length, ap, sym, subst, arith}
-use Rattle.hg_defs.specs.Hypergraph.{vertex_count}
+use Rattle.std.proofs.Common.{◌∙◌, length, ap, sym, subst}
 use Rattle.flow_pair.specs.PairNetwork.{ArePlaces}
-use Rattle.flow_pair.proofs.RegionLaws.{rising-few}
 use Rattle.flow_pair.proofs.network.region_network.Goals as goal
 
-pub invariant_of-pair : goal.invariant_of-pair
-invariant_of-pair c =
-    let few = rising-few c.args.region.now (vertex_count c.args.h.now) c.requires.rising c.requires.vertices in
-    let most = c.blocks-2.ensures.parted.bounds.vertices in
-    let same = ap vertex_count c.requires.belongs in
-    record {
-      all = ap length c.blocks-2.ensures.value ∙ c.blocks-2.ensures.parted.partition.vertices ∙ same;
-      rising = c.requires.rising;
-      vertices = c.requires.vertices;
-      long = ap length c.as_slice.ensures.value ∙ c.in_ok-place_region.ensures.long;
-      placed = subst (ArePlaces c.args.region.now) (sym c.as_slice.ensures.value) c.in_ok-place_region.ensures.placed;
-      small = omega arith;
-      above = c.more_than_all.ensures.value;
-      bounded = c.more_than_all.ensures.bound;
-    }
+pub of-pair-requires-clause-long : goal.of-pair-requires-clause-long
+of-pair-requires-clause-long c = ap length c.as_slice.ensures.value ∙ c.in_ok-place_region.ensures.long
+
+pub of-pair-requires-clause-placed : goal.of-pair-requires-clause-placed
+of-pair-requires-clause-placed c = subst (ArePlaces c.args.region.now) (sym c.as_slice.ensures.value) c.in_ok-place_region.ensures.placed

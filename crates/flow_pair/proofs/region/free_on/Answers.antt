@@ -1,8 +1,12 @@
-use Rattle.std.proofs.Common.{ℕ, ◌++◌, [], ◌<◌, ◌∙◌, All, filter, length, sym, ap, subst, arith}
+use Rattle.std.proofs.Common.{◌≡◌, ℕ, ◌++◌, [], ◌<◌, ◌∙◌, All, filter, length, sym, ap, subst, arith}
 use Rattle.std.proofs.lemmas.List.Elements.{All-append, All-filter, All-weaker}
+use Rattle.std.proofs.lemmas.Result.{IfOk-weaker}
+use Rattle.std.specs.Ordering.{nat_cmp}
 use Rattle.hg_defs.specs.Hypergraph.{vertex_count}
+use Rattle.hg_defs.specs.Sorting.{set_of}
 use Rattle.flow_pair.specs.Sides.{is_free_in, free_pins}
 use Rattle.flow_pair.proofs.MemberLaws.{flat_map_next}
+use Rattle.flow_pair.proofs.NetLaws.{all_of_set}
 use Rattle.flow_pair.proofs.region.free_on.Goals as goal
 
 pub loop-e-preserved : goal.loop-e-preserved
@@ -21,3 +25,9 @@ pub distinct_of_many-requires : goal.distinct_of_many-requires
 distinct_of_many-requires c =
     All-weaker (λ v. v < vertex_count c.args.h.now) (λ v. v < length c.args.spots.now) (λ v l. let s = c.requires.spots in omega arith) c.loop-e.list.items
     c.loop-e.invariant.1
+
+pub returns-clause-below : goal.returns-clause-below
+returns-clause-below c =
+    let P = (λ (v : ℕ). v < vertex_count c.args.h.now) in
+    IfOk-weaker c.distinct_of_many.result (λ list. list.items ≡ set_of nat_cmp c.loop-e.list.items) (λ list. All P list.items)
+    (λ list is. subst (All P) (sym is) (all_of_set P c.loop-e.list.items c.loop-e.invariant.1)) c.distinct_of_many.ensures.set

@@ -1,10 +1,10 @@
-use Rattle.std.proofs.Common.{◌≡◌, ◌<◌, ◌-◌, ◌∙◌, All, sym, ap, ap₂, subst, arith}
+use Rattle.std.proofs.Common.{[], ◌++◌, ◌≡◌, ℕ, List, ◌<◌, ◌-◌, ◌∙◌, All, sym, ap, ap₂, subst, arith}
 use Rattle.std.specs.List.{flat_map}
 use Rattle.std.specs.Ordering.{nat_cmp}
 use Rattle.hg_defs.specs.Hypergraph.{Hyper, IsHypergraph, vertex_count, net_count}
 use Rattle.hg_defs.specs.Partition.{load}
 use Rattle.hg_defs.specs.Sorting.{set_of}
-use Rattle.round_log.specs.Rounds.{is_near}
+use Rattle.round_log.specs.Rounds.{is_near, side}
 use Rattle.flow_pair.specs.Sides.{free_pins}
 use Rattle.flow_pair.proofs.FormLaws.{side_taken, side_none, side_near}
 use Rattle.flow_pair.proofs.NetLaws.{touching_all, kept_below, near_listed}
@@ -31,8 +31,9 @@ returns-then-room-least-clause-side c =
     let p = c.args.p.now.blocks in
     let room : c.limit.result - c.weight.result ≡ c.args.p.now.limit - load c.args.h.now p c.args.to =
     (let a = c.limit.ensures in let b = c.weight.ensures in let d = ap (λ (x : Hyper). load x p c.args.to) c.requires.belongs in omega arith) in
-    side_none c.args.h.now c.args.p.now.limit p c.args.from c.args.to (c.limit.result - c.weight.result) c.args.least c.args.list.now.items c.requires.least
-    room c.if-room-least.true
+    let none : c.new-list.result.items ≡ [] = search in
+    side_none c.args.h.now c.args.p.now.limit p c.args.from c.args.to (c.limit.result - c.weight.result) c.args.least c.new-list.result.items c.requires.least
+    room c.if-room-least.true ∙ ap (λ (xs : List ℕ). xs ++ side c.args.h.now c.args.p.now.limit p c.args.from c.args.to) none
 
 pub returns-then-left-least-clause-side : goal.returns-then-left-least-clause-side
 returns-then-left-least-clause-side c =
@@ -44,8 +45,10 @@ returns-then-left-least-clause-side c =
     ∙ near_listed h p c.args.from c.args.to sound in
     let room : c.limit.result - c.weight.result ≡ c.args.p.now.limit - load h p c.args.to =
     (let a = c.limit.ensures in let b = c.weight.ensures in let d = ap (λ (x : Hyper). load x p c.args.to) c.requires.belongs in omega arith) in
+    let none : c.new-list.result.items ≡ [] = search in
     side_near h c.args.p.now.limit p c.args.from c.args.to (c.limit.result - c.weight.result) c.in_ok-left.left c.args.least c.as_slice.result.now
-    c.args.list.now.items c.take_all.new.list.items c.requires.least (c.as_slice.ensures.value ∙ near) room c.in_ok-left.ensures c.if-left-least.true
+    c.new-list.result.items c.take_all.new.list.items c.requires.least (c.as_slice.ensures.value ∙ near) room c.in_ok-left.ensures c.if-left-least.true
+    ∙ ap (λ (xs : List ℕ). xs ++ side h c.args.p.now.limit p c.args.from c.args.to) none
 
 pub scan_pays-requires : goal.scan_pays-requires
 scan_pays-requires c =
@@ -88,8 +91,10 @@ returns-clause-side c =
     let room : c.limit.result - c.weight.result ≡ c.args.p.now.limit - load h p c.args.to =
     (let a = c.limit.ensures in let b = c.weight.ensures in let d = ap (λ (x : Hyper). load x p c.args.to) c.requires.belongs in omega arith) in
     let ends = side_taken h c.args.p.now.limit p c.args.from c.args.to (c.limit.result - c.weight.result) c.in_ok-left.left c.as_slice.result.now
-    c.args.list.now.items c.take_all.new.list.items c.if-scan_pays.list.items (c.as_slice.ensures.value ∙ near) room c.in_ok-left.ensures in
+    c.new-list.result.items c.take_all.new.list.items c.if-scan_pays.list.items (c.as_slice.ensures.value ∙ near) room c.in_ok-left.ensures in
+    let none : c.new-list.result.items ≡ [] = search in
+    let last = ap (λ (xs : List ℕ). xs ++ side h c.args.p.now.limit p c.args.from c.args.to) none in
     elim c.if-scan_pays.branch [
-      | then-scan_pays+in_ok-take_scanned w ↦ ends (ap (λ list. list.items) w.list-is ∙ w.in_ok-take_scanned.ensures.next)
-      | else-scan_pays+in_ok-take_listed w ↦ ends (ap (λ list. list.items) w.list-is ∙ w.in_ok-take_listed.ensures.next)
+      | then-scan_pays+in_ok-take_scanned w ↦ ends (ap (λ list. list.items) w.list-is ∙ w.in_ok-take_scanned.ensures.next) ∙ last
+      | else-scan_pays+in_ok-take_listed w ↦ ends (ap (λ list. list.items) w.list-is ∙ w.in_ok-take_listed.ensures.next) ∙ last
     ]

@@ -2,8 +2,8 @@ use Rattle.std.proofs.Common.{nat_eq, refl}
 use Rattle.std.specs.Set.{is_member}
 use Rattle.hg_defs.specs.Partition.{block_of}
 use Rattle.flow_pair.proofs.ShortArcLaws.{kept_pin, noted_then, noted_else, pin_inside, pin_outside}
-use Rattle.flow_pair.proofs.short.note_pin.Goals as goal
-use Rattle.flow_pair.proofs.short.note_pin.Goals.{then-outside, else-outside}
+use Rattle.flow_pair.proofs.notes.note_pin.Goals as goal
+use Rattle.flow_pair.proofs.notes.note_pin.Goals.{then-outside, else-outside}
 
 pub returns-then-place-pair-clause-first : goal.returns-then-place-pair-clause-first
 returns-then-place-pair-clause-first c =
