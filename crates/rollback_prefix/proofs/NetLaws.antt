@@ -53,18 +53,17 @@ seen_more m seen nets e low fresh s = record {
     marked x (inl c) (inr q) = get_or-set_other seen e x true false q ∙ s.marked x c
     marked x (inr f) (inr q) = absurd (q (sym f))
 
--- a list holds what another one holds, where it holds what stands at each place
-pub contained_by_places : (xs ys : List ℕ) → ((j : ℕ) → j < length ys → Contains xs (get_or ys j 0)) → (x : ℕ) → Contains ys x → Contains xs x
-contained_by_places xs ys h x c = subst (Contains xs) (get_or_default ys c.0 0 x c.1 ∙ c.2) (h c.0 c.1)
+-- what holds of what stands at each place holds of what a list contains
+pub contained_by_places : (P : ℕ → Type 0) (ys : List ℕ) → ((j : ℕ) → j < length ys → P (get_or ys j 0)) → (x : ℕ) → Contains ys x → P x
+contained_by_places P ys h x c = subst P (get_or_default ys c.0 0 x c.1 ∙ c.2) (h c.0 c.1)
 
--- the nets of the moves so far, and those of one more
-pub all_more : (h : Hyper) (moves : List Move) (nets : List ℕ) (i : ℕ) →
-    ((j : ℕ) (d : Move) (e : ℕ) → j < i → Contains (nets_of h (get_or moves j d).vertex)
-    e → Contains nets e)
-    → ((d : Move) (e : ℕ) → Contains (nets_of h (get_or moves i d).vertex) e → Contains nets e)
-    → (j : ℕ) (d : Move) (e : ℕ) → j < i + 1 → Contains (nets_of h (get_or moves j d).vertex) e → Contains nets e
-all_more h moves nets i before here j d e l c = by (cases_eq j i)
+-- what holds of the nets of the moves so far and of one more
+pub all_more : (h : Hyper) (moves : List Move) (P : ℕ → Type 0) (i : ℕ) →
+    ((j : ℕ) (d : Move) (e : ℕ) → j < i → Contains (nets_of h (get_or moves j d).vertex) e → P e)
+    → ((d : Move) (e : ℕ) → Contains (nets_of h (get_or moves i d).vertex) e → P e)
+    → (j : ℕ) (d : Move) (e : ℕ) → j < i + 1 → Contains (nets_of h (get_or moves j d).vertex) e → P e
+all_more h moves P i before here j d e l c = by (cases_eq j i)
   where
-    by : (j ≡ i) ⊎ (j ≡ i → ⊥) → Contains nets e
+    by : (j ≡ i) ⊎ (j ≡ i → ⊥) → P e
     by (inl q) = here d e (subst (λ n. Contains (nets_of h (get_or moves n d).vertex) e) q c)
     by (inr q) = before j d e (omega arith) c

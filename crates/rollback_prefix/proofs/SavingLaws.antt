@@ -1,30 +1,29 @@
 -- Laws of what nets save together: net by net, part by part, and all nets that moves touch.
-use Rattle.std.proofs.Common.{◌≡◌, ◌≢◌, ℕ, zero, suc, ◌+◌, ◌*◌, ◌^◌, ◌<◌, ◌≤◌, List, [], ◌∷◌, take, drop}
-use Rattle.std.proofs.Common.{length, get_or, replicate, All, AllPairs, Contains, ℤ}
-use Rattle.std.proofs.Common.{pos, ◌+ℤ◌, ◌-ℤ◌, ◌≤ℤ◌, refl, sym, ap, ◌∙◌, subst, arith, if◌then◌else◌, nat_eq, Bool, true, false, ◌++◌, ◌/◌, ◌%◌, min}
-use Rattle.std.proofs.Math.Seq.{take-add}
+use Rattle.std.proofs.Common.{◌≡◌, ◌≢◌, ◌⊎◌, inl, inr, ℕ, zero, suc, ◌+◌, ◌*◌, ◌^◌, ◌<◌, ◌≤◌, List, [], ◌∷◌, take, drop}
+use Rattle.std.proofs.Common.{length, get_or, replicate, All, AllPairs, Contains, Result, Ok, IfOk, ℤ}
+use Rattle.std.proofs.Common.{pos, ◌+ℤ◌, ◌-ℤ◌, ◌≤ℤ◌, refl, sym, ap, ◌∙◌, subst, arith, if◌then◌else◌, nat_eq, Bool, true, false, ◌++◌, ◌%◌}
 use Rattle.std.proofs.lemmas.Int.{ints}
 use Rattle.std.proofs.lemmas.List.{take_all, length-replicate}
-use Rattle.std.proofs.lemmas.Bool.{eqb-true, eqb-false}
-use Rattle.std.proofs.lemmas.List.Elements.{All-head, All-tail}
+use Rattle.std.proofs.lemmas.Bool.{eqb-true, eqb-false, cases_lt}
+use Rattle.std.proofs.lemmas.List.Elements.{All-head, All-tail, All-nil, All-append, All-weaker, Contains-append_left, Contains-append_right}
+use Rattle.std.proofs.lemmas.List.Kept.{AllPairs-cons}
 use Rattle.hg_defs.specs.declared.moves.Move.{Move}
 use Rattle.hg_defs.specs.Sums.{total, sum_below}
 use Rattle.hg_defs.specs.Hypergraph.{Net, Hyper, IsWithinLimits, net_count, net_of}
 use Rattle.hg_defs.specs.Incidence.{nets_of}
 use Rattle.hg_defs.specs.Cost.{cost, net_cost}
 use Rattle.hg_defs.specs.Replay.{replay_first}
-use Rattle.hg_defs.proofs.SumLaws.{total-take_more, total-append, total-take-le, total-take-drop, total-le}
+use Rattle.hg_defs.proofs.SumLaws.{total-take_more, total-append, total-le}
 use Rattle.hg_defs.proofs.SumLaws.{total-by_index, sum_below-change, sum_below-same, sum_below-le, total-same}
 use Rattle.hg_base.proofs.CountLaws.{net_cost-le}
-use Rattle.std.specs.List.{range_with_len, AllZip}
+use Rattle.std.specs.List.{range_with_len}
 use Rattle.std.specs.Set.{is_member}
 use Rattle.std.proofs.lemmas.List.{take-append-le}
 use Rattle.std.proofs.lemmas.List.FromFn.{length-range_with_len, get_or-range_with_len}
-use Rattle.std.proofs.lemmas.List.Elements.{Contains-get_or, All-take, All-drop}
+use Rattle.std.proofs.lemmas.List.Elements.{Contains-get_or}
 use Rattle.std.proofs.lemmas.Bool.Decides.{Decides-eqb}
 use Rattle.std.proofs.lemmas.Map.Made.{is_member-Decides}
-use Rattle.std.proofs.Math.Nat.{mul-le-mul_right}
-use Rattle.std.proofs.lemmas.Grind.{div_ceil_times}
+use Rattle.std.proofs.Math.Nat.{mod-lt, mod-one}
 use Rattle.hg_defs.specs.Cost.{price}
 use Rattle.std.specs.Set.{distinct_count}
 use Rattle.hg_defs.proofs.PlacementLaws.{Contains_filter}
@@ -32,7 +31,7 @@ use Rattle.hg_defs.specs.Incidence.{is_on}
 use Rattle.rollback_prefix.specs.Steps.{AreReplayGains}
 use Rattle.rollback_prefix.proofs.StepLaws.{no_move}
 use Rattle.rollback_prefix.proofs.KernelLaws.{quiet_one}
-use Rattle.rollback_prefix.specs.Gains.{AreSavings, AreSmall, AreTouched, cost_of_nets, saved_by_net, pin_weight, part_of}
+use Rattle.rollback_prefix.specs.Gains.{AreSavings, AreSmall, AreTouchedOf, AreSavingsOf, cost_of_nets, saved_by_net, pin_weight}
 
 -- ---- small sums
 
@@ -92,33 +91,20 @@ savings_more h p moves nets j old new l s long added = record {
 
 -- ---- part by part
 
-pub savings_joined : (h : Hyper) (p : List ℕ) (moves : List Move) (nets : List ℕ) (size j : ℕ) (old part new : List ℤ) →
-    AreSavings h p moves (take (j * size) nets) old → AreSavings h p moves (part_of nets size j) part → length new ≡ length moves
+pub savings_joined : (h : Hyper) (p : List ℕ) (moves : List Move) (xs ys : List ℕ) (old part new : List ℤ) → AreSavings h p moves xs old →
+    AreSavings h p moves ys part → length new ≡ length moves
     → ((i : ℕ) → i < length moves → get_or new i (pos 0) ≡ get_or old i (pos 0) +ℤ get_or part i (pos 0))
-    → AreSavings h p moves (take ((j + 1) * size) nets) new
-savings_joined h p moves nets size j old part new s t long added = record {
+    → AreSavings h p moves (xs ++ ys) new
+savings_joined h p moves xs ys old part new s t long added = record {
   size = long;
   each = λ i m. joined (get_or new i (pos 0)) (get_or old i (pos 0))
-      (cost_of_nets h (replay_first p moves i) (take (j * size) nets)) (cost_of_nets h (replay_first p moves (i + 1)) (take (j * size) nets))
-      (cost_of_nets h (replay_first p moves i) (part_of nets size j)) (cost_of_nets h (replay_first p moves (i + 1)) (part_of nets size j))
-      (cost_of_nets h (replay_first p moves i) (take ((j + 1) * size) nets)) (cost_of_nets h (replay_first p moves (i + 1)) (take ((j + 1) * size) nets))
+      (cost_of_nets h (replay_first p moves i) xs) (cost_of_nets h (replay_first p moves (i + 1)) xs)
+      (cost_of_nets h (replay_first p moves i) ys) (cost_of_nets h (replay_first p moves (i + 1)) ys)
+      (cost_of_nets h (replay_first p moves i) (xs ++ ys)) (cost_of_nets h (replay_first p moves (i + 1)) (xs ++ ys))
       (s.each i m) (added i m ∙ ap (λ z. get_or old i (pos 0) +ℤ z) (t.each i m))
-      (whole (λ e. net_cost h.objective (replay_first p moves i) (net_of h e)))
-      (whole (λ e. net_cost h.objective (replay_first p moves (i + 1)) (net_of h e)));
+      (total-append (λ e. net_cost h.objective (replay_first p moves i) (net_of h e)) xs ys)
+      (total-append (λ e. net_cost h.objective (replay_first p moves (i + 1)) (net_of h e)) xs ys);
 }
-  where
-    whole : (f : ℕ → ℕ) → total f (take ((j + 1) * size) nets) ≡ total f (take (j * size) nets) + total f (part_of nets size j)
-    whole f =
-        let e : (j + 1) * size ≡ j * size + size = omega arith in
-        ap (λ n. total f (take n nets)) e ∙ ap (total f) (take-add (j * size) size nets) ∙ total-append f (take (j * size) nets)
-        (take size (drop (j * size) nets))
-
-pub part_weight-le : (h : Hyper) (nets : List ℕ) (size j : ℕ) → pin_weight h (part_of nets size j) ≤ pin_weight h nets
-part_weight-le h nets size j =
-    let f = λ (e : ℕ). (net_of h e).weight * length (net_of h e).pins in
-    let a = total-take-le f (drop (j * size) nets) size in
-    let b = total-take-drop f nets (j * size) in
-    omega arith
 
 pub savings_whole : (h : Hyper) (p : List ℕ) (moves : List Move) (nets : List ℕ) (n : ℕ) (gains : List ℤ) → length nets ≤ n →
     AreSavings h p moves (take n nets) gains → AreSavings h p moves nets gains
@@ -190,13 +176,11 @@ total_within m f nets low once =
     none [] = refl
     none (x ∷ xs) = let e = none xs in omega arith
 
-no_net : Net
-no_net = record { weight = 0; pins = [] }
-
 -- what different nets weigh, each for each pin, is small
-pub touched_small : (h : Hyper) (moves : List Move) (nets : List ℕ) → IsWithinLimits h → AreTouched h moves nets → pin_weight h nets < 2 ^ 57
-touched_small h moves nets bounds t =
-    let a = total_within (net_count h) (λ e. (net_of h e).weight * length (net_of h e).pins) nets t.below t.once in
+pub listed_small : (h : Hyper) (nets : List ℕ) → IsWithinLimits h → All (λ e. e < net_count h) nets → AllPairs (λ a b. a ≢ b) nets →
+    pin_weight h nets < 2 ^ 57
+listed_small h nets bounds below once =
+    let a = total_within (net_count h) (λ e. (net_of h e).weight * length (net_of h e).pins) nets below once in
     let b = total-by_index (λ (e : Net). e.weight * length e.pins) (record { weight = 0; pins = [] }) h.nets in
     let c = bounds.pin_weight in
     omega arith
@@ -205,12 +189,13 @@ cost_by_number : (h : Hyper) (p : List ℕ) → cost h p ≡ sum_below (λ e. ne
 cost_by_number h p = total-by_index (net_cost h.objective p) (record { weight = 0; pins = [] }) h.nets
 
 -- a net that no move touches costs the same before and after it
-untouched_same : (h : Hyper) (p : List ℕ) (moves : List Move) (nets : List ℕ) (i e : ℕ) → AreTouched h moves nets → i < length moves → e < net_count h →
-    (Contains nets e → ⊥)
+untouched_same : (h : Hyper) (p : List ℕ) (moves : List Move) (nets : List ℕ) (i e : ℕ) →
+    ((d : Move) → Contains (nets_of h (get_or moves i d).vertex) e → Contains nets e)
+    → i < length moves → e < net_count h → (Contains nets e → ⊥)
     → net_cost h.objective (replay_first p moves i) (net_of h e) ≡ net_cost h.objective (replay_first p moves (i + 1)) (net_of h e)
-untouched_same h p moves nets i e t here low q =
+untouched_same h p moves nets i e all here low q =
     ap (λ (xs : List ℕ). (net_of h e).weight * price h.objective (distinct_count nat_eq xs))
-    (sym (quiet_one p (net_of h e).pins moves i here (λ c. q (t.all i no_move e here (on (get_or moves i no_move).vertex c)))))
+    (sym (quiet_one p (net_of h e).pins moves i here (λ c. q (all no_move (on (get_or moves i no_move).vertex c)))))
   where
     on : (v : ℕ) → Contains (net_of h e).pins v → Contains (nets_of h v) e
     on v c =
@@ -218,57 +203,126 @@ untouched_same h p moves nets i e t here low q =
         Contains_filter (is_on h v) (range_with_len 0 (net_count h)) e (e, omega arith, get_or-range_with_len 0 (net_count h) e e low ∙ omega arith)
         ((is_member-Decides Decides-eqb (net_of h e).pins v).1 c)
 
--- what the touched nets save is what each move gains
-pub touched_gains : (h : Hyper) (p : List ℕ) (moves : List Move) (nets : List ℕ) (gains : List ℤ) → AreTouched h moves nets → AreSavings h p moves nets
-    gains →
-    AreReplayGains h p moves gains
-touched_gains h p moves nets gains t s = record {
+-- ---- all parts
+
+-- different nets whose number leaves less than j over when it is divided by parts, among them each with a pin that moves
+pub record AreTouchedBelow (h : Hyper) (moves : List Move) (j parts : ℕ) (nets : List ℕ) : Type 0 where
+  pub below : All (λ e. e < net_count h) nets
+  pub once : AllPairs (λ a b. a ≢ b) nets
+  pub each : All (λ e. e % parts < j) nets
+  pub all : (i : ℕ) (d : Move) (e : ℕ) → i < length moves → Contains (nets_of h (get_or moves i d).vertex) e → e % parts < j → Contains nets e
+
+-- each gain is what the nets of the first j parts save by its move
+pub record AreSavingsBelow (h : Hyper) (p : List ℕ) (moves : List Move) (j parts : ℕ) (gains : List ℤ) : Type 0 where
+  pub nets : List ℕ
+  pub touched : AreTouchedBelow h moves j parts nets
+  pub savings : AreSavings h p moves nets gains
+
+pub no_parts : (h : Hyper) (p : List ℕ) (moves : List Move) (parts : ℕ) → AreSavingsBelow h p moves 0 parts (replicate (length moves) (pos 0))
+no_parts h p moves parts = record {
+  nets = [];
+  touched = record {
+    below = All-nil (λ e. e < net_count h);
+    once = λ i j d l n. absurd (omega arith);
+    each = All-nil (λ e. e % parts < 0);
+    all = λ i d e l c m. absurd (omega arith);
+  };
+  savings = savings_none h p moves;
+}
+
+pairs_append : {A : Type 0} (R : A → A → Type 0) (xs ys : List A) → AllPairs R xs → AllPairs R ys → All (λ x. All (R x) ys) xs → AllPairs R (xs ++ ys)
+pairs_append R [] ys a b c = b
+pairs_append R (x ∷ xs) ys a b c =
+    AllPairs-cons R x (xs ++ ys)
+    (All-append (R x) xs ys (λ i d low. a 0 (suc i) d (omega arith) (omega arith)) (All-head (λ z. All (R z) ys) x xs c))
+    (pairs_append R xs ys (λ i j d l m. a (suc i) (suc j) d (omega arith) (omega arith)) b (All-tail (λ z. All (R z) ys) x xs c))
+
+touched_joined : (h : Hyper) (moves : List Move) (j parts : ℕ) (xs ys : List ℕ) → AreTouchedBelow h moves j parts xs → AreTouchedOf h moves j parts ys →
+    AreTouchedBelow h moves (j + 1) parts (xs ++ ys)
+touched_joined h moves j parts xs ys t u = record {
+  below = All-append (λ e. e < net_count h) xs ys t.below u.below;
+  once = pairs_append (λ a b. a ≢ b) xs ys t.once u.once
+      (All-weaker (λ x. x % parts < j) (λ x. All (λ y. x ≢ y) ys) (λ x l. All-weaker (λ y. y % parts ≡ j) (λ y. x ≢ y)
+      (λ y e q. apart (x % parts) (y % parts) l e (ap (λ z. z % parts) q)) ys u.each) xs t.each);
+  each = All-append (λ e. e % parts < j + 1) xs ys
+      (All-weaker (λ e. e % parts < j) (λ e. e % parts < j + 1) (λ e l. more (e % parts) l) xs t.each)
+      (All-weaker (λ e. e % parts ≡ j) (λ e. e % parts < j + 1) (λ e l. last (e % parts) l) ys u.each);
+  all = λ i d e l c m. by i d e l c m (cases_lt (e % parts) j);
+}
+  where
+    apart : (a b : ℕ) → a < j → b ≡ j → a ≡ b → ⊥
+    apart a b l e q = omega arith
+
+    more : (a : ℕ) → a < j → a < j + 1
+    more a l = omega arith
+
+    last : (a : ℕ) → a ≡ j → a < j + 1
+    last a e = omega arith
+
+    only : (a : ℕ) → a < j + 1 → j ≤ a → a ≡ j
+    only a l m = omega arith
+
+    by : (i : ℕ) (d : Move) (e : ℕ) → i < length moves → Contains (nets_of h (get_or moves i d).vertex) e → e % parts < j + 1
+        → (e % parts < j) ⊎ (j ≤ e % parts) → Contains (xs ++ ys) e
+    by i d e l c m (inl a) = Contains-append_left xs ys e (t.all i d e l c a)
+    by i d e l c m (inr a) = Contains-append_right xs ys e (u.all i d e l c (only (e % parts) m a))
+
+-- the gains by one more part
+pub parts_more : (h : Hyper) (p : List ℕ) (moves : List Move) (j parts : ℕ) (old part new : List ℤ) → AreSavingsBelow h p moves j parts old →
+    AreSavingsOf h p moves j parts part → length new ≡ length moves
+    → ((i : ℕ) → i < length moves → get_or new i (pos 0) ≡ get_or old i (pos 0) +ℤ get_or part i (pos 0))
+    → AreSavingsBelow h p moves (j + 1) parts new
+parts_more h p moves j parts old part new s t long added = record {
+  nets = s.nets ++ t.nets;
+  touched = touched_joined h moves j parts s.nets t.nets s.touched t.touched;
+  savings = savings_joined h p moves s.nets t.nets old part new s.savings t.savings long added;
+}
+
+-- the gains so far are small enough for those by one more part, and these are, too
+pub parts_small : (h : Hyper) (p : List ℕ) (moves : List Move) (j parts : ℕ) (gains : List ℤ) → IsWithinLimits h → AreSavingsBelow h p moves j parts gains →
+    AreSmall gains
+parts_small h p moves j parts gains bounds s =
+    savings_small h p moves s.nets gains s.savings (listed_small h s.nets bounds s.touched.below s.touched.once)
+
+pub part_small : (h : Hyper) (p : List ℕ) (moves : List Move) (j parts : ℕ) (gains : List ℤ) → IsWithinLimits h → AreSavingsOf h p moves j parts gains →
+    AreSmall gains
+part_small h p moves j parts gains bounds s =
+    savings_small h p moves s.nets gains s.savings (listed_small h s.nets bounds s.touched.below s.touched.once)
+
+-- what holds of an entry that is a value
+pub value_at : {A E : Type 0} (P : A → Type 0) (xs ys : List (Result A E)) (j : ℕ) (d : Result A E) (x : A) → xs ≡ ys → get_or xs j d ≡ Ok x →
+    IfOk (get_or ys j d) P → P x
+value_at P xs ys j d x same here h = subst (λ r. IfOk r P) (ap (λ zs. get_or zs j d) (sym same) ∙ here) h
+
+-- what all nets save that moves touch is what each move gains
+touched_gains : (h : Hyper) (p : List ℕ) (moves : List Move) (nets : List ℕ) (gains : List ℤ) → All (λ e. e < net_count h) nets →
+    AllPairs (λ a b. a ≢ b) nets
+    → ((i : ℕ) (d : Move) (e : ℕ) → i < length moves → Contains (nets_of h (get_or moves i d).vertex) e → Contains nets e)
+    → AreSavings h p moves nets gains
+    → AreReplayGains h p moves gains
+touched_gains h p moves nets gains below once all s = record {
   size = s.size;
   each = λ i l. s.each i l ∙ difference
       (cost_of_nets h (replay_first p moves i) nets) (cost_of_nets h (replay_first p moves (i + 1)) nets) (cost h (replay_first p moves i))
       (cost h (replay_first p moves (i + 1)))
       (let a = cost_by_number h (replay_first p moves i) in
       let b = cost_by_number h (replay_first p moves (i + 1)) in
-      let c = change_all (net_count h) (λ e. net_cost h.objective (replay_first p moves (i + 1)) (net_of h e)) nets t.below t.once
-      (λ e. net_cost h.objective (replay_first p moves i) (net_of h e)) (λ e m q. untouched_same h p moves nets i e t l m q) in
+      let c = change_all (net_count h) (λ e. net_cost h.objective (replay_first p moves (i + 1)) (net_of h e)) nets below once
+      (λ e. net_cost h.objective (replay_first p moves i) (net_of h e))
+      (λ e m q. untouched_same h p moves nets i e (λ d x. all i d e l x) l m q) in
       omega arith);
 }
   where
     difference : (a b x y : ℕ) → x + b ≡ y + a → pos a -ℤ pos b ≡ pos x -ℤ pos y
     difference a b x y e = omega (arith, ints)
 
--- ---- the parts that threads work out
+-- the gains by all parts
+pub parts_gains : (h : Hyper) (p : List ℕ) (moves : List Move) (parts : ℕ) (gains : List ℤ) → 0 < parts → AreSavingsBelow h p moves parts parts gains →
+    AreReplayGains h p moves gains
+parts_gains h p moves parts gains some s =
+    touched_gains h p moves s.nets gains s.touched.below s.touched.once (λ i d e l c. s.touched.all i d e l c (mod-lt e some)) s.savings
 
-pub zip_at : {A B : Type 0} (R : A → B → Type 0) (xs : List A) (ys : List B) (i : ℕ) (d : A) (e : B) → AllZip R xs ys → i < length ys →
-    R (get_or xs i d) (get_or ys i e)
-zip_at R [] [] i d e z l = absurd (omega arith)
-zip_at R [] (y ∷ ys) i d e z l = absurd z
-zip_at R (x ∷ xs) [] i d e z l = absurd z
-zip_at R (x ∷ xs) (y ∷ ys) zero d e z l = z.0
-zip_at R (x ∷ xs) (y ∷ ys) (suc i) d e z l = zip_at R xs ys i d e z.1 (omega arith)
-
-pub zip_long : {A B : Type 0} (R : A → B → Type 0) (xs : List A) (ys : List B) → AllZip R xs ys → length xs ≡ length ys
-zip_long R [] [] z = refl
-zip_long R [] (y ∷ ys) z = absurd z
-zip_long R (x ∷ xs) [] z = absurd z
-zip_long R (x ∷ xs) (y ∷ ys) z = ap suc (zip_long R xs ys z.1)
-
--- a part begins before the end
-pub part_begins : (n size j parts : ℕ) → 0 < size → parts ≡ n / size + min 1 (n % size) → j < parts → j * size < n
-part_begins n size j parts s e l =
-    let a = div_ceil_times n size s in
-    let b : (j + 1) * size ≤ parts * size = mul-le-mul_right size (omega arith) in
-    let c : (j + 1) * size ≡ j * size + size = omega arith in
-    let d : parts * size ≡ (n / size + min 1 (n % size)) * size = ap (λ x. x * size) e in
-    let f = a.1 in
-    omega arith
-
-pub parts_cover : (n size parts : ℕ) → 0 < size → parts ≡ n / size + min 1 (n % size) → n ≤ parts * size
-parts_cover n size parts s e =
-    let a = div_ceil_times n size s in
-    let d : parts * size ≡ (n / size + min 1 (n % size)) * size = ap (λ x. x * size) e in
-    let f = a.0 in
-    omega arith
-
-pub part_below : (m : ℕ) (nets : List ℕ) (size j : ℕ) → All (λ e. e < m) nets → All (λ e. e < m) (part_of nets size j)
-part_below m nets size j a = All-take (λ e. e < m) size (drop (j * size) nets) (All-drop (λ e. e < m) (j * size) nets a)
+-- the gains by the only part
+pub only_gains : (h : Hyper) (p : List ℕ) (moves : List Move) (gains : List ℤ) → AreSavingsOf h p moves 0 1 gains → AreReplayGains h p moves gains
+only_gains h p moves gains s =
+    touched_gains h p moves s.nets gains s.touched.below s.touched.once (λ i d e l c. s.touched.all i d e l c (mod-one e)) s.savings

@@ -1,33 +1,49 @@
 //! The gains of moves that are replayed, net by net.
 
-ghost use Rattle.std.specs.Prelude.{◌≡◌, ◌≢◌, ℕ, ◌+◌, ◌*◌, ◌<◌, ◌≤◌, ◌^◌, All, IfOk, Result, length};
-ghost use Rattle.std.specs.Prelude.{slice_index_or, vec_len, pos, ◌-ℤ◌, ◌+ℤ◌, ◌≤ℤ◌};
-ghost use Rattle.hg_defs.specs.Hypergraph.{vertex_count, net_count};
+ghost use Rattle.std.specs.Prelude.{◌≡◌, ℕ, ◌<◌, ◌≤◌, All, IfOk, length};
+ghost use Rattle.std.specs.Prelude.{slice_index_or, vec_len, pos, ◌+ℤ◌};
+ghost use Rattle.hg_defs.specs.Hypergraph.{vertex_count};
 ghost use Rattle.hg_defs.specs.Partition.{IsPartition};
 ghost use Rattle.round_log.specs.Rounds.{IsOrder};
-ghost use Rattle.rollback_prefix.specs.Gains.{IsReplay, AreSavings, AreSmall, pin_weight, part_of};
+ghost use Rattle.rollback_prefix.specs.Gains.{IsReplay, AreSavingsOf, AreSmall};
 ghost use Rattle.rollback_prefix.specs.Steps.{StartFrom, AreReplayGains};
 
 use crate::nets::touched_nets;
 use crate::pins::{add_net, find_places};
+use crew::each;
 use hg_base::{Gains, Items, Move, NoMemory};
 use incidence::Hypergraph;
-use rayon::prelude::*;
 use round_log::order_of;
 use std::alloc::Global;
 use std::thread::Threads;
 
-/// What each move gains by some of the nets, or no memory to tell it.
+/// What each move gains by the nets of a part, or no memory to tell it.
 type PartGains = Result<Vec<i64>, NoMemory>;
 
-/// The nets are cut into so many parts at most, however many workers there are.
+/// The nets are shared out into so many parts at most, however many workers there are.
 const MOST_PARTS: u32 = 8;
 
-/// A part has so many nets, but for the last one: to start a thread for it costs as much as a
-/// thousand nets.
-const LEAST_NETS: usize = 4096;
+/// There is a part for so many nets of the vertices that move: to start a thread costs as much as to replay them.
+const NETS_A_PART: usize = 512;
 
-/// What each move gains by some of the nets.
+/// Into how many parts the nets of the vertices that move are shared out.
+fn count_parts(h: &Hypergraph, moves: &[Move], workers: u32) -> u32
+    requires moves { All (λ m. m.vertex < vertex_count h.now) moves.now }
+    requires some { 1 ≤ workers }
+    ensures { (1 ≤ result) × (result ≤ workers) × (result ≤ 8) }
+{
+    let most = workers.min(MOST_PARTS) as usize;
+    if most == 1 {
+        return 1;
+    }
+    let mut nets = 0usize;
+    for step in moves {
+        nets = nets.saturating_add(h.nets_of(step.vertex).len());
+    }
+    (nets / NETS_A_PART).min(most).max(1) as u32
+}
+
+/// What each move gains by the nets of a part.
 fn part_gains(
     alloc: Global,
     h: &Hypergraph,
@@ -35,18 +51,19 @@ fn part_gains(
     before: &[u32],
     moves: &[Move],
     order: &[u32],
-    nets: &[u32],
+    part: u32,
+    parts: u32,
 ) -> PartGains
     requires replay { IsReplay h.now k before.now moves.now }
     requires order { IsOrder (vertex_count h.now) moves.now order.now }
-    requires nets { All (λ e. e < net_count h.now) nets.now }
-    requires bound { pin_weight h.now nets.now < 2 ^ 57 }
-    ensures { IfOk result (λ gains. AreSavings h.now before.now moves.now nets.now gains.items) }
+    requires part { part < parts }
+    ensures { IfOk result (λ gains. AreSavingsOf h.now before.now moves.now part parts gains.items) }
 {
+    let nets = touched_nets(alloc, h, moves, part, parts)?;
     let mut gains = vec![in alloc; 0i64; moves.len()]?;
     let mut counts = vec![in alloc; 0u32; k as usize]?;
     let mut places = Vec::new(alloc);
-    for e in nets {
+    for e in nets.as_slice() {
         find_places(h.pins(*e), order, &mut places)?;
         add_net(
             h,
@@ -61,18 +78,20 @@ fn part_gains(
     Ok(gains)
 }
 
-/// Part `j` of the nets, which are cut into parts of a size.
-fn part_at(nets: &[u32], size: usize, j: usize) -> &[u32]
-    requires { j * size ≤ length nets.now }
-    ensures { result.now ≡ part_of nets.now size j }
+/// No gains yet for so many parts.
+fn empty_parts(alloc: Global, parts: u32) -> Result<Vec<PartGains>, NoMemory>
+    ensures { IfOk result (λ all. vec_len all ≡ parts) }
 {
-    let from = j * size;
-    let count = size.min(nets.len() - from);
-    &nets[from..from + count]
+    let mut all = Vec::with_capacity(alloc, parts as usize)?;
+    for _ in 0..parts {
+        all.push(Err(NoMemory))?;
+    }
+    Ok(all)
 }
 
-/// What each move gains by the nets of each part, which are cut into parts of a size.
-fn gains_by_part<R: Threads + Sync>(
+/// Writes what each move gains by the nets of each part, or that there is no memory to tell it, by a
+/// thread for each part. There are as many parts as there are places for their gains.
+fn fill_parts<R: Threads + Sync>(
     rt: &R,
     alloc: Global,
     h: &Hypergraph,
@@ -80,36 +99,30 @@ fn gains_by_part<R: Threads + Sync>(
     before: &[u32],
     moves: &[Move],
     order: &[u32],
-    nets: &[u32],
-    size: usize,
-) -> Result<Vec<PartGains>, NoMemory>
+    all: &mut [PartGains],
+)
     requires replay { IsReplay h.now k before.now moves.now }
     requires order { IsOrder (vertex_count h.now) moves.now order.now }
-    requires nets { All (λ e. e < net_count h.now) nets.now }
-    requires bound { pin_weight h.now nets.now < 2 ^ 57 }
-    requires size { 0 < size }
-    ensures whole { IfOk result (λ parts. length nets.now ≤ vec_len parts * size) }
-    ensures parts { IfOk result (λ parts. (j : ℕ) (d : _) → j < vec_len parts
-        → IfOk (slice_index_or parts.items j d) (λ gains. AreSavings h.now before.now moves.now
-        (part_of nets.now size j) gains.items)) }
+    requires few { length all.old ≤ 8 }
+    ensures count { length all.new ≡ length all.old }
+    ensures parts { (j : ℕ) (d : _) → j < length all.old → IfOk (slice_index_or all.new j d) (λ gains.
+        AreSavingsOf h.now before.now moves.now j (length all.old) gains.items) }
 {
-    let parts = nets.len().div_ceil(size);
-    let gains = (0..parts)
-        .into_par_iter()
-        .map(
-            move |j: usize| -> PartGains
-                requires { (j * size < length nets.now)
-                    × IsReplay h.now k before.now moves.now
-                    × IsOrder (vertex_count h.now) moves.now order.now
-                    × All (λ e. e < net_count h.now) nets.now
-                    × (pin_weight h.now nets.now < 2 ^ 57) }
-                ensures { IfOk result (λ gains. AreSavings h.entry.now before.entry.now moves.entry.now
-                    (part_of nets.entry.now size j) gains.items) }
-            { part_gains(alloc, h, k, before, moves, order, part_at(nets, size, j)) },
-        )
-        .with_min_len(1)
-        .collect(rt, alloc)?;
-    Ok(gains)
+    let parts = all.len() as u32;
+    each(
+        rt,
+        all,
+        &|part, gains: &mut PartGains|
+            requires { (part < parts)
+                × (parts ≤ 8)
+                × IsReplay h.now k before.now moves.now
+                × IsOrder (vertex_count h.now) moves.now order.now }
+            ensures { IfOk gains.exit.now (λ gains. AreSavingsOf h.entry.now before.entry.now moves.entry.now part
+                parts gains.items) }
+        {
+            *gains = part_gains(alloc, h, k, before, moves, order, part as u32, parts);
+        },
+    );
 }
 
 /// Adds the gains of a part to those of all.
@@ -126,8 +139,8 @@ fn add_part(gains: &mut [i64], part: &[i64])
     }
 }
 
-/// What each move gains by all of these nets, which are cut into parts of a size.
-fn gains_by_nets<R: Threads + Sync>(
+/// What each move gains, by a thread for each of so many parts of the nets.
+fn gains_by_parts<R: Threads + Sync>(
     rt: &R,
     alloc: Global,
     h: &Hypergraph,
@@ -135,19 +148,17 @@ fn gains_by_nets<R: Threads + Sync>(
     before: &[u32],
     moves: &[Move],
     order: &[u32],
-    nets: &[u32],
-    size: usize,
+    parts: u32,
 ) -> Result<Vec<i64>, NoMemory>
     requires replay { IsReplay h.now k before.now moves.now }
     requires order { IsOrder (vertex_count h.now) moves.now order.now }
-    requires nets { All (λ e. e < net_count h.now) nets.now }
-    requires bound { pin_weight h.now nets.now < 2 ^ 57 }
-    requires size { 0 < size }
-    ensures { IfOk result (λ gains. AreSavings h.now before.now moves.now nets.now gains.items) }
+    requires parts { (1 ≤ parts) × (parts ≤ 8) }
+    ensures { IfOk result (λ gains. AreReplayGains h.now before.now moves.now gains.items) }
 {
-    let parts = gains_by_part(rt, alloc, h, k, before, moves, order, nets, size)?;
+    let mut all = empty_parts(alloc, parts)?;
+    fill_parts(rt, alloc, h, k, before, moves, order, all.as_mut_slice());
     let mut gains = vec![in alloc; 0i64; moves.len()]?;
-    for part in parts.as_slice() {
+    for part in all.as_slice() {
         match part {
             Ok(part) => add_part(gains.as_mut_slice(), part.as_slice()),
             Err(none) => return Err(*none),
@@ -156,8 +167,8 @@ fn gains_by_nets<R: Threads + Sync>(
     Ok(gains)
 }
 
-/// What each move gains by all of these nets, which at most so many threads look at. The gains by a
-/// single part are those by all nets, so that a thread alone adds none up.
+/// What each move gains. The gains by a single part are those by all nets, so that a thread alone adds
+/// none up.
 fn gains_with<R: Threads + Sync>(
     rt: &R,
     alloc: Global,
@@ -166,22 +177,18 @@ fn gains_with<R: Threads + Sync>(
     before: &[u32],
     moves: &[Move],
     order: &[u32],
-    nets: &[u32],
     workers: u32,
 ) -> Result<Vec<i64>, NoMemory>
     requires replay { IsReplay h.now k before.now moves.now }
     requires order { IsOrder (vertex_count h.now) moves.now order.now }
-    requires nets { All (λ e. e < net_count h.now) nets.now }
-    requires bound { pin_weight h.now nets.now < 2 ^ 57 }
     requires some { 1 ≤ workers }
-    ensures { IfOk result (λ gains. AreSavings h.now before.now moves.now nets.now gains.items) }
+    ensures { IfOk result (λ gains. AreReplayGains h.now before.now moves.now gains.items) }
 {
-    let parts = workers.min(MOST_PARTS) as usize;
-    let size = nets.len().div_ceil(parts).max(LEAST_NETS);
-    if nets.len() <= size {
-        return part_gains(alloc, h, k, before, moves, order, nets);
+    let parts = count_parts(h, moves, workers);
+    if parts == 1 {
+        return part_gains(alloc, h, k, before, moves, order, 0, 1);
     }
-    gains_by_nets(rt, alloc, h, k, before, moves, order, nets, size)
+    gains_by_parts(rt, alloc, h, k, before, moves, order, parts)
 }
 
 /// What each move gains where the moves are replayed, one after the other, from a partition into `k`
@@ -191,8 +198,9 @@ fn gains_with<R: Threads + Sync>(
 /// A move gains what its vertex's nets save by it, and a net saves something only where one of its
 /// pins moves. So each net with a pin that moves is replayed alone, through the moves of its pins in
 /// their order (the recalculation of gains of Mt-KaHyPar), many nets at the same time: by as many
-/// threads as there are workers, 8 at most, and fewer where the nets are few. A single worker starts no
-/// thread.
+/// threads as there are workers, 8 at most, and fewer where the nets are few. Each thread lists and
+/// replays those of these nets whose number leaves its own place over when it is divided by the number of
+/// threads. A single worker starts no thread.
 pub fn recalculate<R: Threads + Sync>(
     rt: &R,
     alloc: Global,
@@ -210,17 +218,6 @@ pub fn recalculate<R: Threads + Sync>(
     ensures { IfOk result (AreReplayGains h.now before.now moves.now) }
 {
     let order = order_of(alloc, h.vertices(), moves)?;
-    let nets = touched_nets(alloc, h, moves)?;
-    let gains = gains_with(
-        rt,
-        alloc,
-        h,
-        k,
-        before,
-        moves,
-        order.slice(),
-        nets.as_slice(),
-        workers,
-    )?;
+    let gains = gains_with(rt, alloc, h, k, before, moves, order.slice(), workers)?;
     Ok(Items::from_vec(gains))
 }

@@ -6,7 +6,7 @@ use Rattle.rollback_prefix.proofs.gains.part_gains.Given as goal
 -- what the nets so far save
 abbrev pub invariant-loop-e : goal.invariant-loop-e
 invariant-loop-e l = record {
-  gains : AreSavings l.h l.before l.moves (take l.e-index l.nets) l.gains.items;
+  gains : AreSavings l.h l.before l.moves (take l.e-index l.e-items) l.gains.items;
   zeros : AreZeros l.counts.items;
   size : length l.counts.items ≡ l.k;
 }
