@@ -4,9 +4,11 @@
 
 ghost use Rattle.std.specs.Prelude.{◌≡◌, ◌≢◌, ◌<◌, ◌^◌, All, AllPairs, map};
 
+mod pages;
 #[cfg(test)]
 mod tests;
 
+use crate::pages::keep_pages;
 use crew::OpenGate;
 use flow_round::FlowRound;
 use fm_search::FmSearch;
@@ -88,6 +90,7 @@ fn hold_closed(rt: &HostRuntime) -> [Result<File, io::Error>; 3] {
 
 fn main(rt: HostRuntime) -> ExitCode {
     let _held = hold_closed(&rt);
+    keep_pages(rt.alloc());
     let words = match words(&rt) {
         Ok(words) => words,
         Err(status) => return end(rt, status),

@@ -336,7 +336,10 @@ impl<T> Vec<T> {
     }
     #[inline]
     pub fn with_capacity(_alloc: Global, n: usize) -> Result<Self, AllocError> {
-        Ok(Vec(std::vec::Vec::with_capacity(n)))
+        let items = std::vec::Vec::with_capacity(n);
+        // Room that nothing is put into is taken all the same, as the toolchain does.
+        std::hint::black_box(items.as_ptr());
+        Ok(Vec(items))
     }
     #[inline]
     pub fn allocator(&self) -> &Global {
