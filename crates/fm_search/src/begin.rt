@@ -8,8 +8,8 @@ ghost use Rattle.move_table.specs.Calls.{AreFresh};
 ghost use Rattle.move_table.specs.Standing.{IsTerms};
 ghost use Rattle.fm_search.specs.Opened.{IsBelow};
 
-use crate::cells::Cell;
-use crate::opening::{LEAST_NETS, Opening, read_marked, read_run};
+use crate::cells::{Cell, start_of};
+use crate::opening::{LEAST_NETS, Opening, read_marked, read_own};
 use crate::openings::Openings;
 use crate::seeds::{cut_marks, marked};
 use hg_base::NoMemory;
@@ -21,6 +21,9 @@ use std::thread::{Threads, join_mut};
 
 /// To read what a vertex may do takes as long as to copy the words of so many.
 const VERTICES_A_READING: u64 = 10;
+
+/// To read a vertex's whole row takes as long as to copy the words of so many.
+const VERTICES_A_ROW: u64 = 30;
 
 /// What a round begins with, and the marked places.
 fn begin_and_list(alloc: Global, terms: &Terms, cut: &[bool]) -> Result<(Begun, Vec<u32>), NoMemory>
@@ -64,13 +67,15 @@ fn read_beside<H: Threads + Sync>(
     let _vertices = h.vertices();
     let threads = terms.workers - 1;
     let (theirs, own) = all.split_at_mut(first);
+    let place = start_of(first as u32, terms.part.k()).min(rows.len());
+    let (their_rows, own_rows) = rows.split_at_mut(place);
     let mut front = ||
         requires { IsSync H.row × (terms.now.part.hyper ≡ h.now) × (1 ≤ threads) × (threads ≤ 64)
             × (length cut.now ≡ vertex_count h.now) × (length theirs.now ≤ vertex_count h.now)
             × All (IsBelow terms.now.part.k) theirs.now }
         ensures long { length theirs.exit.now ≡ length theirs.entry.now }
         ensures below { All (IsBelow terms.entry.now.part.k) theirs.exit.now }
-    { read_marked(rt, h, terms, cut, threads, theirs, rows) };
+    { read_marked(rt, h, terms, cut, threads, theirs, their_rows) };
     let mut back = ||
         requires { IsTerms terms.now × (terms.now.part.hyper ≡ h.now) × (terms.now.part.k ≤ 256)
             × (length cut.now ≡ vertex_count h.now) × (length cut.now < 2 ^ 32)
@@ -82,7 +87,7 @@ fn read_beside<H: Threads + Sync>(
         ensures few { IfOk result (λ r. vec_len r.1 ≤ length cut.entry.now) }
     {
         let begun = begin_and_list(alloc, terms, cut);
-        read_run(h, terms, cut, first, own);
+        read_own(h, terms, cut, first, own, own_rows);
         begun
     };
     let (_read, begun) = join_mut(rt, &mut front, &mut back);
@@ -90,20 +95,21 @@ fn read_beside<H: Threads + Sync>(
 }
 
 /// How many vertices of a level this thread reads, beside copying the words of them all, so that it takes as long as
-/// each of the other workers does for its share of the rest, where some are due.
-fn own_share(vertices: u32, due: u32, workers: u32) -> u32
+/// each of the other workers does for its share of the rest, if all of them read, `due` are to be read, and the words
+/// of `copies` are copied in the time of one reading.
+fn own_share(vertices: u32, due: u32, workers: u32, copies: u64) -> u32
     ensures { result ≤ vertices }
 {
     let (all, due, workers) = (u64::from(vertices), u64::from(due), u64::from(workers));
-    let to_read = due.saturating_mul(VERTICES_A_READING);
+    let to_read = due.saturating_mul(copies);
     let to_copy = all.saturating_mul(workers.saturating_sub(1));
     let spare = to_read.saturating_sub(to_copy);
     let share = all.saturating_mul(spare) / to_read.saturating_mul(workers).max(1);
     share.min(all) as u32
 }
 
-/// Begins with the words of a round and the marked vertices, and has all workers read what these may do, so many at
-/// most, but for one worker where whole rows are kept.
+/// Begins with the words of a round and the marked vertices, and has all workers read what these may do. `due` is taken
+/// for how many vertices are to be read, and decides only how many of them this thread reads.
 fn begin_beside<H: Threads + Sync>(
     rt: &H,
     alloc: Global,
@@ -126,11 +132,12 @@ fn begin_beside<H: Threads + Sync>(
     ensures few { IfOk result (λ r. vec_len r.1 ≤ length cut.now) }
 {
     let vertices = h.vertices();
-    let own = if openings.rows.is_empty() {
-        own_share(vertices, due, terms.workers)
+    let copies = if openings.rows.is_empty() {
+        VERTICES_A_READING
     } else {
-        0
+        VERTICES_A_ROW
     };
+    let own = own_share(vertices, due, terms.workers, copies);
     let first = (vertices - own) as usize;
     let (all, rows) = (openings.all.as_mut_slice(), openings.rows.as_mut_slice());
     read_beside(rt, alloc, h, terms, cut, first, all, rows)

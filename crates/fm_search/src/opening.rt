@@ -235,57 +235,65 @@ pub(crate) fn read_run(
     }
 }
 
-/// Reads the whole rows of the marked free vertices that weren't read, of those from a first one on whose rows stand in
-/// a run.
+/// Reads the whole rows of the marked free vertices that weren't read, by what is known of the vertices from a first
+/// one on, into a run that begins with the row of the first one, until either ends.
 fn read_rows(
     h: &Hypergraph,
     terms: &Terms,
     cut: &[bool],
-    all: &[Opening],
     first: usize,
+    known: &[Opening],
     run: &mut [Cell],
 )
     requires belongs { terms.now.part.hyper ≡ h.now }
     requires marks { length cut.now ≡ vertex_count h.now }
-    requires long { length all.now ≡ vertex_count h.now }
+    requires within { first + length known.now ≤ vertex_count h.now }
     ensures { length run.new ≡ length run.old }
 {
     let _vertices = h.vertices();
     let blocks = terms.part.blocks();
     let k = terms.part.k();
-    'vertices: for v in first..all.len() {
-        let start = start_of((v - first) as u32, k);
+    'vertices: for i in 0..known.len() {
+        let start = start_of(i as u32, k);
         let Some(row) = run.get_mut(start..start + k as usize) else {
             return;
         };
-        if is_due(&all[v], cut[v]) && h.fix(v as u32) == FREE {
+        let v = first + i;
+        if is_due(&known[i], cut[v]) && h.fix(v as u32) == FREE {
             row.fill(BLANK);
             read_row(h, terms, row, &mut Used::none(), v as u32, blocks[v]);
         }
     }
 }
 
-/// Tells what a vertex may do, by its whole row.
+/// The rows from the one at a place on, or none where they end before.
+fn rows_from(rows: &[Cell], place: u32, k: u32) -> &[Cell]
+    requires { k ≤ 256 }
+{
+    &rows[start_of(place, k).min(rows.len())..]
+}
+
+/// Tells what a vertex may do, by its whole row, with which the rows begin. One that is fixed, or has no row, stays.
 fn choose(h: &Hypergraph, terms: &Terms, rows: &[Cell], v: u32) -> Opening
     requires belongs { terms.now.part.hyper ≡ h.now }
     requires vertex { v < vertex_count h.now }
     ensures { IsBelow terms.now.part.k result }
 {
     let block = terms.part.blocks()[v as usize];
-    let start = start_of(v, terms.part.k());
-    match rows.get(start..start + terms.part.k() as usize) {
+    match rows.get(..terms.part.k() as usize) {
         Some(row) if h.fix(v) == FREE => opening_of(row, &Used::all(), block),
         _ => Opening::Stays,
     }
 }
 
-/// Tells what the marked vertices of a run may do that weren't read, by their whole rows.
+/// Tells what the marked vertices of a run may do that weren't read, by their whole rows, which begin with that of the
+/// first one.
 fn choose_run(
     h: &Hypergraph,
     terms: &Terms,
     cut: &[bool],
-    rows: &[Cell],
     first: usize,
+    rows: &[Cell],
     run: &mut [Opening],
 )
     requires belongs { terms.now.part.hyper ≡ h.now }
@@ -296,10 +304,38 @@ fn choose_run(
     ensures below { All (IsBelow terms.now.part.k) run.new }
 {
     let _vertices = h.vertices();
+    let _blocks = terms.part.blocks();
+    let k = terms.part.k();
     'vertices: for i in 0..run.len() {
         if is_due(&run[i], cut[first + i]) {
+            let rows = rows_from(rows, i as u32, k);
             run[i] = choose(h, terms, rows, (first + i) as u32);
         }
+    }
+}
+
+/// Reads what the marked vertices of a run may do that weren't read, by their whole rows where these are kept.
+pub(crate) fn read_own(
+    h: &Hypergraph,
+    terms: &Terms,
+    cut: &[bool],
+    first: usize,
+    run: &mut [Opening],
+    rows: &mut [Cell],
+)
+    requires belongs { terms.now.part.hyper ≡ h.now }
+    requires few { terms.now.part.k ≤ 256 }
+    requires marks { length cut.now ≡ vertex_count h.now }
+    requires within { first + length run.old ≤ vertex_count h.now }
+    requires below { All (IsBelow terms.now.part.k) run.old }
+    ensures long { length run.new ≡ length run.old }
+    ensures below { All (IsBelow terms.now.part.k) run.new }
+{
+    if rows.is_empty() {
+        read_run(h, terms, cut, first, run);
+    } else {
+        read_rows(h, terms, cut, first, run, rows);
+        choose_run(h, terms, cut, first, rows, run);
     }
 }
 
@@ -336,7 +372,7 @@ fn read_all<H: Threads + Sync>(
 }
 
 /// Reads the whole rows of the marked vertices that weren't read, a thread for each run of so many, and then tells what
-/// they may do.
+/// they may do: of the first vertices of a level.
 fn read_whole<H: Threads + Sync>(
     rt: &H,
     h: &Hypergraph,
@@ -349,23 +385,27 @@ fn read_whole<H: Threads + Sync>(
     requires belongs { terms.now.part.hyper ≡ h.now }
     requires size { 0 < size }
     requires marks { length cut.now ≡ vertex_count h.now }
-    requires long { length all.old ≡ vertex_count h.now }
+    requires long { length all.old ≤ vertex_count h.now }
     requires below { All (IsBelow terms.now.part.k) all.old }
     ensures long { length all.new ≡ length all.old }
     ensures below { All (IsBelow terms.now.part.k) all.new }
 {
     let _blocks = terms.part.blocks();
-    let k = terms.part.k() as usize;
+    let _vertices = h.vertices();
+    let k = terms.part.k();
     let known = &*all;
     each_chunk(
         rt,
         rows,
-        start_of(size, terms.part.k()).max(1),
+        start_of(size, k).max(1),
         &|place: usize, run: &mut [Cell]|
             requires { (2 ≤ k) × (terms.now.part.hyper ≡ h.now) × (length cut.now ≡ vertex_count h.now)
-                × (length known.now ≡ vertex_count h.now) }
+                × (length known.now ≤ vertex_count h.now) }
             ensures { length run.exit.now ≡ length run.entry.now }
-        { read_rows(h, terms, cut, known, place / k, run) },
+        {
+            let first = (place / k as usize).min(known.len());
+            read_rows(h, terms, cut, first, &known[first..], run)
+        },
     );
     let rows = &*rows;
     each_chunk(
@@ -374,15 +414,16 @@ fn read_whole<H: Threads + Sync>(
         size as usize,
         &|first: usize, run: &mut [Opening]|
             requires { (first + length run.now ≤ vertex_count h.now) × (terms.now.part.hyper ≡ h.now)
-                × (length cut.now ≡ vertex_count h.now) × All (IsBelow terms.now.part.k) run.now }
+                × (vertex_count h.now < 2 ^ 32) × (k ≤ 256) × (length cut.now ≡ vertex_count h.now)
+                × All (IsBelow terms.now.part.k) run.now }
             ensures { (length run.exit.now ≡ length run.entry.now)
                 × All (IsBelow terms.entry.now.part.k) run.exit.now }
-        { choose_run(h, terms, cut, rows, first, run) },
+        { choose_run(h, terms, cut, first, rows_from(rows, first as u32, k), run) },
     );
 }
 
-/// Reads what the marked vertices may do that weren't read, by at most so many threads: of the first vertices, or of
-/// all with their whole rows, where these are kept.
+/// Reads what the marked vertices may do that weren't read, by at most so many threads and by their whole rows where
+/// these are kept: of the first vertices of a level.
 pub(crate) fn read_marked<H: Threads + Sync>(
     rt: &H,
     h: &Hypergraph,
@@ -401,10 +442,10 @@ pub(crate) fn read_marked<H: Threads + Sync>(
     ensures below { All (IsBelow terms.now.part.k) all.new }
 {
     let _blocks = terms.part.blocks();
-    let vertices = h.vertices();
+    let _vertices = h.vertices();
     let runs = threads.min(1 + h.nets() / LEAST_NETS);
     let size = (all.len() as u32).div_ceil(runs).max(1);
-    if rows.is_empty() || all.len() < vertices as usize {
+    if rows.is_empty() {
         read_all(rt, h, terms, cut, size as usize, all);
     } else {
         read_whole(rt, h, terms, cut, size, all, rows);
