@@ -20,7 +20,7 @@ use Rattle.round_log.specs.declared.record.Kind.TheVariants.{Label}
 use Rattle.round_log.specs.declared.record.LoggedRound.{LoggedRound}
 use Rattle.round_log.specs.Rounds.{after_round, after_rounds, IsSwept}
 use Rattle.round_log.specs.Passes.{AreLabelRounds, IsLabelRound, is_lower, saved}
-use Rattle.round_log.proofs.PassLaws.{pass-fits, pass-saves, pass-few}
+use Rattle.round_log.proofs.PassLaws.{raced_keeps, pass-fits, pass-saves, pass-few}
 use Rattle.round_log.proofs.RoundLaws.{swept_less, swept_to, unsettled as was_unsettled}
 use Rattle.refiner.specs.declared.pass.Task.{Task}
 use Rattle.refiner.specs.declared.pass.Tally.{Tally}
@@ -172,6 +172,33 @@ swept_saves h k l p r s =
     let before = s.before in
     let made = s.made in
     let after = s.after in
+    omega arith
+
+-- a round of label propagation saves what it makes the cost lower
+round_less : (raced : Bool) (h : Hyper) (k l workers : ℕ) (p : List ℕ) (r : LoggedRound) → Fits h k l p
+    → IsLabelRound raced h k l workers p r → cost h (after_round p r) + saved r ≡ cost h p
+round_less true h k l workers p r fits s =
+    let kept = raced_keeps h k l p r s.0.raced in
+    let less = kept.no_dearer fits in
+    let before = kept.before in
+    let after = kept.after in
+    omega arith
+round_less false h k l workers p r fits s =
+    let less = swept_less h k l p r s.0 in
+    let before = s.0.before in
+    let after = s.0.after in
+    let made = s.0.made in
+    let all = ap (λ (ms : List Move). cost h (replay p ms)) s.0.moves in
+    let to = ap (cost h) (swept_to h k l p r s.0) in
+    omega arith
+
+-- a round that was logged saved what it made the cost lower
+pub costs_less : (raced : Bool) (h : Hyper) (task : Task) (p : Parted) (old new : List LoggedRound) (gain : ℕ) (q : Parted)
+    → Fits h p.k p.limit p.blocks → LogsLabelRound raced h task p old new gain q → cost h q.blocks + gain ≡ cost h p.blocks
+costs_less raced h task p old new gain q fits s =
+    let less = round_less raced h p.k p.limit task.workers p.blocks s.round fits s.legal in
+    let lower = s.lower in
+    let to = ap (λ (x : Parted). cost h x.blocks) s.leads in
     omega arith
 
 -- ---- one turn: a raced round, and a sweep where that one saved nothing

@@ -59,19 +59,23 @@ pub fn label_pass<H: Threads + Sync, G: Gate>(
     let _blocks = p.blocks();
     let marks = all_marked(alloc, h)?;
     let mut part = p;
+    let mut cost = part.cost_with(rt, h, task.workers);
     'turns: for _ in 0..MOST_LOWERING {
         let settled = is_settled(rt, alloc, h, &part, task.workers, marks.as_slice())?;
         if settled {
             return Ok(part);
         }
-        let (raced, saved) = race_round(rt, gate, alloc, h, task, part, marks.as_slice(), log)?;
+        let (raced, saved) =
+            race_round(rt, gate, alloc, h, task, part, cost, marks.as_slice(), log)?;
         count(tally, saved);
         part = raced;
+        cost -= saved;
         if saved == 0 {
-            let Some(saved) = sweep_round(rt, alloc, h, task, &mut part, log)? else {
+            let Some(saved) = sweep_round(rt, alloc, h, task, &mut part, cost, log)? else {
                 return Ok(part);
             };
             count(tally, saved);
+            cost -= saved;
             mark_all(marks.as_slice());
         }
     }

@@ -3,6 +3,7 @@
 ghost use Rattle.std.specs.Prelude.{◌≡◌, ◌<◌, ◌≤◌, true, length, vec_len, IfOk, OnErr};
 ghost use Rattle.hg_defs.specs.Hypergraph.{vertex_count};
 ghost use Rattle.hg_defs.specs.Partition.{Fits};
+ghost use Rattle.hg_defs.specs.Cost as costs;
 ghost use Rattle.hg_defs.specs.Replay.{replay};
 ghost use Rattle.move_table.specs.Closing.{ArePassesOf};
 ghost use Rattle.label_prop.specs.Workers.{IsIdlePass};
@@ -62,19 +63,22 @@ fn none_taken(alloc: Global, workers: u32) -> Result<Vec<AtomicUsize>, NoMemory>
     Ok(taken)
 }
 
-/// Opens a round over a partition that fits, lets the workers visit the marked vertices, and closes it.
+/// Opens a round over a partition that fits and has this cost, lets the workers visit the marked vertices, and closes
+/// it.
 fn close_race<H: Threads + Sync, G: Gate>(
     rt: &H,
     gate: &G,
     alloc: Global,
     h: &Hypergraph,
     p: Partition,
+    cost: u64,
     workers: u32,
     marks: &[AtomicBool],
 ) -> Result<Closed, NoMemory>
     requires belongs { p.hyper ≡ h.now }
     requires marks { length marks.now ≡ vertex_count h.now }
     requires fits { Fits h.now p.k p.limit p.blocks }
+    requires cost { cost ≡ costs.cost h.now p.blocks }
     requires some { 1 ≤ workers }
     requires few { workers ≤ 64 }
     ensures opening { IfOk result (λ c. c.opening ≡ p.blocks) }
@@ -83,7 +87,7 @@ fn close_race<H: Threads + Sync, G: Gate>(
 {
     let (_blocks, _vertices) = (p.blocks(), h.vertices());
     let (k, limit) = (p.k(), p.limit());
-    let Ok((round, passes)) = Round::open(rt, alloc, h, p, workers) else {
+    let Ok((round, passes)) = Round::open_at(rt, alloc, h, p, workers, cost) else {
         return Err(NoMemory);
     };
     let taken = none_taken(alloc, workers)?;
@@ -104,9 +108,9 @@ fn close_race<H: Threads + Sync, G: Gate>(
     Ok(closed)
 }
 
-/// Makes a raced round from a partition that fits, rolls it back to its best prefix, and logs it. Answers the
-/// partition after the moves that were kept, and what they saved. Marked are then the vertices for which the
-/// moves may have changed something since they were visited. Where there is no memory, nothing is logged.
+/// Makes a raced round from a partition that fits and has this cost, rolls it back to its best prefix, and logs it.
+/// Answers the partition after the moves that were kept, and what they saved. Marked are then the vertices for which
+/// the moves may have changed something since they were visited. Where there is no memory, nothing is logged.
 pub(crate) fn race_round<H: Threads + Sync, G: Gate>(
     rt: &H,
     gate: &G,
@@ -114,18 +118,20 @@ pub(crate) fn race_round<H: Threads + Sync, G: Gate>(
     h: &Hypergraph,
     task: &Task,
     p: Partition,
+    cost: u64,
     marks: &[AtomicBool],
     log: &mut Log,
 ) -> Result<(Partition, u64), NoMemory>
     requires belongs { p.hyper ≡ h.now }
     requires fits { Fits h.now p.k p.limit p.blocks }
+    requires cost { cost ≡ costs.cost h.now p.blocks }
     requires workers { (1 ≤ task.now.workers) × (task.now.workers ≤ 64) }
     requires marks { length marks.now ≡ vertex_count h.now }
     ensures ok { IfOk result (λ r. LogsLabelRound true h.now task.now p log.old log.new r.1 r.0) }
     ensures err { OnErr result (log.new ≡ log.old) }
 {
     let _blocks = p.blocks();
-    let closed = close_race(rt, gate, alloc, h, p, task.workers, marks)?;
+    let closed = close_race(rt, gate, alloc, h, p, cost, task.workers, marks)?;
     let part = log.race(rt, alloc, h, Kind::Label, task.level, closed)?;
     let rounds = log.rounds();
     let round = &rounds[rounds.len() - 1];

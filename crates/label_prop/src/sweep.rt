@@ -1,6 +1,7 @@
 //! A sweep, as a round of label propagation.
 
 ghost use Rattle.std.specs.Prelude.{◌≡◌, ◌<◌, ◌≤◌, ◌^◌, [], ◌∷◌, pos, ◌-ℤ◌, false, length, IfOk, OnErr};
+ghost use Rattle.hg_defs.specs.Cost.{cost};
 ghost use Rattle.label_prop.specs.LabelRounds.{SweepsOrRests};
 
 use hg_base::{Gains, NoMemory, Verts};
@@ -58,29 +59,30 @@ fn swept(
     })
 }
 
-/// Sweeps a partition once, behind threads that mark the vertices that need no visit, and logs the round.
-/// Answers what it saved, or none where the partition was settled. Where there is no memory, nothing is
-/// logged, and the partition may be swept or not.
+/// Sweeps a partition of this cost once, behind threads that mark the vertices that need no visit, and logs
+/// the round. Answers what it saved, or none where the partition was settled. Where there is no memory,
+/// nothing is logged, and the partition may be swept or not.
 pub(crate) fn sweep_round<H: Threads + Sync>(
     rt: &H,
     alloc: Global,
     h: &Hypergraph,
     task: &Task,
     part: &mut Partition,
+    before: u64,
     log: &mut Log,
 ) -> Result<Option<u64>, NoMemory>
     requires belongs { part.old.hyper ≡ h.now }
+    requires before { before ≡ cost h.now part.old.blocks }
     requires workers { 1 ≤ task.now.workers }
     ensures ok { IfOk result (λ saved. SweepsOrRests h.now task.now part.old log.old log.new saved part.new) }
     ensures err { OnErr result (log.new ≡ log.old) }
 {
     let _vertices = h.vertices();
-    let before = part.cost(h);
     let mut moves = Moves::new(alloc);
     if !part.sweep_with(rt, alloc, h, task.workers, &mut moves)? {
         return Ok(None);
     }
-    let after = part.cost(h);
+    let after = part.cost_with(rt, h, task.workers);
     // The sweep reserved a place for each vertex; what is logged takes its moves' places alone.
     let made = moves.copy()?;
     let mut rounds = RoundList::new(alloc);

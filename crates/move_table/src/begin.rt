@@ -119,7 +119,29 @@ impl<'h> Round<'h> {
         ensures passes { IfOk result (λ r. AreFresh r.0.table r.0.terms r.1) }
         ensures refused { IfErr result (λ e. e.0 ≡ part) }
     {
-        let (part, opening_cost) = part.into_ready(rt, hyper, workers);
+        let opening_cost = part.cost_with(rt, hyper, workers);
+        Round::open_at(rt, alloc, hyper, part, workers, opening_cost)
+    }
+
+    /// Does what [`open`](Self::open) does, where the cost of the partition is known.
+    pub fn open_at<R: Threads + Sync>(
+        rt: &R,
+        alloc: Global,
+        hyper: &'h Hypergraph,
+        part: Partition,
+        workers: u32,
+        opening_cost: u64,
+    ) -> Result<(Round<'h>, Passes), (Partition, NoMemory)>
+        requires belongs { part.hyper ≡ hyper.now }
+        requires fits { Fits part.hyper part.k part.limit part.blocks }
+        requires some { 1 ≤ workers }
+        requires few { workers ≤ 64 }
+        requires cost { opening_cost ≡ cost hyper.now part.blocks }
+        ensures terms { IfOk result (λ r. r.0.terms ≡ record { part = part; workers = workers }) }
+        ensures passes { IfOk result (λ r. AreFresh r.0.table r.0.terms r.1) }
+        ensures refused { IfErr result (λ e. e.0 ≡ part) }
+    {
+        let part = part.into_ready(rt, hyper, workers);
         let _blocks = part.blocks();
         let terms = Terms { part, workers };
         match Begun::new(alloc, &terms) {

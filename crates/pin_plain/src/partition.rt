@@ -257,10 +257,11 @@ impl Partition {
     }
 
     /// Does what [`cost`](Self::cost) does in at most so many threads.
-    fn cost_with<R: Threads + Sync>(&self, rt: &R, h: &Hypergraph, workers: u32) -> u64
+    pub fn cost_with<R: Threads + Sync>(&self, rt: &R, h: &Hypergraph, workers: u32) -> u64
         requires belongs { self.now.hyper ≡ h.now }
         requires some { 1 ≤ workers }
-        ensures { result ≡ cost h.now self.now.blocks }
+        ensures value { result ≡ cost h.now self.now.blocks }
+        ensures bound { result < 2 ^ 57 }
     {
         let nets = Nets {
             h,

@@ -12,8 +12,9 @@ use incidence::Hypergraph;
 use std::alloc::Global;
 use std::thread::Threads;
 
-/// A thread looks at so many vertices at least: to start it takes as long as to look at a thousand.
-const LEAST_VERTICES: u32 = 4096;
+/// There is a thread more for each so many vertices or nets: to start it takes as long as to look at a thousand vertices
+/// of few nets, and the few vertices of a coarse level have many.
+const LEAST_ITEMS: u32 = 4096;
 
 /// A mark for each vertex, and none is marked.
 pub(super) fn unmarked(alloc: Global, h: &Hypergraph) -> Result<Vec<bool>, NoMemory>
@@ -79,10 +80,11 @@ pub(super) fn quiet_marks<R: Threads + Sync>(
     ensures bounds { IsWithinLimits h.now }
 {
     let mut marks = unmarked(alloc, h)?;
-    let share = h.vertices().div_ceil(workers).max(LEAST_VERTICES);
-    if share >= h.vertices() {
+    let threads = workers.min(h.vertices().max(h.nets()) / LEAST_ITEMS + 1);
+    if threads == 1 {
         return Ok(marks);
     }
+    let share = h.vertices().div_ceil(threads).max(1);
     mark_runs(rt, h, p, share as usize, marks.as_mut_slice());
     Ok(marks)
 }

@@ -2,7 +2,6 @@
 
 ghost use Rattle.std.specs.Prelude.{◌≡◌, ◌<◌, ◌≤◌};
 ghost use Rattle.hg_defs.specs.Hypergraph.{net_count};
-ghost use Rattle.hg_defs.specs.Cost.{cost};
 ghost use Rattle.hg_base.specs.Packed.{IsWidth};
 ghost use Rattle.pin_plain.specs.Counts.{net_place, net_bits};
 ghost use Rattle.pin_plain.specs.Parted.{IsParted};
@@ -122,15 +121,13 @@ impl Ready {
 }
 
 impl Partition {
-    /// Makes the partition ready for a round, in at most so many threads, and tells its cost.
-    pub fn into_ready<R: Threads + Sync>(self, rt: &R, h: &Hypergraph, workers: u32) -> (Ready, u64)
+    /// Makes the partition ready for a round, in at most so many threads.
+    pub fn into_ready<R: Threads + Sync>(self, rt: &R, h: &Hypergraph, workers: u32) -> Ready
         requires belongs { self.hyper ≡ h.now }
         requires some { 1 ≤ workers }
         requires few { workers ≤ 64 }
-        ensures same { result.0 ≡ self }
-        ensures cost { result.1 ≡ cost h.now self.blocks }
+        ensures { result ≡ self }
     {
-        let cost = self.cost_with(rt, h, workers);
         let Partition {
             hyper,
             k,
@@ -152,7 +149,7 @@ impl Partition {
             workers,
         );
         let stride = stride_of(h, k, widths.as_slice());
-        let ready = Ready {
+        Ready {
             hyper,
             k,
             limit,
@@ -162,7 +159,6 @@ impl Partition {
             widths,
             words,
             stride,
-        };
-        (ready, cost)
+        }
     }
 }

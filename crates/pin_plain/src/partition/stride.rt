@@ -1,6 +1,6 @@
 //! Where the words of nets begin that have counts of one width.
 
-ghost use Rattle.std.specs.Prelude.{◌≡◌, ℕ, ◌<◌, ◌≤◌, All, length, IfSome, IsSome};
+ghost use Rattle.std.specs.Prelude.{◌≡◌, ℕ, ◌<◌, ◌≤◌, ◌↔◌, All, length, IfSome, IsSome, IsTrue};
 ghost use Rattle.pin_plain.specs.Counts.{HasWidths, HasStride};
 
 use incidence::Hypergraph;
@@ -16,6 +16,17 @@ pub struct Stride {
     pub words: u32,
 }
 
+/// Whether all counts are of one width. No branch ends the look early, so that many widths are compared at once.
+fn all_are(widths: &[u8], width: u8) -> bool
+    ensures { IsTrue result ↔ All (λ w. w ≡ width) widths.now }
+{
+    let mut same = true;
+    for other in widths {
+        same &= *other == width;
+    }
+    same
+}
+
 /// The stride of nets with counts of these widths, where they are of one width.
 pub fn stride_of(h: &Hypergraph, k: u32, widths: &[u8]) -> Option<Stride>
     requires few { k ≤ 256 }
@@ -24,7 +35,7 @@ pub fn stride_of(h: &Hypergraph, k: u32, widths: &[u8]) -> Option<Stride>
     ensures found { (bits : ℕ) → 0 < length widths.now → All (λ w. w ≡ bits) widths.now → IsSome result }
 {
     let width = *widths.first()?;
-    if !widths.iter().all(|other| *other == width) {
+    if !all_are(widths, width) {
         return None;
     }
     let bits = u32::from(width);

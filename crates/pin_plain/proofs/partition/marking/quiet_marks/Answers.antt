@@ -10,5 +10,5 @@ returns-clause-quiet g c =
     let size = c.in_ok-marks.marks.ok in
     quiet_written c.args.h.now p.k p.blocks c.in_ok-marks.marks.len c.mark_runs.new.marks c.in_ok-marks.marks.items (omega arith) c.mark_runs.ensures
 
-pub returns-then-share-vertices-clause-quiet : goal.returns-then-share-vertices-clause-quiet
-returns-then-share-vertices-clause-quiet g c = let p = c.args.p.now in c.in_ok-marks.ensures.quiet p.k p.blocks
+pub returns-then-threads-eq1-clause-quiet : goal.returns-then-threads-eq1-clause-quiet
+returns-then-threads-eq1-clause-quiet g c = let p = c.args.p.now in c.in_ok-marks.ensures.quiet p.k p.blocks
