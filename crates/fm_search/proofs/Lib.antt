@@ -1,3 +1,4 @@
+pub mod BesideLaws
 pub mod PassLaws
 pub mod PossibleLaws
 pub mod TakenLaws

@@ -1,7 +1,6 @@
 //! How a round of searches begins: what its vertices may do is read while its words are copied.
 
 ghost use Rattle.std.specs.Prelude.{◌≡◌, ◌+◌, ◌<◌, ◌≤◌, ◌^◌, All, IfOk, OnOk, length, vec_len};
-ghost use Rattle.std.specs.Thread.{IsSync};
 ghost use Rattle.hg_defs.specs.Hypergraph.{vertex_count};
 ghost use Rattle.hg_defs.specs.Partition.{Fits};
 ghost use Rattle.move_table.specs.Calls.{AreFresh};
@@ -11,13 +10,13 @@ ghost use Rattle.fm_search.specs.Opened.{IsBelow};
 use crate::cells::{Cell, start_of};
 use crate::opening::{LEAST_NETS, Opening, read_marked, read_own};
 use crate::openings::Openings;
-use crate::seeds::{cut_marks, marked};
+use crate::seeds::{blank_marks, cut_marks, mark_all, marked, united};
 use hg_base::NoMemory;
 use incidence::Hypergraph;
 use move_table::{Begun, Passes, Round, Terms};
 use pin_plain::Partition;
 use std::alloc::Global;
-use std::thread::{Threads, join_mut};
+use std::thread::Threads;
 
 /// To read what a vertex may do takes as long as to copy the words of so many.
 const VERTICES_A_READING: u64 = 10;
@@ -38,8 +37,9 @@ fn begin_and_list(alloc: Global, terms: &Terms, cut: &[bool]) -> Result<(Begun, 
     Ok((begun, seeds))
 }
 
-/// Reads what the marked vertices may do by one thread fewer than there are workers, while this one copies the words of
-/// the round and lists the marked vertices, and then reads those of them from a first one on.
+/// Reads what the marked vertices may do by at most one thread fewer than there are workers, which this one starts. It
+/// copies the words of the round and lists the marked vertices meanwhile, and then reads those of them from a first one
+/// on.
 fn read_beside<H: Threads + Sync>(
     rt: &H,
     alloc: Global,
@@ -66,32 +66,24 @@ fn read_beside<H: Threads + Sync>(
     let _blocks = terms.part.blocks();
     let _vertices = h.vertices();
     let threads = terms.workers - 1;
-    let (theirs, own) = all.split_at_mut(first);
+    let (theirs, mine) = all.split_at_mut(first);
     let place = start_of(first as u32, terms.part.k()).min(rows.len());
-    let (their_rows, own_rows) = rows.split_at_mut(place);
-    let mut front = ||
-        requires { IsSync H.row × (terms.now.part.hyper ≡ h.now) × (1 ≤ threads) × (threads ≤ 64)
-            × (length cut.now ≡ vertex_count h.now) × (length theirs.now ≤ vertex_count h.now)
-            × All (IsBelow terms.now.part.k) theirs.now }
-        ensures long { length theirs.exit.now ≡ length theirs.entry.now }
-        ensures below { All (IsBelow terms.entry.now.part.k) theirs.exit.now }
-    { read_marked(rt, h, terms, cut, threads, theirs, their_rows) };
-    let mut back = ||
+    let (their_rows, my_rows) = rows.split_at_mut(place);
+    let mut own = || -> Result<(Begun, Vec<u32>), NoMemory>
         requires { IsTerms terms.now × (terms.now.part.hyper ≡ h.now) × (terms.now.part.k ≤ 256)
             × (length cut.now ≡ vertex_count h.now) × (length cut.now < 2 ^ 32)
-            × (first + length own.now ≤ vertex_count h.now) × All (IsBelow terms.now.part.k) own.now }
-        ensures long { length own.exit.now ≡ length own.entry.now }
-        ensures below { All (IsBelow terms.entry.now.part.k) own.exit.now }
+            × (first + length mine.now ≤ vertex_count h.now) × All (IsBelow terms.now.part.k) mine.now }
+        ensures long { length mine.exit.now ≡ length mine.entry.now }
+        ensures below { All (IsBelow terms.entry.now.part.k) mine.exit.now }
         ensures begun { IfOk result (λ r. r.0.terms ≡ terms.entry.now) }
         ensures seeds { IfOk result (λ r. All (λ v. v < length cut.entry.now) r.1.items) }
         ensures few { IfOk result (λ r. vec_len r.1 ≤ length cut.entry.now) }
     {
         let begun = begin_and_list(alloc, terms, cut);
-        read_own(h, terms, cut, first, own, own_rows);
+        read_own(h, terms, cut, first, mine, my_rows);
         begun
     };
-    let (_read, begun) = join_mut(rt, &mut front, &mut back);
-    begun
+    read_marked(rt, h, terms, cut, threads, theirs, their_rows, &mut own)
 }
 
 /// How many vertices of a level this thread reads, beside copying the words of them all, so that it takes as long as
@@ -143,8 +135,8 @@ fn begin_beside<H: Threads + Sync>(
     read_beside(rt, alloc, h, terms, cut, first, all, rows)
 }
 
-/// Marks the vertices on cut nets by one thread fewer than there are workers, while this one forgets what they may do
-/// that may have changed. Answers how many are forgotten, or less.
+/// Marks the vertices on cut nets by at most one thread fewer than there are workers, which this one starts. It forgets
+/// meanwhile what vertices may do that may have changed. Answers how many are forgotten, or less.
 fn mark_beside<H: Threads + Sync>(
     rt: &H,
     alloc: Global,
@@ -159,23 +151,19 @@ fn mark_beside<H: Threads + Sync>(
     ensures full { OnOk result (vec_len openings.new.all ≡ vertex_count h.now) }
     ensures marks { IfOk result (λ r. vec_len r.0 ≡ vertex_count h.now) }
 {
-    let threads = terms.workers - 1;
-    let mut front = ||
-        requires { IsSync H.row × (terms.now.part.hyper ≡ h.now) × (1 ≤ threads) × (threads ≤ 64) }
-        ensures { IfOk result (λ cut. vec_len cut ≡ vertex_count h.entry.now) }
-    { cut_marks(rt, alloc, h, terms, threads) };
-    let mut back = ||
+    let mut cuts = blank_marks(alloc, h, terms.workers - 1)?;
+    let mut own = || -> Result<u32, NoMemory>
         requires { (terms.now.part.hyper ≡ h.now) × All (IsBelow terms.now.part.k) openings.now.all.items }
         ensures below { All (IsBelow terms.entry.now.part.k) openings.exit.now.all.items }
         ensures full { OnOk result (vec_len openings.exit.now.all ≡ vertex_count h.entry.now) }
     { openings.forget(h, terms) };
-    let (cut, due) = join_mut(rt, &mut front, &mut back);
-    Ok((cut?, due?))
+    let due = mark_all(rt, h, terms, cuts.as_mut_slice(), &mut own)?;
+    let cut = united(alloc, h, cuts.as_slice())?;
+    Ok((cut, due))
 }
 
 /// Begins with the words of a round and the marked vertices, and reads what these may do, all in this thread.
-fn begin_alone<H: Threads + Sync>(
-    rt: &H,
+fn begin_alone(
     alloc: Global,
     h: &Hypergraph,
     terms: &Terms,
@@ -192,10 +180,10 @@ fn begin_alone<H: Threads + Sync>(
 {
     let _vertices = h.vertices();
     openings.forget(h, terms)?;
-    let cut = cut_marks(rt, alloc, h, terms, terms.workers)?;
+    let cut = cut_marks(alloc, h, terms)?;
     let cut = cut.as_slice();
     let (all, rows) = (openings.all.as_mut_slice(), openings.rows.as_mut_slice());
-    read_marked(rt, h, terms, cut, 1, all, rows);
+    read_own(h, terms, cut, 0, all, rows);
     begin_and_list(alloc, terms, cut)
 }
 
@@ -228,7 +216,7 @@ pub(crate) fn open_round<'h, H: Threads + Sync>(
         let (cut, due) = mark_beside(rt, alloc, h, &terms, openings)?;
         begin_beside(rt, alloc, h, &terms, cut.as_slice(), due, openings)?
     } else {
-        begin_alone(rt, alloc, h, &terms, openings)?
+        begin_alone(alloc, h, &terms, openings)?
     };
     let (round, passes) = Round::of(h, terms, opening_cost, begun);
     Ok((round, passes, seeds))

@@ -7,6 +7,7 @@
 #![tactic(auto)]
 
 mod begin;
+mod beside;
 mod cells;
 mod change;
 mod desk;

@@ -7,6 +7,7 @@ ghost use Rattle.std.specs.Prelude.{◌≡◌, ◌≢◌, ◌+◌, ◌*◌, ◌^
 ghost use Rattle.hg_defs.specs.Hypergraph.{vertex_count, net_count};
 ghost use Rattle.fm_search.specs.Opened.{IsBelow};
 
+use crate::beside::each_chunk_beside;
 use crate::cells::{BLANK, Cell, Used, share, start_of};
 use crate::reading::{Choice, Entered, WORDS_A_PIN, enter, scored};
 use crew::each_chunk;
@@ -339,25 +340,29 @@ pub(crate) fn read_own(
     }
 }
 
-/// Reads what the marked vertices may do that weren't read, a thread for each run of so many.
-fn read_all<H: Threads + Sync>(
+/// Reads what the marked vertices may do that weren't read, a thread for each run of so many, and does `own` in this
+/// thread meanwhile. Answers what that answered.
+fn read_all<H: Threads + Sync, A, G: FnMut() -> A>(
     rt: &H,
     h: &Hypergraph,
     terms: &Terms,
     cut: &[bool],
     size: usize,
     all: &mut [Opening],
-)
+    own: &mut G,
+) -> A
     requires belongs { terms.now.part.hyper ≡ h.now }
     requires few { terms.now.part.k ≤ 256 }
     requires size { 0 < size }
     requires marks { length cut.now ≡ vertex_count h.now }
     requires long { length all.old ≤ vertex_count h.now }
     requires below { All (IsBelow terms.now.part.k) all.old }
+    requires own { G.pre own.old }
     ensures long { length all.new ≡ length all.old }
     ensures below { All (IsBelow terms.now.part.k) all.new }
+    ensures own { G.step own.old result own.new }
 {
-    each_chunk(
+    each_chunk_beside(
         rt,
         all,
         size,
@@ -368,19 +373,56 @@ fn read_all<H: Threads + Sync>(
             ensures { (length run.exit.now ≡ length run.entry.now)
                 × All (IsBelow terms.entry.now.part.k) run.exit.now }
         { read_run(h, terms, cut, first, run) },
-    );
+        own,
+    )
 }
 
-/// Reads the whole rows of the marked vertices that weren't read, a thread for each run of so many, and then tells what
-/// they may do: of the first vertices of a level.
-fn read_whole<H: Threads + Sync>(
+/// Reads the whole rows of the marked vertices that weren't read, a thread for each run of so many, and does `own` in
+/// this thread meanwhile: of the first vertices of a level. Answers what `own` answered.
+fn read_all_rows<H: Threads + Sync, A, G: FnMut() -> A>(
     rt: &H,
     h: &Hypergraph,
     terms: &Terms,
     cut: &[bool],
     size: u32,
-    all: &mut [Opening],
+    known: &[Opening],
     rows: &mut [Cell],
+    own: &mut G,
+) -> A
+    requires belongs { terms.now.part.hyper ≡ h.now }
+    requires marks { length cut.now ≡ vertex_count h.now }
+    requires long { length known.now ≤ vertex_count h.now }
+    requires own { G.pre own.old }
+    ensures { G.step own.old result own.new }
+{
+    let _blocks = terms.part.blocks();
+    let k = terms.part.k();
+    each_chunk_beside(
+        rt,
+        rows,
+        start_of(size, k).max(1),
+        &|place: usize, run: &mut [Cell]|
+            requires { (2 ≤ k) × (terms.now.part.hyper ≡ h.now) × (length cut.now ≡ vertex_count h.now)
+                × (length known.now ≤ vertex_count h.now) }
+            ensures { length run.exit.now ≡ length run.entry.now }
+        {
+            let first = (place / k as usize).min(known.len());
+            read_rows(h, terms, cut, first, &known[first..], run)
+        },
+        own,
+    )
+}
+
+/// Tells what the marked vertices may do that weren't read, by their whole rows, a thread for each run of so many but
+/// the last, which this one takes: of the first vertices of a level.
+fn choose_all<H: Threads + Sync>(
+    rt: &H,
+    h: &Hypergraph,
+    terms: &Terms,
+    cut: &[bool],
+    size: u32,
+    rows: &[Cell],
+    all: &mut [Opening],
 )
     requires belongs { terms.now.part.hyper ≡ h.now }
     requires size { 0 < size }
@@ -393,21 +435,6 @@ fn read_whole<H: Threads + Sync>(
     let _blocks = terms.part.blocks();
     let _vertices = h.vertices();
     let k = terms.part.k();
-    let known = &*all;
-    each_chunk(
-        rt,
-        rows,
-        start_of(size, k).max(1),
-        &|place: usize, run: &mut [Cell]|
-            requires { (2 ≤ k) × (terms.now.part.hyper ≡ h.now) × (length cut.now ≡ vertex_count h.now)
-                × (length known.now ≤ vertex_count h.now) }
-            ensures { length run.exit.now ≡ length run.entry.now }
-        {
-            let first = (place / k as usize).min(known.len());
-            read_rows(h, terms, cut, first, &known[first..], run)
-        },
-    );
-    let rows = &*rows;
     each_chunk(
         rt,
         all,
@@ -423,8 +450,9 @@ fn read_whole<H: Threads + Sync>(
 }
 
 /// Reads what the marked vertices may do that weren't read, by at most so many threads and by their whole rows where
-/// these are kept: of the first vertices of a level.
-pub(crate) fn read_marked<H: Threads + Sync>(
+/// these are kept, and does `own` in this thread meanwhile: of the first vertices of a level. Answers what `own`
+/// answered.
+pub(crate) fn read_marked<H: Threads + Sync, A, G: FnMut() -> A>(
     rt: &H,
     h: &Hypergraph,
     terms: &Terms,
@@ -432,22 +460,26 @@ pub(crate) fn read_marked<H: Threads + Sync>(
     threads: u32,
     all: &mut [Opening],
     rows: &mut [Cell],
-)
+    own: &mut G,
+) -> A
     requires belongs { terms.now.part.hyper ≡ h.now }
     requires threads { (1 ≤ threads) × (threads ≤ 64) }
     requires marks { length cut.now ≡ vertex_count h.now }
     requires long { length all.old ≤ vertex_count h.now }
     requires below { All (IsBelow terms.now.part.k) all.old }
+    requires own { G.pre own.old }
     ensures long { length all.new ≡ length all.old }
     ensures below { All (IsBelow terms.now.part.k) all.new }
+    ensures own { G.step own.old result own.new }
 {
     let _blocks = terms.part.blocks();
     let _vertices = h.vertices();
     let runs = threads.min(1 + h.nets() / LEAST_NETS);
     let size = (all.len() as u32).div_ceil(runs).max(1);
     if rows.is_empty() {
-        read_all(rt, h, terms, cut, size as usize, all);
-    } else {
-        read_whole(rt, h, terms, cut, size, all, rows);
+        return read_all(rt, h, terms, cut, size as usize, all, own);
     }
+    let answer = read_all_rows(rt, h, terms, cut, size, all, rows, own);
+    choose_all(rt, h, terms, cut, size, rows, all);
+    answer
 }

@@ -3,7 +3,8 @@
 ghost use Rattle.std.specs.Prelude.{◌≡◌, ◌<◌, ◌≤◌, ◌^◌, All, IfOk, length, vec_len};
 ghost use Rattle.hg_defs.specs.Hypergraph.{vertex_count, net_count};
 
-use crew::{Span, each, span_of};
+use crate::beside::each_chunk_beside;
+use crew::{Span, span_of};
 use hg_base::NoMemory;
 use incidence::Hypergraph;
 use move_table::Terms;
@@ -42,30 +43,67 @@ fn mark_span(h: &Hypergraph, terms: &Terms, span: Span, cut: &mut [bool])
     }
 }
 
-/// Marks the pins of the cut nets, each list of marks those of its share of the nets, all at once.
-fn mark_all<H: Threads + Sync>(rt: &H, h: &Hypergraph, terms: &Terms, cuts: &mut [Vec<bool>])
+/// A mark for each vertex, and those of the vertices on cut nets are set, all in this thread.
+pub(crate) fn cut_marks(alloc: Global, h: &Hypergraph, terms: &Terms) -> Result<Vec<bool>, NoMemory>
+    requires belongs { terms.now.part.hyper ≡ h.now }
+    ensures { IfOk result (λ cut. vec_len cut ≡ vertex_count h.now) }
+{
+    let mut cut = vec![in alloc; false; h.vertices() as usize]?;
+    let all = Span {
+        from: 0,
+        to: h.nets(),
+    };
+    mark_span(h, terms, all, cut.as_mut_slice());
+    Ok(cut)
+}
+
+/// Marks the pins of the cut nets of one of so many shares of the nets, in the only list of a part.
+fn mark_share(h: &Hypergraph, terms: &Terms, shares: u32, place: u32, part: &mut [Vec<bool>])
+    requires belongs { terms.now.part.hyper ≡ h.now }
+    requires shares { shares ≤ 64 }
+    requires place { place < shares }
+    requires alone { length part.old ≡ 1 }
+    requires long { All (λ cut. vec_len cut ≡ vertex_count h.now) part.old }
+    ensures long { All (λ cut. vec_len cut ≡ vertex_count h.now) part.new }
+{
+    let cut = &mut part[0];
+    mark_span(
+        h,
+        terms,
+        span_of(h.nets(), shares, place),
+        cut.as_mut_slice(),
+    );
+}
+
+/// Marks the pins of the cut nets, each list of marks those of its share of the nets, by a thread each, and does
+/// `own` in this thread meanwhile. Answers what that answered.
+pub(crate) fn mark_all<H: Threads + Sync, A, G: FnMut() -> A>(
+    rt: &H,
+    h: &Hypergraph,
+    terms: &Terms,
+    cuts: &mut [Vec<bool>],
+    own: &mut G,
+) -> A
     requires belongs { terms.now.part.hyper ≡ h.now }
     requires few { length cuts.old ≤ 64 }
     requires long { All (λ cut. vec_len cut ≡ vertex_count h.now) cuts.old }
-    ensures { All (λ cut. vec_len cut ≡ vertex_count h.now) cuts.new }
+    requires own { G.pre own.old }
+    ensures long { All (λ cut. vec_len cut ≡ vertex_count h.now) cuts.new }
+    ensures own { G.step own.old result own.new }
 {
     let shares = cuts.len() as u32;
-    each(
+    each_chunk_beside(
         rt,
         cuts,
-        &|i, cut: &mut Vec<bool>|
-            requires { (i < shares) × (shares ≤ 64) × (terms.now.part.hyper ≡ h.now)
-                × (vec_len cut.now ≡ vertex_count h.now) }
-            ensures { vec_len cut.exit.now ≡ vertex_count h.entry.now }
-        {
-            mark_span(
-                h,
-                terms,
-                span_of(h.nets(), shares, i as u32),
-                cut.as_mut_slice(),
-            )
-        },
-    );
+        1,
+        &|place: usize, part: &mut [Vec<bool>]|
+            requires { (place < shares) × (shares ≤ 64) × (terms.now.part.hyper ≡ h.now) × (length part.now ≡ 1)
+                × All (λ cut. vec_len cut ≡ vertex_count h.now) part.now }
+            ensures { (length part.exit.now ≡ length part.entry.now)
+                × All (λ cut. vec_len cut ≡ vertex_count h.entry.now) part.exit.now }
+        { mark_share(h, terms, shares, place as u32, part) },
+        own,
+    )
 }
 
 /// Adds the marks of one list to those of another one.
@@ -78,16 +116,39 @@ fn add_marks(cut: &mut [bool], more: &[bool])
     }
 }
 
-/// So many lists of marks, none of which is set.
-fn blank_marks(alloc: Global, vertices: u32, lists: u32) -> Result<Vec<Vec<bool>>, NoMemory>
-    ensures long { IfOk result (λ cuts. All (λ cut. vec_len cut ≡ vertices) cuts.items) }
-    ensures all { IfOk result (λ cuts. vec_len cuts ≡ lists) }
+/// A list of marks, none of which is set, for each of the threads that mark vertices, of which there are at most so
+/// many.
+pub(crate) fn blank_marks(
+    alloc: Global,
+    h: &Hypergraph,
+    threads: u32,
+) -> Result<Vec<Vec<bool>>, NoMemory>
+    ensures long { IfOk result (λ cuts. All (λ cut. vec_len cut ≡ vertex_count h.now) cuts.items) }
+    ensures few { IfOk result (λ cuts. vec_len cuts ≤ threads) }
 {
+    let lists = threads.min(1 + h.nets() / LEAST_NETS);
+    let vertices = h.vertices() as usize;
     let mut cuts = Vec::with_capacity(alloc, lists as usize)?;
     'lists: for _list in 0..lists {
-        cuts.push(vec![in alloc; false; vertices as usize]?)?;
+        cuts.push(vec![in alloc; false; vertices]?)?;
     }
     Ok(cuts)
+}
+
+/// A mark for each vertex, and those are set that are set in a list.
+pub(crate) fn united(
+    alloc: Global,
+    h: &Hypergraph,
+    cuts: &[Vec<bool>],
+) -> Result<Vec<bool>, NoMemory>
+    requires { All (λ cut. vec_len cut ≡ vertex_count h.now) cuts.now }
+    ensures { IfOk result (λ cut. vec_len cut ≡ vertex_count h.now) }
+{
+    let mut all = vec![in alloc; false; h.vertices() as usize]?;
+    'lists: for cut in cuts {
+        add_marks(all.as_mut_slice(), cut.as_slice());
+    }
+    Ok(all)
 }
 
 /// The places that are marked.
@@ -103,29 +164,6 @@ pub(crate) fn marked(alloc: Global, cut: &[bool]) -> Result<Vec<u32>, NoMemory>
         }
     }
     Ok(seeds)
-}
-
-/// A mark for each vertex, and those of the vertices on cut nets are set. The nets are shared out to threads, of which
-/// there are no more than workers.
-pub(crate) fn cut_marks<H: Threads + Sync>(
-    rt: &H,
-    alloc: Global,
-    h: &Hypergraph,
-    terms: &Terms,
-    workers: u32,
-) -> Result<Vec<bool>, NoMemory>
-    requires belongs { terms.now.part.hyper ≡ h.now }
-    requires workers { (1 ≤ workers) × (workers ≤ 64) }
-    ensures { IfOk result (λ cut. vec_len cut ≡ vertex_count h.now) }
-{
-    let lists = workers.min(1 + h.nets() / LEAST_NETS);
-    let mut cuts = blank_marks(alloc, h.vertices(), lists)?;
-    mark_all(rt, h, terms, cuts.as_mut_slice());
-    let mut cut = vec![in alloc; false; h.vertices() as usize]?;
-    'lists: for more in cuts.as_slice() {
-        add_marks(cut.as_mut_slice(), more.as_slice());
-    }
-    Ok(cut)
 }
 
 /// The place of the first seed that is drawn, of so many, on a level.
