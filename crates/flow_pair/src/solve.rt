@@ -150,6 +150,25 @@ impl PairSolver {
         }
     }
 
+    /// Makes another solver of the same hypergraph, which takes no memory yet either. It spares the way over all
+    /// vertices and nets: what [`new`](Self::new) found there is taken over.
+    pub fn another(&self, alloc: Global, h: &Hypergraph) -> Self
+        requires { self.now ≡ h.now }
+        ensures { result ≡ self.now }
+    {
+        PairSolver {
+            hyper: Snapshot::of(h),
+            alloc,
+            space: Workspace::new(alloc),
+            places: Vec::new(alloc),
+            spots: Vec::new(alloc),
+            others: Vec::new(alloc),
+            runs: Vec::new(alloc),
+            most: self.most,
+            least: self.least,
+        }
+    }
+
     /// A weight below which no vertex is: the least of them, or the greatest number where there is no vertex.
     pub fn least_weight(&self) -> u64
         ensures { WeighsAtLeast self.now result }
