@@ -108,10 +108,11 @@ fn workers_of(alloc: Global, h: &Hypergraph, count: u32) -> Result<Vec<Worker>, 
     ensures workers { IfOk result (λ workers. AreWorkers h.now workers.items) }
 {
     let mut workers = Vec::with_capacity(alloc, count as usize)?;
+    let solver = PairSolver::new(alloc, h);
     for number in 0..count {
         workers.push(Worker {
             number,
-            solver: PairSolver::new(alloc, h),
+            solver: solver.another(alloc, h),
             found: Vec::new(alloc),
             turn: 0,
         })?;
