@@ -1,6 +1,6 @@
 -- The lists that a region is formed of.
-use Rattle.std.specs.Prelude.{◌≡◌, ◌<◌, ◌≤◌, ℕ, List, ◌++◌, length, filter, slice_index, Bool, ◌&&◌, not, nat_eq, nat_le}
-use Rattle.std.specs.List.{range_with_len, list_any}
+use Rattle.std.specs.Prelude.{◌≡◌, ◌-◌, ◌^◌, ◌<◌, ◌≤◌, ℕ, min, List, ◌++◌, length, filter, slice_index, Bool, ◌&&◌, not, nat_eq, nat_le}
+use Rattle.std.specs.List.{range_with_len, list_any, fold}
 use Rattle.std.specs.Set.{is_member}
 use Rattle.hg_defs.specs.Hypergraph.{Hyper, vertex_count, net_count, net_of, weight_of, is_free}
 use Rattle.hg_defs.specs.Incidence.{nets_of}
@@ -30,6 +30,10 @@ small_nets h v = filter (is_small h) (nets_of h v)
 -- a free vertex of a block on one of the small nets, which isn't near itself
 abbrev pub is_reached : Hyper → List ℕ → ℕ → List ℕ → List ℕ → ℕ → Bool
 is_reached h p a near small v = is_free_in h p a v && (list_any (is_member nat_eq small) (nets_of h v) && not (is_member nat_eq near v))
+
+-- the least weight of a vertex, or the greatest number of 64 bits where there is none
+abbrev pub least_weight : Hyper → ℕ
+least_weight h = fold min (2 ^ 64 - 1) h.weights
 
 -- each vertex weighs as much at least
 abbrev pub WeighsAtLeast : Hyper → ℕ → Type 0

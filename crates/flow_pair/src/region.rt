@@ -35,7 +35,8 @@ const VERTICES_A_NET: usize = 64;
 
 /// The least weight of a vertex, or the greatest number where there is none.
 pub(crate) fn least_weight(h: &Hypergraph) -> u64
-    ensures { WeighsAtLeast h.now result }
+    ensures value { result ≡ sides.least_weight h.now }
+    ensures bound { WeighsAtLeast h.now result }
 {
     let mut least = u64::MAX;
     for v in 0..h.vertices() {

@@ -15,6 +15,7 @@ ghost use Rattle.flow_pair.specs.CutNets.{AreCutLists};
 ghost use Rattle.flow_pair.specs.Notes.{IsNotedRun};
 ghost use Rattle.flow_pair.specs.PairEnds.{IsPairEnd};
 ghost use Rattle.flow_pair.specs.Sides.{touching_nets, WeighsAtLeast};
+ghost use Rattle.flow_pair.specs.Sides as sides;
 
 use crate::balance::balanced_side;
 use crate::cut::touching_nets_of;
@@ -122,14 +123,14 @@ impl Model for PairSolver {
     ghost use Rattle.std.specs.Prelude.{◌≡◌, ◌≤◌, ◌^◌};
     ghost use Rattle.hg_defs.specs.Hypergraph.{Hyper};
     ghost use Rattle.flow_pair.specs.PairNetwork.{unbounded};
-    ghost use Rattle.flow_pair.specs.Sides.{WeighsAtLeast};
+    ghost use Rattle.flow_pair.specs.Sides.{least_weight, WeighsAtLeast};
 
     ghost Value = { Hyper };
 
     ghost view = { λ s. s.hyper.value };
 
     ghost invariant = { λ s. (s.most ≡ unbounded s.hyper.value) × (s.most ≤ 2 ^ 56)
-        × WeighsAtLeast s.hyper.value s.least };
+        × (s.least ≡ least_weight s.hyper.value) × WeighsAtLeast s.hyper.value s.least };
 }
 
 impl PairSolver {
@@ -169,9 +170,10 @@ impl PairSolver {
         }
     }
 
-    /// A weight below which no vertex is: the least of them, or the greatest number where there is no vertex.
+    /// The least weight of a vertex, or the greatest number where there is none.
     pub fn least_weight(&self) -> u64
-        ensures { WeighsAtLeast self.now result }
+        ensures value { result ≡ sides.least_weight self.now }
+        ensures bound { WeighsAtLeast self.now result }
     {
         self.least
     }
