@@ -120,7 +120,7 @@ fn workers_of(alloc: Global, h: &Hypergraph, count: u32) -> Result<Vec<Worker>, 
     Ok(workers)
 }
 
-/// The cut nets of a partition, for which all workers look, and its cost.
+/// The cut nets of a partition, for which all workers look, and its cost, which they sum.
 fn cut_and_cost<R: Threads + Sync>(
     rt: &R,
     alloc: Global,
@@ -135,7 +135,7 @@ fn cut_and_cost<R: Threads + Sync>(
     ensures bound { IfOk result (λ found. found.1 < 2 ^ 57) }
 {
     let cut = CutNets::of_with(rt, alloc, h, p, workers)?;
-    Ok((cut, p.cost(h)))
+    Ok((cut, p.cost_with(rt, h, workers)))
 }
 
 /// Makes a flow pass over one level. The pairs of blocks are solved in waves of those with one sum,

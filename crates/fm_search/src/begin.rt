@@ -208,7 +208,8 @@ pub(crate) fn open_round<'h, H: Threads + Sync>(
     ensures seeds { IfOk result (λ r. All (λ v. v < vertex_count h.now) r.2.items) }
     ensures few { IfOk result (λ r. vec_len r.2 ≤ vertex_count h.now) }
 {
-    let (part, opening_cost) = p.into_ready(rt, h, workers);
+    let opening_cost = p.cost_with(rt, h, workers);
+    let part = p.into_ready(rt, h, workers);
     let _blocks = part.blocks();
     let terms = Terms { part, workers };
     let _vertices = h.vertices();

@@ -496,11 +496,14 @@ fn counts_alike<R: Threads + Sync>(
     if !fine.suits(2) || !fine.fixed_within(2) {
         return Ok(false);
     }
-    let (one, cost) = p.project(alloc, fine, map)?.into_ready(rt, fine, 1);
-    let (many, same) = p
-        .project_with(rt, alloc, fine, map, workers)?
-        .into_ready(rt, fine, workers);
-    Ok(cost == 22_000 && same == 22_000 && one.words() == many.words())
+    let one = p.project(alloc, fine, map)?;
+    let many = p.project_with(rt, alloc, fine, map, workers)?;
+    if one.cost_with(rt, fine, 1) != 22_000 || many.cost_with(rt, fine, workers) != 22_000 {
+        return Ok(false);
+    }
+    let one = one.into_ready(rt, fine, 1);
+    let many = many.into_ready(rt, fine, workers);
+    Ok(one.words() == many.words())
 }
 
 #[test]
@@ -601,13 +604,12 @@ fn replays<R: Threads + Sync>(
     p.replay_with(rt, h, moves.as_slice(), row.workers);
     shift_each(h, &mut q, moves.as_slice());
     let anew = parted(alloc, h, 3, 200, p.blocks())?;
-    let (p, cost) = p.into_ready(rt, h, row.workers);
-    let (q, shifted) = q.into_ready(rt, h, 1);
-    let (anew, counted) = anew.into_ready(rt, h, 1);
-    Ok(
-        (cost == shifted && cost == counted)
-            && (p.words() == q.words() && p.words() == anew.words()),
-    )
+    let cost = anew.cost_with(rt, h, row.workers);
+    let same = p.cost_with(rt, h, row.workers) == cost && q.cost_with(rt, h, 1) == cost;
+    let p = p.into_ready(rt, h, row.workers);
+    let q = q.into_ready(rt, h, 1);
+    let anew = anew.into_ready(rt, h, 1);
+    Ok(same && p.words() == q.words() && p.words() == anew.words())
 }
 
 #[test]
@@ -662,7 +664,8 @@ fn is_opened(
     row: &Opening<'_>,
 ) -> Result<bool, Fail> {
     let p = parted(alloc, h, row.k, 7, OPENING)?;
-    let (ready, cost) = p.into_ready(rt, h, 2);
+    let cost = p.cost_with(rt, h, 2);
+    let ready = p.into_ready(rt, h, 2);
     Ok(cost == 18 && has_words(&ready, row) && ready.into_partition().cost(h) == 18)
 }
 
