@@ -65,8 +65,17 @@ pub fn label_pass<H: Threads + Sync, G: Gate>(
         if settled {
             return Ok(part);
         }
-        let (raced, saved) =
-            race_round(rt, gate, alloc, h, task, part, cost, marks.as_slice(), log)?;
+        let (raced, saved) = race_round(
+            rt,
+            gate,
+            alloc,
+            h,
+            task,
+            part,
+            cost,
+            marks.as_slice(),
+            log,
+        )?;
         count(tally, saved);
         part = raced;
         cost -= saved;
