@@ -1,5 +1,6 @@
 -- Laws of partitions that are no worse than others.
-use Rattle.std.proofs.Common.{◌≡◌, ℕ, List, [], get_or, Some, Result, Ok, Err, IfOk, sym, ap, subst, arith}
+use Rattle.std.proofs.Common.{◌≡◌, ℕ, List, [], ◌∷◌, get_or, All, Option, Some, None, Result, Ok, Err, IfOk, Bool, true, false}
+use Rattle.std.proofs.Common.{if◌then◌else◌, nat_lt, refl, sym, ap, subst, arith}
 use Rattle.hg_defs.specs.declared.memory.NoMemory.{NoMemory}
 use Rattle.hg_defs.specs.Hypergraph.{Hyper}
 use Rattle.hg_defs.specs.Partition.{Fits}
@@ -7,26 +8,59 @@ use Rattle.hg_defs.specs.Cost.{cost}
 use Rattle.hg_defs.specs.Placement.{first_cheapest}
 use Rattle.hg_defs.specs.NamedLaws.{partition_at}
 use Rattle.hg_defs.proofs.NamedLaws.{cheapest_is_first}
+use Rattle.std.proofs.lemmas.Bool.{ltb-true}
 use Rattle.std.proofs.lemmas.List.{get_or_default}
+use Rattle.std.proofs.lemmas.List.Elements.{All-head, All-tail}
 use Rattle.initial_place.specs.Cheapest.{IsNoDearer}
-use Rattle.initial_place.specs.NoWorse.{IsNoWorse}
+use Rattle.initial_place.specs.declared.search.Costed.{Costed}
+use Rattle.initial_place.specs.NoWorse.{IsNoWorse, IsCosted, IsJudged, TakesPlace, cheaper_of, cheapest_of}
 
-pub no_worse_same : (h : Hyper) (k l : ℕ) (p : List ℕ) → IsNoWorse h k l p p
-no_worse_same h k l p = record { partition = λ x. x; fits = λ x. x; fixes = λ x. x; cost = omega arith }
-
-pub no_worse_after : (h : Hyper) (k l : ℕ) (p q r : List ℕ) → IsNoWorse h k l p q → IsNoWorse h k l q r → IsNoWorse h k l p r
-no_worse_after h k l p q r x y = record {
-  partition = λ a. y.partition (x.partition a);
-  fits = λ a. y.fits (x.fits a);
-  fixes = λ a. y.fixes (x.fixes a);
-  cost = let a = x.cost in let b = y.cost in omega arith;
+-- a partition takes its own place
+takes_own : (h : Hyper) (k l : ℕ) (c : Costed) → IsCosted h k c → TakesPlace h k l c.blocks c
+takes_own h k l c costed = record {
+  costed = costed;
+  no_worse = record { partition = λ x. x; fits = λ x. x; fixes = λ x. x; cost = omega arith };
 }
 
+-- a candidate leaves the best one no worse
+takes_cheaper : (h : Hyper) (k l : ℕ) (p : List ℕ) (best : Costed) (judged : Option Costed) → TakesPlace h k l p best → IsJudged h k l judged →
+    TakesPlace h k l p (cheaper_of best judged)
+takes_cheaper h k l p best None taken met = taken
+takes_cheaper h k l p best (Some c) taken met = by (nat_lt c.cost best.cost) refl
+  where
+    by : (b : Bool) → nat_lt c.cost best.cost ≡ b → TakesPlace h k l p (if b then c else best)
+    by false e = taken
+    by true e = record {
+      costed = met.costed;
+      no_worse = record {
+        partition = λ _. met.costed.partition;
+        fits = λ _. met.fits;
+        fixes = λ _. met.fixes;
+        cost =
+            let less = ltb-true c.cost best.cost e in
+            let new = met.costed.cost in
+            let old = taken.costed.cost in
+            let kept = taken.no_worse.cost in
+            omega arith;
+      };
+    }
+
+-- and so do all of them
+takes_cheapest : (h : Hyper) (k l : ℕ) (p : List ℕ) (best : Costed) (rs : List (Result (Option Costed) NoMemory)) → TakesPlace h k l p best →
+    All (λ r. IfOk r (IsJudged h k l)) rs → TakesPlace h k l p (cheapest_of best rs)
+takes_cheapest h k l p best [] taken all = taken
+takes_cheapest h k l p best (Err e ∷ rs) taken all = taken
+takes_cheapest h k l p best (Ok judged ∷ rs) taken all =
+    takes_cheapest h k l p (cheaper_of best judged) rs
+    (takes_cheaper h k l p best judged taken (All-head (λ r. IfOk r (IsJudged h k l)) (Ok judged) rs all))
+    (All-tail (λ r. IfOk r (IsJudged h k l)) (Ok judged) rs all)
+
 -- the same of an answer
-pub answer_after : (h : Hyper) (k l : ℕ) (p q : List ℕ) (r : Result (List ℕ) NoMemory) → IsNoWorse h k l p q → IfOk r (IsNoWorse h k l q) →
-    IfOk r (IsNoWorse h k l p)
-answer_after h k l p q (Ok s) x y = no_worse_after h k l p q s x y
-answer_after h k l p q (Err e) x y = tt
+pub answer_takes : (h : Hyper) (k l : ℕ) (best : Costed) (rs : List (Result (Option Costed) NoMemory)) (r : Result Costed NoMemory) → IsCosted h k best →
+    All (λ judged. IfOk judged (IsJudged h k l)) rs → IfOk r (λ c. c ≡ cheapest_of best rs) → IfOk r (TakesPlace h k l best.blocks)
+answer_takes h k l best rs (Ok c) costed all e =
+    subst (TakesPlace h k l best.blocks) (sym e) (takes_cheapest h k l best.blocks best rs (takes_own h k l best costed) all)
+answer_takes h k l best rs (Err x) costed all e = tt
 
 -- what is no worse than the first of the cheapest fits
 pub fits_after : (h : Hyper) (k l : ℕ) (ps : List (List ℕ)) (p q : List ℕ) → first_cheapest h k l ps ≡ Some p → IsNoWorse h k l p q → Fits h k l q

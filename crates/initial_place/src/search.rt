@@ -6,7 +6,7 @@
 ghost use Rattle.std.specs.Prelude.{◌≡◌, ◌≢◌, ◌<◌, ◌≤◌, IfOk, IsTrue, length};
 ghost use Rattle.hg_defs.specs.Hypergraph.{vertex_count, fix_of, IsFixedWithin, Suits};
 ghost use Rattle.hg_defs.specs.Partition.{IsPartition, Obeys, block_of};
-ghost use Rattle.initial_place.specs.NoWorse.{IsNoWorse};
+ghost use Rattle.initial_place.specs.NoWorse.{IsNoWorse, IsCosted, IsJudged, TakesPlace, cheaper_of, cheapest_of};
 
 use hg_base::{Blocks, FREE, NoMemory, cost_of};
 use incidence::Hypergraph;
@@ -20,6 +20,13 @@ const MOST_CELLS: u64 = 1 << 23;
 
 /// With fewer bisections than this several workers make each of them by two threads.
 const FEW_TRIES: usize = 4;
+
+/// A partition, and its cost.
+#[derive(Drop)]
+struct Costed {
+    blocks: Blocks,
+    cost: u64,
+}
 
 /// How many bisections and how many perturbations are tried: fewer where they cost more.
 fn effort(h: &Hypergraph, k: u32) -> usize
@@ -61,11 +68,17 @@ pub(crate) fn searched<R: Threads + Sync>(
     }
     let candidates = Candidates::of(alloc, h, k)?;
     let tries = effort(h, k);
+    let best = Costed {
+        cost: cost_of(h.flat(), best.slice(), k),
+        blocks: best,
+    };
     if workers == 1 {
-        return best_in_turn(rt, alloc, h, k, &candidates, limit, seed, tries, best);
+        let best = best_in_turn(rt, alloc, h, k, &candidates, limit, seed, tries, best)?;
+        return Ok(best.blocks);
     }
     let best = best_of_tries(rt, alloc, h, k, &candidates, limit, seed, tries, best)?;
-    best_of_throws(rt, alloc, h, k, &candidates, limit, seed, tries, best)
+    let best = best_of_throws(rt, alloc, h, k, &candidates, limit, seed, tries, best)?;
+    Ok(best.blocks)
 }
 
 /// Whether there is one block below `k` for each vertex.
@@ -98,34 +111,45 @@ fn obeys_at(h: &Hypergraph, blocks: &[u32], v: u32) -> bool
     fix == FREE || blocks[v as usize] == fix
 }
 
-/// A candidate where it is a partition that fits, obeys the fixes and is cheaper, and else the best
-/// one so far.
-fn cheaper(
+/// A candidate beside its cost where it is a partition that fits and obeys the fixes, and else none.
+fn admitted(
     alloc: Global,
     h: &Hypergraph,
     k: u32,
     limit: u64,
-    best: Blocks,
     candidate: Blocks,
-) -> Result<Blocks, NoMemory>
+) -> Result<Option<Costed>, NoMemory>
     requires some { 2 ≤ k }
     requires few { k ≤ 256 }
     requires suits { Suits h.now k }
     requires fixed { IsFixedWithin h.now k }
-    requires best { IsPartition h.now k best }
-    ensures { IfOk result (IsNoWorse h.now k limit best) }
+    ensures { IfOk result (IsJudged h.now k limit) }
 {
     if !is_partition(h, k, candidate.slice()) || !obeys(h, candidate.slice()) {
-        return Ok(best);
+        return Ok(None);
     }
-    let candidate = Partition::of(alloc, h, k, limit, candidate)?;
-    if candidate.fits() && candidate.cost(h) < cost_of(h.flat(), best.slice(), k) {
-        return Ok(candidate.into_blocks());
+    let partition = Partition::of(alloc, h, k, limit, candidate)?;
+    if !partition.fits() {
+        return Ok(None);
     }
-    Ok(best)
+    let cost = partition.cost(h);
+    Ok(Some(Costed {
+        blocks: partition.into_blocks(),
+        cost,
+    }))
 }
 
-/// The cheapest of a growing, some bisections and a given partition. Threads make them.
+/// A candidate where it costs less, and else the best one so far.
+fn cheaper(best: Costed, candidate: Option<Costed>) -> Costed
+    ensures { result ≡ cheaper_of best candidate }
+{
+    match candidate {
+        Some(candidate) if candidate.cost < best.cost => candidate,
+        _ => best,
+    }
+}
+
+/// The cheapest of a growing, some bisections and a given partition. Threads make and judge them.
 fn best_of_tries<R: Threads + Sync>(
     rt: &R,
     alloc: Global,
@@ -135,30 +159,35 @@ fn best_of_tries<R: Threads + Sync>(
     limit: u64,
     seed: u64,
     tries: usize,
-    best: Blocks,
-) -> Result<Blocks, NoMemory>
+    best: Costed,
+) -> Result<Costed, NoMemory>
     requires some { 2 ≤ k }
     requires few { k ≤ 256 }
     requires suits { Suits h.now k }
     requires fixed { IsFixedWithin h.now k }
     requires candidates { candidates.now ≡ record { vertices = vertex_count h.now; blocks = k } }
     requires tries { tries ≤ 16 }
-    requires best { IsPartition h.now k best }
-    ensures { IfOk result (IsNoWorse h.now k limit best) }
+    requires best { IsCosted h.now k best }
+    ensures { IfOk result (TakesPlace h.now k limit best.blocks) }
 {
     let by_two = tries < FEW_TRIES;
     let tried = map_indices(
         rt,
         alloc,
         tries + 1,
-        &|i: usize| -> Result<Blocks, NoMemory>
-            requires { candidates.now.vertices ≡ vertex_count h.now }
-        { candidates.tried(rt, alloc, h, limit, seed, i as u64, by_two) },
+        &|i: usize| -> Result<Option<Costed>, NoMemory>
+            requires { (candidates.now.vertices ≡ vertex_count h.now) × (2 ≤ k) × (k ≤ 256) × Suits h.now k
+                × IsFixedWithin h.now k }
+            ensures { IfOk result (IsJudged h.entry.now k limit) }
+        {
+            let tried = candidates.tried(rt, alloc, h, limit, seed, i as u64, by_two)?;
+            admitted(alloc, h, k, limit, tried)
+        },
     )?;
-    cheapest(alloc, h, k, limit, best, tried)
+    cheapest(best, tried)
 }
 
-/// The cheapest of some perturbations of a given partition, and itself. Threads make them.
+/// The cheapest of some perturbations of a given partition, and itself. Threads make and judge them.
 fn best_of_throws<R: Threads + Sync>(
     rt: &R,
     alloc: Global,
@@ -168,27 +197,31 @@ fn best_of_throws<R: Threads + Sync>(
     limit: u64,
     seed: u64,
     tries: usize,
-    best: Blocks,
-) -> Result<Blocks, NoMemory>
+    best: Costed,
+) -> Result<Costed, NoMemory>
     requires some { 2 ≤ k }
     requires few { k ≤ 256 }
     requires suits { Suits h.now k }
     requires fixed { IsFixedWithin h.now k }
     requires candidates { candidates.now ≡ record { vertices = vertex_count h.now; blocks = k } }
-    requires best { IsPartition h.now k best }
-    ensures { IfOk result (IsNoWorse h.now k limit best) }
+    requires best { IsCosted h.now k best }
+    ensures { IfOk result (TakesPlace h.now k limit best.blocks) }
 {
-    let start = best.slice();
+    let start = best.blocks.slice();
     let thrown = map_indices(
         rt,
         alloc,
         tries,
-        &|i: usize| -> Result<Blocks, NoMemory>
-            requires { (candidates.now.vertices ≡ vertex_count h.now)
-                × IsPartition h.now candidates.now.blocks start.now }
-        { candidates.thrown(alloc, h, start, limit, seed, i as u64) },
+        &|i: usize| -> Result<Option<Costed>, NoMemory>
+            requires { (candidates.now.vertices ≡ vertex_count h.now) × (2 ≤ k) × (k ≤ 256) × Suits h.now k
+                × IsFixedWithin h.now k × IsPartition h.now candidates.now.blocks start.now }
+            ensures { IfOk result (IsJudged h.entry.now k limit) }
+        {
+            let thrown = candidates.thrown(alloc, h, start, limit, seed, i as u64)?;
+            admitted(alloc, h, k, limit, thrown)
+        },
     )?;
-    cheapest(alloc, h, k, limit, best, thrown)
+    cheapest(best, thrown)
 }
 
 /// The same as `best_of_tries` and then `best_of_throws`, by the calling thread alone, which compares each
@@ -202,49 +235,40 @@ fn best_in_turn<R: Threads + Sync>(
     limit: u64,
     seed: u64,
     tries: usize,
-    best: Blocks,
-) -> Result<Blocks, NoMemory>
+    best: Costed,
+) -> Result<Costed, NoMemory>
     requires some { 2 ≤ k }
     requires few { k ≤ 256 }
     requires suits { Suits h.now k }
     requires fixed { IsFixedWithin h.now k }
     requires candidates { candidates.now ≡ record { vertices = vertex_count h.now; blocks = k } }
     requires tries { tries ≤ 16 }
-    requires best { IsPartition h.now k best }
-    ensures { IfOk result (IsNoWorse h.now k limit best) }
+    requires best { IsCosted h.now k best }
+    ensures { IfOk result (TakesPlace h.now k limit best.blocks) }
 {
     let mut best = best;
     for number in 0..tries as u64 + 1 {
         let tried = candidates.tried(rt, alloc, h, limit, seed, number, false)?;
-        best = cheaper(alloc, h, k, limit, best, tried)?;
+        best = cheaper(best, admitted(alloc, h, k, limit, tried)?);
     }
-    let start = best.copy()?;
+    let start = best.blocks.copy()?;
     for throw in 0..tries as u64 {
         let thrown = candidates.thrown(alloc, h, start.slice(), limit, seed, throw)?;
-        best = cheaper(alloc, h, k, limit, best, thrown)?;
+        best = cheaper(best, admitted(alloc, h, k, limit, thrown)?);
     }
     Ok(best)
 }
 
-/// The cheapest of some candidates and a given partition, the first at a tie.
+/// The cheapest of some judged candidates and a given partition, the first at a tie.
 fn cheapest(
-    alloc: Global,
-    h: &Hypergraph,
-    k: u32,
-    limit: u64,
-    best: Blocks,
-    candidates: Vec<Result<Blocks, NoMemory>>,
-) -> Result<Blocks, NoMemory>
-    requires some { 2 ≤ k }
-    requires few { k ≤ 256 }
-    requires suits { Suits h.now k }
-    requires fixed { IsFixedWithin h.now k }
-    requires best { IsPartition h.now k best }
-    ensures { IfOk result (IsNoWorse h.now k limit best) }
+    best: Costed,
+    candidates: Vec<Result<Option<Costed>, NoMemory>>,
+) -> Result<Costed, NoMemory>
+    ensures { IfOk result (λ cheapest. cheapest ≡ cheapest_of best candidates.items) }
 {
     let mut best = best;
-    for tried in candidates {
-        best = cheaper(alloc, h, k, limit, best, tried?)?;
+    for judged in candidates {
+        best = cheaper(best, judged?);
     }
     Ok(best)
 }
