@@ -8,8 +8,9 @@ one. `allowed` is four times the seconds of one run over those of four runs at o
 all processors are told where they are a hundredth of the time and more.
 
 Before, between and after the run with one worker and that with four, the same sum is made by one process alone and by
-four at once. A turn is quiet where four took at most 1.12 times as long as one each time, and the median of the quiet
-turns is told beside that of all.
+four at once. A turn is quiet where four took at most 1.12 times as long as one each time, and even where the four runs
+at once did: then one run had no faster processor than they. The medians of the quiet and of the even turns are told
+beside that of all.
 
 With `--pass KIND` PROGRAM is `bench_pass`, and what is compared are passes of that kind, as it tells their times.
 """
@@ -90,7 +91,7 @@ def main():
         sys.exit(__doc__)
     program, graph, blocks = words[:3]
     repeats = int(words[3]) if len(words) == 4 else 3
-    quotients, quiet, allowed = [], [], []
+    quotients, quiet, even, allowed = [], [], [], []
     with tempfile.TemporaryDirectory() as folder:
         for _ in range(repeats):
             begin, before = time.monotonic(), stolen()
@@ -106,6 +107,9 @@ def main():
             if max(crowds) <= QUIET:
                 quiet.append(one / four)
                 note = ", quiet"
+            if together <= QUIET * one:
+                even.append(one / four)
+                note += ", even"
             took = stolen() - before
             note += f", the host took {took:.1f} s" if took > 0.01 * (time.monotonic() - begin) else ""
             print(
@@ -116,8 +120,9 @@ def main():
                 flush=True,
             )
     print(f"median: {statistics.median(quotients):.2f} times as fast, allowed {statistics.median(allowed):.2f}")
-    if quiet:
-        print(f"median of {len(quiet)} quiet turns: {statistics.median(quiet):.2f} times as fast")
+    for name, found in (("quiet", quiet), ("even", even)):
+        if found:
+            print(f"median of {len(found)} {name} turns: {statistics.median(found):.2f} times as fast")
 
 
 if __name__ == "__main__":
