@@ -13,7 +13,7 @@ use move_table::Pass;
 use std::sync::atomic::Ordering::SeqCst;
 
 /// A worker takes so many vertices of a run at once.
-const SHARE: usize = 1024;
+const SHARE: usize = 256;
 
 /// Whether a block seems to have room for a vertex. Other workers may be there first, and a vertex that is told
 /// otherwise makes no step on the load, which all of them share.
