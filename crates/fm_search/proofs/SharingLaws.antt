@@ -9,6 +9,7 @@ use Rattle.move_table.specs.contracts.round.Round as round
 use Rattle.move_table.proofs.SharingLaws.{round_sync}
 use Rattle.fm_search.specs.contracts.progress.Progress as progress
 use Rattle.fm_search.specs.contracts.shared.Shared as shared
+use Rattle.fm_search.specs.contracts.told.Told as told
 
 progress_sync : IsSync progress.the_row
 progress_sync = search (sendable, crosses) depth 20
@@ -21,6 +22,12 @@ hyper_field_sync ℓ κ = shr_sync ℓ κ graph.the_row hyper.the_sync
 
 progress_field_sync : (ℓ : _) (κ : _) → IsSync (ShrRef ℓ κ progress.the_row)
 progress_field_sync ℓ κ = shr_sync ℓ κ progress.the_row progress_sync
+
+told_sync : IsSync told.the_row
+told_sync = search (sendable, crosses) depth 20
+
+told_field_sync : (ℓ : _) (κ : _) → IsSync (ShrRef ℓ κ told.the_row)
+told_field_sync ℓ κ = shr_sync ℓ κ told.the_row told_sync
 
 -- what the workers share
 pub shared_sync : (κ : _) → IsSync (shared.the_row κ)
@@ -36,7 +43,10 @@ shared_sync κ = recorded_sync _ _ _ ((shared.the_type κ).to_one) (struct_sync 
           search (sendable, crosses),
           (
             search (sendable, crosses) depth 20,
-            (search (sendable, crosses), (progress_field_sync _ _, (search (sendable, crosses) depth 20, tt))),
+            (
+              search (sendable, crosses),
+              (search (sendable, crosses), (progress_field_sync _ _, (search (sendable, crosses) depth 20, (told_field_sync _ _, tt)))),
+            ),
           ),
         ),
       ),

@@ -11,6 +11,7 @@ use crate::mover::Mover;
 use crate::opening::{Known, Opening};
 use crate::reading::{Choice, approach, best_block, read_vertex};
 use crate::shared::Shared;
+use crate::told::Told;
 use gain_heap::{GainHeap, Offer};
 use hg_base::NoMemory;
 use incidence::Hypergraph;
@@ -368,6 +369,7 @@ impl Desk {
     pub(crate) fn tell(
         &mut self,
         known: &Known<'_>,
+        told: &Told,
         v: u32,
         block: u32,
         change: &Change,
@@ -383,9 +385,10 @@ impl Desk {
         if mark.round == self.round {
             return Ok(());
         }
-        if !self.is_read(v) {
+        if !self.is_read(v) && !told.has(v) {
             self.draw_up(known, v, block)?;
         }
+        told.add(v);
         if self.is_read(v) {
             self.adjust(v, block, change);
         }

@@ -12,6 +12,7 @@ mod cells;
 mod change;
 mod desk;
 mod fm;
+mod lots;
 mod memory;
 mod mover;
 mod opening;
@@ -25,6 +26,7 @@ mod seeds;
 mod shared;
 mod single;
 mod streak;
+mod told;
 mod worker;
 
 pub use fm::FmSearch;

@@ -10,12 +10,14 @@ ghost use Rattle.fm_search.specs.Workers.{AreWorkers, AreFreshWorkers, IsWorkerA
 
 use crate::begin::open_round;
 use crate::desk::Desk;
+use crate::lots::lot_size;
 use crate::memory::Memory;
 use crate::mover::Mover;
 use crate::opening::Known;
 use crate::progress::Progress;
 use crate::seeds::first_place;
 use crate::shared::Shared;
+use crate::told::Told;
 use crate::worker::Worker;
 use crew::{Gate, each};
 use hg_base::{Items, NoMemory};
@@ -142,6 +144,7 @@ pub(crate) fn race<H: Threads + Sync, G: Gate>(
     let first = first_place(seeds.len(), task.seed, task.level);
     let mut workers = workers_of(alloc, h, k, passes, &mut memory.desks)?;
     let progress = Progress::new();
+    let told = Told::none(alloc, h.vertices())?;
     let shared = Shared {
         round: &round,
         h,
@@ -150,11 +153,13 @@ pub(crate) fn race<H: Threads + Sync, G: Gate>(
         workers: task.workers,
         seeds: seeds.as_slice(),
         first,
+        lot: lot_size(h, seeds.as_slice(), task.workers, k),
         progress: &progress,
         known: Known {
             openings: memory.openings.all.as_slice(),
             rows: memory.openings.rows.as_slice(),
         },
+        told: &told,
     };
     search_all(rt, gate, &shared, workers.as_mut_slice());
     if progress.is_stopped() {

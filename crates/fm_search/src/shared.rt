@@ -7,18 +7,12 @@ ghost use Rattle.fm_search.specs.Opened.{IsBelow};
 
 use crate::opening::Known;
 use crate::progress::Progress;
+use crate::told::Told;
 use incidence::Hypergraph;
 use move_table::Round;
 
 /// Room between what one worker writes and what others read, so that no line of the cache holds both.
 pub(crate) type Apart = [u64; 16];
-
-/// A search starts from so many seeds times blocks at most.
-const MOST_SEED_CELLS: u64 = 1 << 16;
-
-/// So many seeds aren't shared out: searches that begin near each other take each other's moves for gains, go on
-/// for long, and are undone.
-const FEW_SEEDS: u64 = 2048;
 
 /// The round, its hypergraph, its number of blocks and its limit, the number of workers, the seeds with the place of
 /// the first one that is drawn, how far the round has come, and what is known of the vertices at its opening.
@@ -31,8 +25,10 @@ pub(crate) struct Shared<'a> {
     pub(crate) workers: u32,
     pub(crate) seeds: &'a [u32],
     pub(crate) first: u32,
+    pub(crate) lot: u64,
     pub(crate) progress: &'a Progress,
     pub(crate) known: Known<'a>,
+    pub(crate) told: &'a Told,
     ghost hyper: { round.now.terms.part.hyper ≡ h.now },
     ghost blocks: { round.now.terms.part.k ≡ k },
     ghost few: { k ≤ 256 },
@@ -44,22 +40,15 @@ pub(crate) struct Shared<'a> {
 }
 
 impl Shared<'_> {
-    /// From how many seeds a search starts: from the share of a worker, or from a few where the share is less, and
-    /// from fewer where there are many blocks.
-    fn lot_size(&self) -> u64 {
-        let share = (self.seeds.len() as u64).div_ceil(u64::from(self.workers.max(1)));
-        share
-            .max(FEW_SEEDS)
-            .min(MOST_SEED_CELLS / u64::from(self.k.max(1)))
-    }
-
     /// The numbers of the seeds of the search of a number that was drawn, from the first one up to the second one.
     pub(crate) fn lot(&self, drawn: u64) -> (u64, u64)
         ensures { result.1 ≤ length self.now.seeds.now }
     {
-        let size = self.lot_size();
-        let from = drawn.saturating_mul(size);
-        (from, from.saturating_add(size).min(self.seeds.len() as u64))
+        let from = drawn.saturating_mul(self.lot);
+        (
+            from,
+            from.saturating_add(self.lot).min(self.seeds.len() as u64),
+        )
     }
 
     /// The seed of a number: the seeds are gone round from the first one on.

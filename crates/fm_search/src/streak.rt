@@ -1,7 +1,7 @@
 //! What one search has booked.
 
 /// A search ends so many moves after its best.
-const MOST_IN_VAIN: u32 = 64;
+pub(crate) const MOST_IN_VAIN: u32 = 64;
 
 /// The sum of what a search booked, its best so far, and the moves since.
 #[derive(Clone, Copy)]

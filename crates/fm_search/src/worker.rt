@@ -46,7 +46,7 @@ impl Worker {
             self.desk.leave(v);
             return Ok(None);
         }
-        if !self.desk.is_read(v) {
+        if !self.desk.is_read(v) && !shared.told.has(v) {
             let known = self.known(shared);
             self.desk.draw_up(&known, v, block)?;
         }
@@ -110,7 +110,7 @@ impl Worker {
     {
         let Known { openings, rows } = shared.known;
         let is_enough = shared.k == 2 || !rows.is_empty();
-        if is_enough && self.before == 0 && shared.progress.moves() == self.made {
+        if is_enough {
             return shared.known;
         }
         Known {
@@ -146,7 +146,7 @@ impl Worker {
         }
         'pins: for v in shared.h.pins(e) {
             self.desk
-                .tell(known, *v, shared.round.opening(*v), &change)?;
+                .tell(known, shared.told, *v, shared.round.opening(*v), &change)?;
         }
         Ok(())
     }
@@ -204,7 +204,9 @@ impl Worker {
                 self.made = self.made.wrapping_add(1);
                 shared.progress.add(gain);
                 streak.add(gain);
-                if !streak.is_over() {
+                if streak.is_over() {
+                    shared.told.add_around(shared.h, v);
+                } else {
                     self.tell(shared, v, from, to)?;
                 }
             }
