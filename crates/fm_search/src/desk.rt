@@ -385,10 +385,9 @@ impl Desk {
         if mark.round == self.round {
             return Ok(());
         }
-        if !self.is_read(v) && !told.has(v) {
+        if told.add(v) && !self.is_read(v) {
             self.draw_up(known, v, block)?;
         }
-        told.add(v);
         if self.is_read(v) {
             self.adjust(v, block, change);
         }

@@ -25,7 +25,7 @@ fn neighbours_of(h: &Hypergraph, v: u32) -> u64
     for e in h.nets_of(v) {
         let size = h.pins(*e).len();
         if size <= MOST_PINS {
-            count = count.saturating_add(size as u64);
+            count = count.saturating_add(size.saturating_sub(1) as u64);
         }
     }
     count

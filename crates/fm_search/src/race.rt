@@ -63,7 +63,6 @@ fn workers_of(
             mover: Mover::of(pass),
             desk,
             made: 0,
-            before: 0,
             apart: [0; 16],
         })?;
     }
@@ -89,7 +88,6 @@ fn passes_of(
             mover,
             desk,
             made: _,
-            before: _,
             apart: _,
         } = worker;
         passes.push(mover.into_pass())?;
@@ -153,7 +151,7 @@ pub(crate) fn race<H: Threads + Sync, G: Gate>(
         workers: task.workers,
         seeds: seeds.as_slice(),
         first,
-        lot: lot_size(h, seeds.as_slice(), task.workers, k),
+        lot_size: lot_size(h, seeds.as_slice(), task.workers, k),
         progress: &progress,
         known: Known {
             openings: memory.openings.all.as_slice(),

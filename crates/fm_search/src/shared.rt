@@ -15,7 +15,8 @@ use move_table::Round;
 pub(crate) type Apart = [u64; 16];
 
 /// The round, its hypergraph, its number of blocks and its limit, the number of workers, the seeds with the place of
-/// the first one that is drawn, how far the round has come, and what is known of the vertices at its opening.
+/// the first one that is drawn and how many a search starts from, how far the round has come, what is known of the
+/// vertices at its opening, and which were told of a move since.
 #[derive(Drop)]
 pub(crate) struct Shared<'a> {
     pub(crate) round: &'a Round<'a>,
@@ -25,7 +26,7 @@ pub(crate) struct Shared<'a> {
     pub(crate) workers: u32,
     pub(crate) seeds: &'a [u32],
     pub(crate) first: u32,
-    pub(crate) lot: u64,
+    pub(crate) lot_size: u64,
     pub(crate) progress: &'a Progress,
     pub(crate) known: Known<'a>,
     pub(crate) told: &'a Told,
@@ -44,10 +45,11 @@ impl Shared<'_> {
     pub(crate) fn lot(&self, drawn: u64) -> (u64, u64)
         ensures { result.1 ≤ length self.now.seeds.now }
     {
-        let from = drawn.saturating_mul(self.lot);
+        let from = drawn.saturating_mul(self.lot_size);
         (
             from,
-            from.saturating_add(self.lot).min(self.seeds.len() as u64),
+            from.saturating_add(self.lot_size)
+                .min(self.seeds.len() as u64),
         )
     }
 

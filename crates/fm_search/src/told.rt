@@ -1,4 +1,4 @@
-//! Which vertices the moves of a round were told to: what was known of them at its opening may not hold any more.
+//! Which vertices moves of a round were told to: what was known of them at its opening may not hold any more.
 
 ghost use Rattle.std.specs.Prelude.{◌<◌};
 ghost use Rattle.hg_defs.specs.Hypergraph.{vertex_count};
@@ -40,16 +40,17 @@ impl Told {
         }
     }
 
-    /// A vertex is told of a move. Its bit is read first, since most are set already, and to set one takes longer.
-    pub(crate) fn add(&self, v: u32) {
-        if let Some(word) = self.words.get(v as usize / 64) {
-            if word.load(SeqCst) & bit_of(v) == 0 {
-                word.fetch_or(bit_of(v), SeqCst);
-            }
+    /// Notes that a vertex is told of a move, and answers whether it is the first one. Its bit is read first, since most
+    /// are set already, and to set one takes longer.
+    pub(crate) fn add(&self, v: u32) -> bool {
+        let bit = bit_of(v);
+        match self.words.get(v as usize / 64) {
+            Some(word) => word.load(SeqCst) & bit == 0 && word.fetch_or(bit, SeqCst) & bit == 0,
+            None => false,
         }
     }
 
-    /// The pins of a vertex's nets are told that it moved, but for those of large nets.
+    /// Notes the pins of a vertex's nets, but for large ones, where the vertex moved and nobody is told.
     pub(crate) fn add_around(&self, h: &Hypergraph, v: u32)
         requires { v < vertex_count h.now }
     {
@@ -59,7 +60,7 @@ impl Told {
                 continue;
             }
             for u in pins {
-                self.add(*u);
+                let _first = self.add(*u);
             }
         }
     }

@@ -24,9 +24,22 @@ pub(crate) struct Worker {
     pub(crate) desk: Desk,
     /// How many moves it made in this round.
     pub(crate) made: u64,
-    /// How many of these before its search began.
-    pub(crate) before: u64,
     pub(crate) apart: Apart,
+}
+
+/// What is known of vertices, where rows can be drawn up from it: in two blocks, or where whole rows are kept. Else
+/// nothing.
+fn known<'s>(shared: &'s Shared<'_>) -> Known<'s>
+    ensures { All (IsBelow shared.now.k) result.openings.now }
+{
+    let Known { openings, rows } = shared.known;
+    if shared.k == 2 || !rows.is_empty() {
+        return shared.known;
+    }
+    Known {
+        openings: &openings[..0],
+        rows: &rows[..0],
+    }
 }
 
 impl Worker {
@@ -47,7 +60,7 @@ impl Worker {
             return Ok(None);
         }
         if !self.desk.is_read(v) && !shared.told.has(v) {
-            let known = self.known(shared);
+            let known = known(shared);
             self.desk.draw_up(&known, v, block)?;
         }
         if self.desk.is_read(v) && shared.progress.moves() == self.made {
@@ -103,22 +116,6 @@ impl Worker {
         self.offer(shared, v)
     }
 
-    /// What is known of vertices, where rows can be drawn up from it: in two blocks or where whole rows are kept, while
-    /// nobody has moved anything since the round opened but this worker in the search that it grows. Else nothing.
-    fn known<'s>(&self, shared: &'s Shared<'_>) -> Known<'s>
-        ensures { All (IsBelow shared.now.k) result.openings.now }
-    {
-        let Known { openings, rows } = shared.known;
-        let is_enough = shared.k == 2 || !rows.is_empty();
-        if is_enough {
-            return shared.known;
-        }
-        Known {
-            openings: &openings[..0],
-            rows: &rows[..0],
-        }
-    }
-
     /// Tells the pins of a net that one of them moved.
     fn tell_net(
         &mut self,
@@ -160,7 +157,7 @@ impl Worker {
         ensures mover { self.new.mover ≡ self.old.mover }
         ensures desk { self.new.desk ≡ self.old.desk }
     {
-        let known = self.known(shared);
+        let known = known(shared);
         'nets: for e in shared.h.nets_of(v) {
             let size = shared.h.pins(*e).len();
             if size >= 2 && size <= MOST_PINS {
@@ -245,7 +242,6 @@ impl Worker {
         ensures mover { self.new.mover ≡ self.old.mover }
         ensures desk { self.new.desk ≡ self.old.desk }
     {
-        self.before = self.made;
         self.desk.begin_search();
         'seeds: for number in from..to {
             self.offer_seed(shared, shared.seed(number))?;
