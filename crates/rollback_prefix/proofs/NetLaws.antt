@@ -8,50 +8,51 @@ use Rattle.std.proofs.lemmas.Bool.{cases_eq}
 use Rattle.hg_defs.specs.declared.moves.Move.{Move}
 use Rattle.hg_defs.specs.Hypergraph.{Hyper}
 use Rattle.hg_defs.specs.Incidence.{nets_of}
+use Rattle.rollback_prefix.specs.Gains.{IsInRun}
 
--- the nets that were seen, each once
-pub record AreSeen (m : ℕ) (seen : List Bool) (nets : List ℕ) : Type 0 where
-  pub size : length seen ≡ m
-  pub below : All (λ e. e < m) nets
+-- the nets of a run of numbers that were seen, each once: mark j is that of net first + j
+pub record AreSeen (first end : ℕ) (seen : List Bool) (nets : List ℕ) : Type 0 where
+  pub size : first + length seen ≡ end
   pub once : AllPairs (λ a b. a ≢ b) nets
-  pub listed : (e : ℕ) → e < m → get_or seen e false ≡ true → Contains nets e
-  pub marked : (e : ℕ) → Contains nets e → get_or seen e false ≡ true
+  pub each : All (IsInRun first end) nets
+  pub listed : (j : ℕ) → get_or seen j false ≡ true → Contains nets (first + j)
+  pub marked : (j : ℕ) → Contains nets (first + j) → get_or seen j false ≡ true
 
-get_or-all_false : (n e : ℕ) → get_or (replicate n false) e false ≡ false
-get_or-all_false zero e = refl
+get_or-all_false : (n j : ℕ) → get_or (replicate n false) j false ≡ false
+get_or-all_false zero j = refl
 get_or-all_false (suc n) zero = refl
-get_or-all_false (suc n) (suc e) = get_or-all_false n e
+get_or-all_false (suc n) (suc j) = get_or-all_false n j
 
-pub seen_none : (m : ℕ) → AreSeen m (replicate m false) []
-seen_none m = record {
-  size = length-replicate m false;
-  below = All-nil (λ e. e < m);
+pub seen_none : (first end n : ℕ) → first + n ≡ end → AreSeen first end (replicate n false) []
+seen_none first end n long = record {
+  size = (let e = length-replicate n false in omega arith);
   once = λ i j d l n. absurd (omega arith);
-  listed = λ e l t. absurd (true≢false (sym t ∙ get_or-all_false m e));
-  marked = λ e c. absurd (let l = c.1 in omega arith);
+  each = All-nil (IsInRun first end);
+  listed = λ j t. absurd (true≢false (sym t ∙ get_or-all_false n j));
+  marked = λ j c. absurd (let l = c.1 in omega arith);
 }
 
-pub seen_more : (m : ℕ) (seen : List Bool) (nets : List ℕ) (e : ℕ) → e < m → get_or seen e false ≡ false → AreSeen m seen nets → AreSeen m (set seen e true)
-    (nets ++ e ∷ [])
-seen_more m seen nets e low fresh s = record {
-  size = length-set seen e true ∙ s.size;
-  below = All-push (λ x. x < m) nets e s.below low;
+pub seen_more : (first end : ℕ) (seen : List Bool) (nets : List ℕ) (i e : ℕ) → first + i ≡ e → i < length seen → get_or seen i false ≡ false →
+    AreSeen first end seen nets → AreSeen first end (set seen i true) (nets ++ e ∷ [])
+seen_more first end seen nets i e is low fresh s = record {
+  size = (let n = s.size in let m = length-set seen i true in omega arith);
   once = all_pairs_push (λ a b. a ≢ b) nets e s.once (λ k d l. new (get_or nets k d) (Contains-get_or nets k d l));
-  listed = λ x l t. listed x l t (cases_eq x e);
-  marked = λ x c. marked x (Contains-push_cases nets e x c) (cases_eq x e);
+  each = All-push (IsInRun first end) nets e s.each (let n = s.size in (omega arith, omega arith));
+  listed = λ j t. listed j t (cases_eq j i);
+  marked = λ j c. marked j (Contains-push_cases nets e (first + j) c) (cases_eq j i);
 }
   where
     new : (x : ℕ) → Contains nets x → x ≢ e
-    new x c q = true≢false (sym (s.marked x c) ∙ (ap (λ y. get_or seen y false) q ∙ fresh))
+    new x c q = true≢false (sym (s.marked i (subst (Contains nets) (q ∙ sym is) c)) ∙ fresh)
 
-    listed : (x : ℕ) → x < m → get_or (set seen e true) x false ≡ true → (x ≡ e) ⊎ (x ≡ e → ⊥) → Contains (nets ++ e ∷ []) x
-    listed x l t (inl q) = subst (Contains (nets ++ e ∷ [])) (sym q) (Contains-push nets e)
-    listed x l t (inr q) = Contains-append_left nets (e ∷ []) x (s.listed x l (sym (get_or-set_other seen e x true false q) ∙ t))
+    listed : (j : ℕ) → get_or (set seen i true) j false ≡ true → (j ≡ i) ⊎ (j ≡ i → ⊥) → Contains (nets ++ e ∷ []) (first + j)
+    listed j t (inl q) = subst (Contains (nets ++ e ∷ [])) (omega arith) (Contains-push nets e)
+    listed j t (inr q) = Contains-append_left nets (e ∷ []) (first + j) (s.listed j (sym (get_or-set_other seen i j true false q) ∙ t))
 
-    marked : (x : ℕ) → Contains nets x ⊎ (e ≡ x) → (x ≡ e) ⊎ (x ≡ e → ⊥) → get_or (set seen e true) x false ≡ true
-    marked x c (inl q) = ap (λ y. get_or (set seen e true) y false) q ∙ get_or-set_same seen e true false (let n = s.size in omega arith)
-    marked x (inl c) (inr q) = get_or-set_other seen e x true false q ∙ s.marked x c
-    marked x (inr f) (inr q) = absurd (q (sym f))
+    marked : (j : ℕ) → Contains nets (first + j) ⊎ (e ≡ first + j) → (j ≡ i) ⊎ (j ≡ i → ⊥) → get_or (set seen i true) j false ≡ true
+    marked j c (inl q) = ap (λ y. get_or (set seen i true) y false) q ∙ get_or-set_same seen i true false low
+    marked j (inl c) (inr q) = get_or-set_other seen i j true false q ∙ s.marked j c
+    marked j (inr f) (inr q) = absurd (q (omega arith))
 
 -- what holds of what stands at each place holds of what a list contains
 pub contained_by_places : (P : ℕ → Type 0) (ys : List ℕ) → ((j : ℕ) → j < length ys → P (get_or ys j 0)) → (x : ℕ) → Contains ys x → P x

@@ -1,7 +1,7 @@
 -- Laws of what nets save together: net by net, part by part, and all nets that moves touch.
 use Rattle.std.proofs.Common.{◌≡◌, ◌≢◌, ◌⊎◌, inl, inr, ℕ, zero, suc, ◌+◌, ◌*◌, ◌^◌, ◌<◌, ◌≤◌, List, [], ◌∷◌, take, drop}
 use Rattle.std.proofs.Common.{length, get_or, replicate, All, AllPairs, Contains, Result, Ok, IfOk, ℤ}
-use Rattle.std.proofs.Common.{pos, ◌+ℤ◌, ◌-ℤ◌, ◌≤ℤ◌, refl, sym, ap, ◌∙◌, subst, arith, if◌then◌else◌, nat_eq, Bool, true, false, ◌++◌, ◌%◌}
+use Rattle.std.proofs.Common.{pos, ◌+ℤ◌, ◌-ℤ◌, ◌≤ℤ◌, refl, sym, ap, ◌∙◌, subst, arith, if◌then◌else◌, nat_eq, Bool, true, false, ◌++◌}
 use Rattle.std.proofs.lemmas.Int.{ints}
 use Rattle.std.proofs.lemmas.List.{take_all, length-replicate}
 use Rattle.std.proofs.lemmas.Bool.{eqb-true, eqb-false, cases_lt}
@@ -23,7 +23,6 @@ use Rattle.std.proofs.lemmas.List.FromFn.{length-range_with_len, get_or-range_wi
 use Rattle.std.proofs.lemmas.List.Elements.{Contains-get_or}
 use Rattle.std.proofs.lemmas.Bool.Decides.{Decides-eqb}
 use Rattle.std.proofs.lemmas.Map.Made.{is_member-Decides}
-use Rattle.std.proofs.Math.Nat.{mod-lt, mod-one}
 use Rattle.hg_defs.specs.Cost.{price}
 use Rattle.std.specs.Set.{distinct_count}
 use Rattle.hg_defs.proofs.PlacementLaws.{Contains_filter}
@@ -31,7 +30,7 @@ use Rattle.hg_defs.specs.Incidence.{is_on}
 use Rattle.rollback_prefix.specs.Steps.{AreReplayGains}
 use Rattle.rollback_prefix.proofs.StepLaws.{no_move}
 use Rattle.rollback_prefix.proofs.KernelLaws.{quiet_one}
-use Rattle.rollback_prefix.specs.Gains.{AreSavings, AreSmall, AreTouchedOf, AreSavingsOf, cost_of_nets, saved_by_net, pin_weight}
+use Rattle.rollback_prefix.specs.Gains.{IsInRun, AreSavings, AreSmall, AreTouchedOf, AreSavingsOf, cost_of_nets, saved_by_net, pin_weight}
 
 -- ---- small sums
 
@@ -205,27 +204,14 @@ untouched_same h p moves nets i e all here low q =
 
 -- ---- all parts
 
--- different nets whose number leaves less than j over when it is divided by parts, among them each with a pin that moves
-pub record AreTouchedBelow (h : Hyper) (moves : List Move) (j parts : ℕ) (nets : List ℕ) : Type 0 where
-  pub below : All (λ e. e < net_count h) nets
-  pub once : AllPairs (λ a b. a ≢ b) nets
-  pub each : All (λ e. e % parts < j) nets
-  pub all : (i : ℕ) (d : Move) (e : ℕ) → i < length moves → Contains (nets_of h (get_or moves i d).vertex) e → e % parts < j → Contains nets e
-
--- each gain is what the nets of the first j parts save by its move
-pub record AreSavingsBelow (h : Hyper) (p : List ℕ) (moves : List Move) (j parts : ℕ) (gains : List ℤ) : Type 0 where
-  pub nets : List ℕ
-  pub touched : AreTouchedBelow h moves j parts nets
-  pub savings : AreSavings h p moves nets gains
-
-pub no_parts : (h : Hyper) (p : List ℕ) (moves : List Move) (parts : ℕ) → AreSavingsBelow h p moves 0 parts (replicate (length moves) (pos 0))
-no_parts h p moves parts = record {
+pub no_parts : (h : Hyper) (p : List ℕ) (moves : List Move) (end : ℕ) → end ≡ 0 → AreSavingsOf h p moves 0 end (replicate (length moves) (pos 0))
+no_parts h p moves end none = record {
   nets = [];
   touched = record {
     below = All-nil (λ e. e < net_count h);
     once = λ i j d l n. absurd (omega arith);
-    each = All-nil (λ e. e % parts < 0);
-    all = λ i d e l c m. absurd (omega arith);
+    each = All-nil (IsInRun 0 end);
+    all = λ i d e l c m. absurd (let x = m.1 in omega arith);
   };
   savings = savings_none h p moves;
 }
@@ -237,56 +223,45 @@ pairs_append R (x ∷ xs) ys a b c =
     (All-append (R x) xs ys (λ i d low. a 0 (suc i) d (omega arith) (omega arith)) (All-head (λ z. All (R z) ys) x xs c))
     (pairs_append R xs ys (λ i j d l m. a (suc i) (suc j) d (omega arith) (omega arith)) b (All-tail (λ z. All (R z) ys) x xs c))
 
-touched_joined : (h : Hyper) (moves : List Move) (j parts : ℕ) (xs ys : List ℕ) → AreTouchedBelow h moves j parts xs → AreTouchedOf h moves j parts ys →
-    AreTouchedBelow h moves (j + 1) parts (xs ++ ys)
-touched_joined h moves j parts xs ys t u = record {
+touched_joined : (h : Hyper) (moves : List Move) (m n : ℕ) (xs ys : List ℕ) → m ≤ n → AreTouchedOf h moves 0 m xs → AreTouchedOf h moves m n ys →
+    AreTouchedOf h moves 0 n (xs ++ ys)
+touched_joined h moves m n xs ys more t u = record {
   below = All-append (λ e. e < net_count h) xs ys t.below u.below;
   once = pairs_append (λ a b. a ≢ b) xs ys t.once u.once
-      (All-weaker (λ x. x % parts < j) (λ x. All (λ y. x ≢ y) ys) (λ x l. All-weaker (λ y. y % parts ≡ j) (λ y. x ≢ y)
-      (λ y e q. apart (x % parts) (y % parts) l e (ap (λ z. z % parts) q)) ys u.each) xs t.each);
-  each = All-append (λ e. e % parts < j + 1) xs ys
-      (All-weaker (λ e. e % parts < j) (λ e. e % parts < j + 1) (λ e l. more (e % parts) l) xs t.each)
-      (All-weaker (λ e. e % parts ≡ j) (λ e. e % parts < j + 1) (λ e l. last (e % parts) l) ys u.each);
-  all = λ i d e l c m. by i d e l c m (cases_lt (e % parts) j);
+      (All-weaker (IsInRun 0 m) (λ x. All (λ y. x ≢ y) ys) (λ x k. All-weaker (IsInRun m n) (λ y. x ≢ y) (λ y l e. apart x y k.1 l.0 e) ys u.each) xs t.each);
+  each = All-append (IsInRun 0 n) xs ys (All-weaker (IsInRun 0 m) (IsInRun 0 n) (λ e k. (k.0, early e k.1)) xs t.each)
+      (All-weaker (IsInRun m n) (IsInRun 0 n) (λ e k. (zero-le e, k.1)) ys u.each);
+  all = λ i d e l c k. by i d e l c k.1 (cases_lt e m);
 }
   where
-    apart : (a b : ℕ) → a < j → b ≡ j → a ≡ b → ⊥
-    apart a b l e q = omega arith
+    apart : (a b : ℕ) → a < m → m ≤ b → a ≡ b → ⊥
+    apart a b l k e = omega arith
 
-    more : (a : ℕ) → a < j → a < j + 1
-    more a l = omega arith
+    early : (e : ℕ) → e < m → e < n
+    early e l = omega arith
 
-    last : (a : ℕ) → a ≡ j → a < j + 1
-    last a e = omega arith
+    zero-le : (e : ℕ) → 0 ≤ e
+    zero-le e = omega arith
 
-    only : (a : ℕ) → a < j + 1 → j ≤ a → a ≡ j
-    only a l m = omega arith
-
-    by : (i : ℕ) (d : Move) (e : ℕ) → i < length moves → Contains (nets_of h (get_or moves i d).vertex) e → e % parts < j + 1
-        → (e % parts < j) ⊎ (j ≤ e % parts) → Contains (xs ++ ys) e
-    by i d e l c m (inl a) = Contains-append_left xs ys e (t.all i d e l c a)
-    by i d e l c m (inr a) = Contains-append_right xs ys e (u.all i d e l c (only (e % parts) m a))
+    by : (i : ℕ) (d : Move) (e : ℕ) → i < length moves → Contains (nets_of h (get_or moves i d).vertex) e → e < n → (e < m) ⊎ (m ≤ e) → Contains (xs ++ ys) e
+    by i d e l c k (inl a) = Contains-append_left xs ys e (t.all i d e l c (zero-le e, a))
+    by i d e l c k (inr a) = Contains-append_right xs ys e (u.all i d e l c (a, k))
 
 -- the gains by one more part
-pub parts_more : (h : Hyper) (p : List ℕ) (moves : List Move) (j parts : ℕ) (old part new : List ℤ) → AreSavingsBelow h p moves j parts old →
-    AreSavingsOf h p moves j parts part → length new ≡ length moves
+pub parts_more : (h : Hyper) (p : List ℕ) (moves : List Move) (m n : ℕ) (old part new : List ℤ) → m ≤ n → AreSavingsOf h p moves 0 m old →
+    AreSavingsOf h p moves m n part → length new ≡ length moves
     → ((i : ℕ) → i < length moves → get_or new i (pos 0) ≡ get_or old i (pos 0) +ℤ get_or part i (pos 0))
-    → AreSavingsBelow h p moves (j + 1) parts new
-parts_more h p moves j parts old part new s t long added = record {
+    → AreSavingsOf h p moves 0 n new
+parts_more h p moves m n old part new more s t long added = record {
   nets = s.nets ++ t.nets;
-  touched = touched_joined h moves j parts s.nets t.nets s.touched t.touched;
+  touched = touched_joined h moves m n s.nets t.nets more s.touched t.touched;
   savings = savings_joined h p moves s.nets t.nets old part new s.savings t.savings long added;
 }
 
--- the gains so far are small enough for those by one more part, and these are, too
-pub parts_small : (h : Hyper) (p : List ℕ) (moves : List Move) (j parts : ℕ) (gains : List ℤ) → IsWithinLimits h → AreSavingsBelow h p moves j parts gains →
-    AreSmall gains
-parts_small h p moves j parts gains bounds s =
-    savings_small h p moves s.nets gains s.savings (listed_small h s.nets bounds s.touched.below s.touched.once)
-
-pub part_small : (h : Hyper) (p : List ℕ) (moves : List Move) (j parts : ℕ) (gains : List ℤ) → IsWithinLimits h → AreSavingsOf h p moves j parts gains →
-    AreSmall gains
-part_small h p moves j parts gains bounds s =
+-- the gains by a part are small enough for those by one more
+pub part_small : (h : Hyper) (p : List ℕ) (moves : List Move) (first end : ℕ) (gains : List ℤ) → IsWithinLimits h →
+    AreSavingsOf h p moves first end gains → AreSmall gains
+part_small h p moves first end gains bounds s =
     savings_small h p moves s.nets gains s.savings (listed_small h s.nets bounds s.touched.below s.touched.once)
 
 -- what holds of an entry that is a value
@@ -294,35 +269,24 @@ pub value_at : {A E : Type 0} (P : A → Type 0) (xs ys : List (Result A E)) (j 
     IfOk (get_or ys j d) P → P x
 value_at P xs ys j d x same here h = subst (λ r. IfOk r P) (ap (λ zs. get_or zs j d) (sym same) ∙ here) h
 
--- what all nets save that moves touch is what each move gains
-touched_gains : (h : Hyper) (p : List ℕ) (moves : List Move) (nets : List ℕ) (gains : List ℤ) → All (λ e. e < net_count h) nets →
-    AllPairs (λ a b. a ≢ b) nets
-    → ((i : ℕ) (d : Move) (e : ℕ) → i < length moves → Contains (nets_of h (get_or moves i d).vertex) e → Contains nets e)
-    → AreSavings h p moves nets gains
-    → AreReplayGains h p moves gains
-touched_gains h p moves nets gains below once all s = record {
-  size = s.size;
-  each = λ i l. s.each i l ∙ difference
-      (cost_of_nets h (replay_first p moves i) nets) (cost_of_nets h (replay_first p moves (i + 1)) nets) (cost h (replay_first p moves i))
+-- the gains by a run of numbers that all nets have
+pub all_gains : (h : Hyper) (p : List ℕ) (moves : List Move) (end : ℕ) (gains : List ℤ) → net_count h ≤ end → AreSavingsOf h p moves 0 end gains →
+    AreReplayGains h p moves gains
+all_gains h p moves end gains whole s = record {
+  size = s.savings.size;
+  each = λ i l. s.savings.each i l ∙ difference
+      (cost_of_nets h (replay_first p moves i) s.nets) (cost_of_nets h (replay_first p moves (i + 1)) s.nets) (cost h (replay_first p moves i))
       (cost h (replay_first p moves (i + 1)))
       (let a = cost_by_number h (replay_first p moves i) in
       let b = cost_by_number h (replay_first p moves (i + 1)) in
-      let c = change_all (net_count h) (λ e. net_cost h.objective (replay_first p moves (i + 1)) (net_of h e)) nets below once
+      let c = change_all (net_count h) (λ e. net_cost h.objective (replay_first p moves (i + 1)) (net_of h e)) s.nets s.touched.below s.touched.once
       (λ e. net_cost h.objective (replay_first p moves i) (net_of h e))
-      (λ e m q. untouched_same h p moves nets i e (λ d x. all i d e l x) l m q) in
+      (λ e m q. untouched_same h p moves s.nets i e (λ d x. s.touched.all i d e l x (inside e m)) l m q) in
       omega arith);
 }
   where
     difference : (a b x y : ℕ) → x + b ≡ y + a → pos a -ℤ pos b ≡ pos x -ℤ pos y
     difference a b x y e = omega (arith, ints)
 
--- the gains by all parts
-pub parts_gains : (h : Hyper) (p : List ℕ) (moves : List Move) (parts : ℕ) (gains : List ℤ) → 0 < parts → AreSavingsBelow h p moves parts parts gains →
-    AreReplayGains h p moves gains
-parts_gains h p moves parts gains some s =
-    touched_gains h p moves s.nets gains s.touched.below s.touched.once (λ i d e l c. s.touched.all i d e l c (mod-lt e some)) s.savings
-
--- the gains by the only part
-pub only_gains : (h : Hyper) (p : List ℕ) (moves : List Move) (gains : List ℤ) → AreSavingsOf h p moves 0 1 gains → AreReplayGains h p moves gains
-only_gains h p moves gains s =
-    touched_gains h p moves s.nets gains s.touched.below s.touched.once (λ i d e l c. s.touched.all i d e l c (mod-one e)) s.savings
+    inside : (e : ℕ) → e < net_count h → IsInRun 0 end e
+    inside e l = (omega arith, omega arith)

@@ -1,5 +1,5 @@
 -- The gains of replayed moves, net by net.
-use Rattle.std.specs.Prelude.{◌≡◌, ◌≢◌, ℕ, ◌+◌, ◌*◌, ◌%◌, ◌^◌, ◌<◌, ◌≤◌, List, length, All, AllPairs, Contains, slice_index_or, ℤ, pos, ◌-ℤ◌, ◌≤ℤ◌}
+use Rattle.std.specs.Prelude.{◌≡◌, ◌≢◌, ℕ, ◌+◌, ◌*◌, ◌^◌, ◌<◌, ◌≤◌, List, length, All, AllPairs, Contains, slice_index_or, ℤ, pos, ◌-ℤ◌, ◌≤ℤ◌}
 use Rattle.hg_defs.specs.declared.moves.Move.{Move}
 use Rattle.hg_defs.specs.Sums.{total}
 use Rattle.hg_defs.specs.Hypergraph.{Hyper, IsHypergraph, IsWithinLimits, net_count, net_of}
@@ -33,17 +33,21 @@ pub record AreSavings (h : Hyper) (p : List ℕ) (moves : List Move) (nets : Lis
 abbrev pub pin_weight : Hyper → List ℕ → ℕ
 pin_weight h nets = total (λ e. (net_of h e).weight * length (net_of h e).pins) nets
 
--- different nets whose number leaves part over when it is divided by parts, among them each with a pin that moves
-pub record AreTouchedOf (h : Hyper) (moves : List Move) (part parts : ℕ) (nets : List ℕ) : Type 0 where
+-- a number of the run that begins at first and ends before end
+abbrev pub IsInRun : ℕ → ℕ → ℕ → Type 0
+IsInRun first end e = (first ≤ e) × (e < end)
+
+-- different nets of a run of numbers, among them each with a pin that moves
+pub record AreTouchedOf (h : Hyper) (moves : List Move) (first end : ℕ) (nets : List ℕ) : Type 0 where
   pub below : All (λ e. e < net_count h) nets
   pub once : AllPairs (λ a b. a ≢ b) nets
-  pub each : All (λ e. e % parts ≡ part) nets
-  pub all : (i : ℕ) (d : Move) (e : ℕ) → i < length moves → Contains (nets_of h (slice_index_or moves i d).vertex) e → e % parts ≡ part → Contains nets e
+  pub each : All (IsInRun first end) nets
+  pub all : (i : ℕ) (d : Move) (e : ℕ) → i < length moves → Contains (nets_of h (slice_index_or moves i d).vertex) e → IsInRun first end e → Contains nets e
 
--- each gain is what the nets whose number leaves part over, when it is divided by parts, save by its move
-pub record AreSavingsOf (h : Hyper) (p : List ℕ) (moves : List Move) (part parts : ℕ) (gains : List ℤ) : Type 0 where
+-- each gain is what the nets of a run of numbers save by its move
+pub record AreSavingsOf (h : Hyper) (p : List ℕ) (moves : List Move) (first end : ℕ) (gains : List ℤ) : Type 0 where
   pub nets : List ℕ
-  pub touched : AreTouchedOf h moves part parts nets
+  pub touched : AreTouchedOf h moves first end nets
   pub savings : AreSavings h p moves nets gains
 
 -- a sound hypergraph, a partition of it into at most 256 blocks, and moves from there

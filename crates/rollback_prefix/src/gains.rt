@@ -1,7 +1,7 @@
 //! The gains of moves that are replayed, net by net.
 
 ghost use Rattle.std.specs.Prelude.{◌≡◌, ℕ, ◌<◌, ◌≤◌, All, IfOk, length};
-ghost use Rattle.std.specs.Prelude.{slice_index_or, vec_len, pos, ◌+ℤ◌};
+ghost use Rattle.std.specs.Prelude.{slice_index_or, vec_len, pos, ◌+ℤ◌, ◌+◌, ◌*◌, ◌^◌};
 ghost use Rattle.hg_defs.specs.Hypergraph.{vertex_count};
 ghost use Rattle.hg_defs.specs.Partition.{IsPartition};
 ghost use Rattle.round_log.specs.Rounds.{IsOrder};
@@ -43,7 +43,7 @@ fn count_parts(h: &Hypergraph, moves: &[Move], workers: u32) -> u32
     (nets / NETS_A_PART).min(most).max(1) as u32
 }
 
-/// What each move gains by the nets of a part.
+/// What each move gains by the nets of a part, whose numbers begin at `first` and end before `end`.
 fn part_gains(
     alloc: Global,
     h: &Hypergraph,
@@ -51,15 +51,15 @@ fn part_gains(
     before: &[u32],
     moves: &[Move],
     order: &[u32],
-    part: u32,
-    parts: u32,
+    first: u32,
+    end: u32,
 ) -> PartGains
     requires replay { IsReplay h.now k before.now moves.now }
     requires order { IsOrder (vertex_count h.now) moves.now order.now }
-    requires part { part < parts }
-    ensures { IfOk result (λ gains. AreSavingsOf h.now before.now moves.now part parts gains.items) }
+    requires run { first ≤ end }
+    ensures { IfOk result (λ gains. AreSavingsOf h.now before.now moves.now first end gains.items) }
 {
-    let nets = touched_nets(alloc, h, moves, part, parts)?;
+    let nets = touched_nets(alloc, h, moves, first, end)?;
     let mut gains = vec![in alloc; 0i64; moves.len()]?;
     let mut counts = vec![in alloc; 0u32; k as usize]?;
     let mut places = Vec::new(alloc);
@@ -90,7 +90,8 @@ fn empty_parts(alloc: Global, parts: u32) -> Result<Vec<PartGains>, NoMemory>
 }
 
 /// Writes what each move gains by the nets of each part, or that there is no memory to tell it, by a
-/// thread for each part. There are as many parts as there are places for their gains.
+/// thread for each part. A part is a run of `share` numbers of nets, and there are as many parts as there
+/// are places for their gains.
 fn fill_parts<R: Threads + Sync>(
     rt: &R,
     alloc: Global,
@@ -99,28 +100,30 @@ fn fill_parts<R: Threads + Sync>(
     before: &[u32],
     moves: &[Move],
     order: &[u32],
+    share: u32,
     all: &mut [PartGains],
 )
     requires replay { IsReplay h.now k before.now moves.now }
     requires order { IsOrder (vertex_count h.now) moves.now order.now }
+    requires share { share ≤ 2 ^ 23 }
     requires few { length all.old ≤ 8 }
     ensures count { length all.new ≡ length all.old }
     ensures parts { (j : ℕ) (d : _) → j < length all.old → IfOk (slice_index_or all.new j d) (λ gains.
-        AreSavingsOf h.now before.now moves.now j (length all.old) gains.items) }
+        AreSavingsOf h.now before.now moves.now (j * share) ((j + 1) * share) gains.items) }
 {
-    let parts = all.len() as u32;
     each(
         rt,
         all,
         &|part, gains: &mut PartGains|
-            requires { (part < parts)
-                × (parts ≤ 8)
+            requires { (part < 8)
+                × (share ≤ 2 ^ 23)
                 × IsReplay h.now k before.now moves.now
                 × IsOrder (vertex_count h.now) moves.now order.now }
-            ensures { IfOk gains.exit.now (λ gains. AreSavingsOf h.entry.now before.entry.now moves.entry.now part
-                parts gains.items) }
+            ensures { IfOk gains.exit.now (λ gains. AreSavingsOf h.entry.now before.entry.now moves.entry.now
+                (part * share) ((part + 1) * share) gains.items) }
         {
-            *gains = part_gains(alloc, h, k, before, moves, order, part as u32, parts);
+            let first = part as u32 * share;
+            *gains = part_gains(alloc, h, k, before, moves, order, first, first + share);
         },
     );
 }
@@ -139,7 +142,8 @@ fn add_part(gains: &mut [i64], part: &[i64])
     }
 }
 
-/// What each move gains, by a thread for each of so many parts of the nets.
+/// What each move gains, by a thread for each of so many parts of the nets. The parts are runs of equally
+/// many numbers, and so the last of them may reach past the nets.
 fn gains_by_parts<R: Threads + Sync>(
     rt: &R,
     alloc: Global,
@@ -155,8 +159,19 @@ fn gains_by_parts<R: Threads + Sync>(
     requires parts { (1 ≤ parts) × (parts ≤ 8) }
     ensures { IfOk result (λ gains. AreReplayGains h.now before.now moves.now gains.items) }
 {
+    let share = h.nets().div_ceil(parts);
     let mut all = empty_parts(alloc, parts)?;
-    fill_parts(rt, alloc, h, k, before, moves, order, all.as_mut_slice());
+    fill_parts(
+        rt,
+        alloc,
+        h,
+        k,
+        before,
+        moves,
+        order,
+        share,
+        all.as_mut_slice(),
+    );
     let mut gains = vec![in alloc; 0i64; moves.len()]?;
     for part in all.as_slice() {
         match part {
@@ -186,7 +201,7 @@ fn gains_with<R: Threads + Sync>(
 {
     let parts = count_parts(h, moves, workers);
     if parts == 1 {
-        return part_gains(alloc, h, k, before, moves, order, 0, 1);
+        return part_gains(alloc, h, k, before, moves, order, 0, h.nets());
     }
     gains_by_parts(rt, alloc, h, k, before, moves, order, parts)
 }
@@ -199,8 +214,8 @@ fn gains_with<R: Threads + Sync>(
 /// pins moves. So each net with a pin that moves is replayed alone, through the moves of its pins in
 /// their order (the recalculation of gains of Mt-KaHyPar), many nets at the same time: by as many
 /// threads as there are workers, 8 at most, and fewer where the nets are few. Each thread lists and
-/// replays those of these nets whose number leaves its own place over when it is divided by the number of
-/// threads. A single worker starts no thread.
+/// replays those of these nets whose number lies in its own run: the numbers of all nets are shared out in
+/// runs of equal length, one for each thread. A single worker starts no thread.
 pub fn recalculate<R: Threads + Sync>(
     rt: &R,
     alloc: Global,

@@ -20,7 +20,7 @@ add_net-requires-clause-places c =
 pub add_net-requires-clause-small : goal.add_net-requires-clause-small
 add_net-requires-clause-small c =
     let nets : List ℕ = c.as_slice-e-items.result.now in
-    let touched = subst (AreTouchedOf c.args.h.now c.args.moves.now c.args.part c.args.parts) (sym c.as_slice-e-items.ensures.value) c.in_ok-nets.ensures in
+    let touched = subst (AreTouchedOf c.args.h.now c.args.moves.now c.args.first c.args.end) (sym c.as_slice-e-items.ensures.value) c.in_ok-nets.ensures in
     subst AreSmall (sym c.as_mut_slice-in-loop-e.ensures.value)
     (savings_small c.args.h.now c.args.before.now c.args.moves.now (take c.loop-e.e-index nets) c.loop-e.gains.items c.loop-e.invariant.gains
     (let a = total-take-le (λ e. (net_of c.args.h.now e).weight * length (net_of c.args.h.now e).pins) nets c.loop-e.e-index in
@@ -50,7 +50,7 @@ returns c =
     let nets : List ℕ = c.as_slice-e-items.result.now in
     record {
       nets = nets;
-      touched = subst (AreTouchedOf c.args.h.now c.args.moves.now c.args.part c.args.parts) (sym c.as_slice-e-items.ensures.value) c.in_ok-nets.ensures;
+      touched = subst (AreTouchedOf c.args.h.now c.args.moves.now c.args.first c.args.end) (sym c.as_slice-e-items.ensures.value) c.in_ok-nets.ensures;
       savings = savings_whole c.args.h.now c.args.before.now c.args.moves.now nets c.loop-e.e-index c.loop-e.gains.items c.loop-e-test.false
           c.loop-e.invariant.gains;
     }
