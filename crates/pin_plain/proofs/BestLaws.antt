@@ -3,9 +3,9 @@ use Rattle.std.proofs.Common.{◌≡◌, ◌≢◌, ℕ, ◌+◌, ◌-◌, ◌<�
 use Rattle.std.proofs.Common.{[], get_or, slice_index, ℤ, pos, ◌-ℤ◌, ◌<ℤ◌, ◌≤ℤ◌, All, refl, sym, ap, subst, ◌∙◌, arith}
 use Rattle.std.proofs.lemmas.Int.{ints}
 use Rattle.hg_defs.specs.Sums.{total}
-use Rattle.hg_defs.specs.Hypergraph.{Hyper, IsWithinLimits, IsFree, vertex_count, net_of, weight_of, fix_of}
+use Rattle.hg_defs.specs.Hypergraph.{Hyper, IsHypergraph, IsWithinLimits, IsFree, vertex_count, net_of, weight_of, fix_of}
 use Rattle.hg_defs.specs.declared.objective.TheConstants.{FREE}
-use Rattle.hg_defs.specs.Partition.{block_of}
+use Rattle.hg_defs.specs.Partition.{IsPartition, block_of}
 use Rattle.hg_defs.specs.Cost.{cost}
 use Rattle.hg_defs.specs.Moves.{IsAllowed, IsSettled, moved, gain, best_block}
 use Rattle.hg_defs.proofs.MoveLaws.{best_block_is, only_best_block, no_best_block}
@@ -28,6 +28,22 @@ fixed_stays h k l p v vertex fixed = by (best_block h l p v k) refl
     by : (o : Option ℕ) → best_block h l p v k ≡ o → None ≡ o
     by None e = refl
     by (Some b) e = absurd (fixed ((best_block_is h k l p v b vertex e).allowed.free))
+
+-- a vertex whose nets save no more than they lose, at whichever block, has no best block
+pub dearer_stays : (h : Hyper) (k l : ℕ) (p : List ℕ) (v : ℕ) → IsHypergraph h → IsPartition h k p → v < vertex_count h →
+    ((b : ℕ) → b ≢ block_of p v → total (net_saved h p b) (nets_of h v) ≤ total (net_lost h p (block_of p v)) (nets_of h v)) → None ≡ best_block h l p v k
+dearer_stays h k l p v good whole vertex less = by (best_block h l p v k) refl
+  where
+    none_gains : (s t : ℕ) → s ≤ t → pos 0 <ℤ (pos s -ℤ pos t) → ⊥
+    none_gains s t z g = absurd (omega (arith, ints))
+
+    by : (o : Option ℕ) → best_block h l p v k ≡ o → None ≡ o
+    by None e = refl
+    by (Some b) e =
+        let best = best_block_is h k l p v b vertex e in
+        let other = best.allowed.other in
+        absurd (none_gains (total (net_saved h p b) (nets_of h v)) (total (net_lost h p (block_of p v)) (nets_of h v)) (less b other)
+        (subst (λ (z : ℤ). pos 0 <ℤ z) (gain_counted h k p v b good whole vertex best.allowed.block other) best.gains))
 
 -- blocks past the last one are saved nothing
 pub saved_past : (h : Hyper) (k : ℕ) (p starts words : List ℕ) (b v : ℕ) → IsTold h k p starts words → k ≤ b → total (net_saved h p b) (nets_of h v) ≡ 0

@@ -1,7 +1,7 @@
 -- Laws of what nets save and lose: by the counts that are read, and their bounds.
 use Rattle.std.proofs.Common.{◌≡◌, ◌≢◌, ◌⊎◌, inl, inr, ℕ, zero, suc, ◌+◌, ◌-◌, ◌*◌, ◌/◌, ◌%◌, ◌<◌, ◌≤◌, ◌^◌}
-use Rattle.std.proofs.Common.{Bool, true, false, cond, not, ◌&&◌, if◌then◌else◌}
-use Rattle.std.proofs.Common.{nat_eq, nat_lt, List, [], ◌∷◌, length, filter, All, take, drop, get_or, slice_index, sym, ap, subst, ◌∙◌, arith}
+use Rattle.std.proofs.Common.{Bool, true, false, true≢false, cond, not, ◌&&◌, if◌then◌else◌}
+use Rattle.std.proofs.Common.{nat_eq, nat_lt, List, [], ◌∷◌, length, filter, All, take, drop, get_or, slice_index, refl, sym, ap, subst, ◌∙◌, arith}
 use Rattle.std.specs.List.{range_with_len}
 use Rattle.hg_base.specs.Packed.{count_at, fields_of, bits_of, words_of, field}
 use Rattle.hg_defs.specs.declared.objective.Objective.{Objective}
@@ -14,14 +14,15 @@ use Rattle.hg_defs.specs.Partition.{block_of}
 use Rattle.hg_defs.proofs.DistinctLaws.{present-le, blocks_of_pins}
 use Rattle.hg_defs.specs.Incidence.{is_on, nets_of}
 use Rattle.pin_plain.specs.Counts.{net_bits, net_words, net_start, counts_of}
-use Rattle.pin_plain.specs.Savings.{saved, lost, net_saved, net_lost}
+use Rattle.pin_plain.specs.Savings.{saved, most_saved, lost, net_saved, net_most, net_lost}
 use Rattle.pin_plain.specs.Parted.{IsTold}
 use Rattle.pin_plain.proofs.CountLaws.{fields_enough, all_words-le, part_inside, count_same, net_part, pins_in-two}
 use Rattle.pin_plain.proofs.TallyLaws.{none_past}
 use Rattle.std.proofs.lemmas.List.{length-drop, length-take-le, get_or-take, get_or-drop}
 use Rattle.std.proofs.lemmas.Nat.{div-mul-add, mod-mul-add}
-use Rattle.std.proofs.Math.Nat.{mul-le-mul_right}
-use Rattle.std.proofs.lemmas.Bool.{cases_lt, cases_eq}
+use Rattle.std.proofs.Math.Nat.{mul-le-mul_left, mul-le-mul_right}
+use Rattle.std.proofs.lemmas.Bool.{cases_lt, cases_eq, eqb-true}
+use Rattle.incidence.proofs.IndexLaws.{nets_of-below}
 use Rattle.std.proofs.lemmas.List.FromFn.{length-range_with_len}
 
 -- ---- a count that is read
@@ -61,6 +62,13 @@ lost_is h p b e w s count size o ew eo ec es is =
     ap (λ x. (net_of h e).weight * lost h.objective x size) ec
     ∙ ap (λ x. (net_of h e).weight * lost h.objective (counts_of h p e b) x) es
 
+pub most_is : (h : Hyper) (p : List ℕ) (b e w s count size : ℕ) (o : Objective) → w ≡ (net_of h e).weight → o ≡ h.objective → count ≡ counts_of h p e b →
+    size ≡ length (net_of h e).pins → s ≡ most_saved o count size → w * s ≡ net_most h p b e
+most_is h p b e w s count size o ew eo ec es is =
+    ap (λ x. w * x) is ∙ ap (λ x. x * most_saved o count size) ew ∙ ap (λ x. (net_of h e).weight * most_saved x count size) eo ∙
+    ap (λ x. (net_of h e).weight * most_saved h.objective x size) ec
+    ∙ ap (λ x. (net_of h e).weight * most_saved h.objective (counts_of h p e b) x) es
+
 -- ---- bounds
 
 one_or_none : (t : Bool) → (if t then 1 else 0) ≤ 1
@@ -80,6 +88,26 @@ lost-le : (o : Objective) (count size : ℕ) → lost o count size ≤ 2
 lost-le Connectivity count size = let a = none_or_one (nat_eq count 1) in omega arith
 lost-le CutNet count size = let a = one_or_none (nat_eq count size && not (nat_eq size 1)) in omega arith
 lost-le ExternalDegree count size = let a = none_or_one (nat_eq count 1) in let b = one_or_none (nat_eq count size && not (nat_eq size 1)) in omega arith
+
+most-le : (o : Objective) (count size : ℕ) → most_saved o count size ≤ 2
+most-le Connectivity count size = let a = none_or_one (nat_eq count size) in omega arith
+most-le CutNet count size = let a = none_or_one (nat_eq count size) in omega arith
+most-le ExternalDegree count size = let a = none_or_one (nat_eq count size) in omega arith
+
+unfilled : (t : Bool) → t ≡ false → 1 ≤ (if t then 0 else 1)
+unfilled true q = absurd (true≢false q)
+unfilled false q = omega arith
+
+-- a net with pins outside of a block saves no more at another one than the most
+saved-most : (o : Objective) (count own size : ℕ) → nat_eq own size ≡ false → saved o count size ≤ most_saved o own size
+saved-most Connectivity count own size q = let a = present-le count in let b = unfilled (nat_eq own size) q in omega arith
+saved-most CutNet count own size q =
+    let a = one_or_none (nat_lt 0 count && nat_eq (count + 1) size) in let b = unfilled (nat_eq own size) q in omega arith
+saved-most ExternalDegree count own size q =
+    let a = present-le count in
+    let b = one_or_none (nat_lt 0 count && nat_eq (count + 1) size) in
+    let c = unfilled (nat_eq own size) q in
+    omega arith
 
 twice : (w s : ℕ) → s ≤ 2 → w * s ≤ 2 * w
 twice w s h = by s h
@@ -131,6 +159,17 @@ lost_so_far h p a v i nets bounds is l =
     let more = total_more-le (net_lost h p a) nets i 0 l in
     let all = ap (total (net_lost h p a)) is in
     let bound = lost_bound h p a v bounds in
+    omega arith
+
+most_bound : (h : Hyper) (p : List ℕ) (a v : ℕ) → IsWithinLimits h → total (net_most h p a) (nets_of h v) < 2 ^ 55
+most_bound h p a v bounds = within_twice h v (net_most h p a) bounds (λ e. twice (net_of h e).weight _ (most-le h.objective _ _))
+
+pub most_so_far : (h : Hyper) (p : List ℕ) (a v i : ℕ) (nets : List ℕ) → IsWithinLimits h → nets ≡ nets_of h v → i < length nets →
+    total (net_most h p a) (take i nets) + net_most h p a (slice_index nets i) < 2 ^ 55
+most_so_far h p a v i nets bounds is l =
+    let more = total_more-le (net_most h p a) nets i 0 l in
+    let all = ap (total (net_most h p a)) is in
+    let bound = most_bound h p a v bounds in
     omega arith
 
 -- a block without pins of the net is saved nothing
@@ -233,6 +272,28 @@ module _ (h : Hyper) (k : ℕ) (p starts words : List ℕ) (told : IsTold h k p 
             omega arith
         by (inr g) = none_past k p (net_of h e).pins b (subst (λ n. All (λ v. v < n) (net_of h e).pins) (sym told.parted.partition.vertices)
             (told.parted.sound.nets e (record { weight = 0; pins = [] }) net).pins) told.parted.partition.blocks g
+
+-- ---- what nets save at most
+
+-- no net saves more at another block than the most
+saved_below_most : (h : Hyper) (k : ℕ) (p starts words : List ℕ) → IsTold h k p starts words → (from b e : ℕ) → e < net_count h → from < k → b ≢ from →
+    net_saved h p b e ≤ net_most h p from e
+saved_below_most h k p starts words told from b e net low other = by (nat_eq (counts_of h p e from) (length (net_of h e).pins)) refl
+  where
+    by : (t : Bool) → nat_eq (counts_of h p e from) (length (net_of h e).pins) ≡ t → net_saved h p b e ≤ net_most h p from e
+    by true q =
+        let none = saved_none h p b e
+        (whole_elsewhere h k p starts words told e _ _ _ (net_of h e).pins net refl refl refl refl from b low other
+        (eqb-true (counts_of h p e from) (length (net_of h e).pins) q)) in
+        omega arith
+    by false q = mul-le-mul_left (net_of h e).weight
+        (saved-most h.objective (counts_of h p e b) (counts_of h p e from) (length (net_of h e).pins) q)
+
+pub saved_at_most : (h : Hyper) (k : ℕ) (p starts words : List ℕ) → IsTold h k p starts words → (from b v : ℕ) → from < k → b ≢ from →
+    total (net_saved h p b) (nets_of h v) ≤ total (net_most h p from) (nets_of h v)
+saved_at_most h k p starts words told from b v low other =
+    total-le (net_saved h p b) (net_most h p from) (nets_of h v)
+    (λ i d l. saved_below_most h k p starts words told from b (get_or (nets_of h v) i d) (nets_of-below h v i d l) low other)
 
 -- ---- all nets of a vertex
 

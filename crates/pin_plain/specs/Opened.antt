@@ -14,6 +14,12 @@ pub record AreNamesFrom (p : List ℕ) (first n : ℕ) (names : List ℕ) : Type
   pub all : length names ≡ n
   pub each : (i : ℕ) → i < n → slice_index names i ≡ slice_index p (first + i)
 
+-- so many of the words that stand before the loads, those from a first place on: zeros, and then names
+pub record IsFrontFrom (p : List ℕ) (first n : ℕ) (words : List ℕ) : Type 0 where
+  pub all : length words ≡ n
+  pub zeros : (i : ℕ) → i < n → first + i < length p + 2 → slice_index words i ≡ 0
+  pub names : (i v : ℕ) → i < n → first + i ≡ length p + 2 + v → slice_index words i ≡ slice_index p v
+
 pub record IsOpened (h : Hyper) (k : ℕ) (p words : List ℕ) : Type 0 where
   pub wide : length words ≡ all_words h k
   pub zeros : (i : ℕ) → i < vertex_count h + 2 → slice_index words i ≡ 0

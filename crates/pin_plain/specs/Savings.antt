@@ -29,9 +29,22 @@ lost Connectivity count size = left count
 lost CutNet count size = parted count size
 lost ExternalDegree count size = left count + parted count size
 
--- what net e saves where a pin goes to block b, and loses where one leaves block a
+-- 1 where the block doesn't hold all the pins
+abbrev pub apart : ℕ → ℕ → ℕ
+apart count size = if nat_eq count size then 0 else 1
+
+-- what it saves at most at any other block where the old block has this count
+abbrev pub most_saved : Objective → ℕ → ℕ → ℕ
+most_saved Connectivity count size = apart count size
+most_saved CutNet count size = apart count size
+most_saved ExternalDegree count size = 2 * apart count size
+
+-- what net e saves where a pin goes to block b, saves at most where one leaves block a, and loses there
 abbrev pub net_saved : Hyper → List ℕ → ℕ → ℕ → ℕ
 net_saved h p b e = (net_of h e).weight * saved h.objective (pins_in p (net_of h e).pins b) (length (net_of h e).pins)
+
+abbrev pub net_most : Hyper → List ℕ → ℕ → ℕ → ℕ
+net_most h p a e = (net_of h e).weight * most_saved h.objective (pins_in p (net_of h e).pins a) (length (net_of h e).pins)
 
 abbrev pub net_lost : Hyper → List ℕ → ℕ → ℕ → ℕ
 net_lost h p a e = (net_of h e).weight * lost h.objective (pins_in p (net_of h e).pins a) (length (net_of h e).pins)

@@ -14,6 +14,9 @@ use incidence::Hypergraph;
 use std::thread;
 use std::thread::Threads;
 
+/// A thread sums what so many nets pay at least: less is summed in the time in which threads start.
+const LEAST_NETS: u32 = 32768;
+
 /// What a net pays for the number of blocks that it touches. No branch asks first whether it is cut: cut nets stand
 /// among the others in no order, and a branch that is guessed wrong takes longer than to read a weight.
 fn cost_at(h: &Hypergraph, e: u32, objective: Objective, touched: u64) -> u64
@@ -87,7 +90,7 @@ pub fn cost_by_spreads(nets: &Nets<'_>, words: &[u64]) -> u64
     cost_of_run(nets, words, 0, nets.h.nets())
 }
 
-/// Does what [`cost_by_spreads`] does in at most so many threads, and in no more than one for each 8,192 nets.
+/// Does what [`cost_by_spreads`] does in at most so many threads, and in no more than one for each 32,768 nets.
 pub fn cost_with<R: Threads + Sync>(rt: &R, nets: &Nets<'_>, words: &[u64], workers: u32) -> u64
     requires some { 1 ≤ workers }
     requires all { length words.now ≡ all_words nets.now.h.now nets.now.k }
@@ -96,5 +99,6 @@ pub fn cost_with<R: Threads + Sync>(rt: &R, nets: &Nets<'_>, words: &[u64], work
     ensures bound { result < 2 ^ 57 }
 {
     let count = nets.h.nets();
-    cost_of_shares(rt, nets, words, share_of(count, workers), 0, count)
+    let share = share_of(count, workers, LEAST_NETS);
+    cost_of_shares(rt, nets, words, share, 0, count)
 }

@@ -1,17 +1,17 @@
 //! What a partition writes into its words before a round: no claim, no number, the names and the loads.
 
-ghost use Rattle.std.specs.Prelude.{◌≡◌, ℕ, ◌+◌, ◌*◌, ◌/◌, ◌<◌, ◌≤◌, length, slice_index};
+ghost use Rattle.std.specs.Prelude.{◌≡◌, ℕ, ◌+◌, ◌*◌, ◌/◌, ◌^◌, ◌<◌, ◌≤◌, length, slice_index};
 ghost use Rattle.hg_defs.specs.Hypergraph.{vertex_count, net_count};
 ghost use Rattle.pin_plain.specs.Counts.{counts_of, HasLayout, HoldsCounts, HaveSpreads};
 ghost use Rattle.pin_plain.specs.Parted.{IsParted, IsLoaded};
-ghost use Rattle.pin_plain.specs.Opened.{IsOpened, SameOutside, AreNamesFrom};
+ghost use Rattle.pin_plain.specs.Opened.{IsOpened, SameOutside, AreNamesFrom, IsFrontFrom};
 
 use crew::each_chunk;
 use incidence::Hypergraph;
 use std::thread::Threads;
 
-/// A thread writes so many names at least.
-const LEAST_NAMES: usize = 16384;
+/// A thread writes so many words at least.
+const LEAST_WORDS: usize = 65536;
 
 /// Writes 0 into the words from one place up to before another one.
 pub fn write_zeros(words: &mut [u64], from: usize, to: usize)
@@ -35,40 +35,52 @@ fn name_run(blocks: &[u32], first: usize, names: &mut [u64])
     }
 }
 
-/// Writes the blocks into the names, so many by each thread.
-fn name_runs<R: Threads + Sync>(rt: &R, blocks: &[u32], share: usize, names: &mut [u64])
+/// Writes a run of the words that stand before the loads, of which the first one has a place among them: zeros, and
+/// then names.
+fn write_run(blocks: &[u32], first: usize, part: &mut [u64])
+    requires inside { first + length part.old ≤ 2 * length blocks.now + 2 }
+    requires bounded { length blocks.now < 2 ^ 32 }
+    ensures { IsFrontFrom blocks.now first (length part.old) part.new }
+{
+    let names_at = blocks.len() + 2;
+    let zeros = names_at.saturating_sub(first).min(part.len());
+    let (front, names) = part.split_at_mut(zeros);
+    front.fill(0);
+    name_run(blocks, (first + zeros).saturating_sub(names_at), names);
+}
+
+/// Writes the words that stand before the loads, so many by each thread.
+fn write_runs<R: Threads + Sync>(rt: &R, blocks: &[u32], share: usize, front: &mut [u64])
     requires some { 0 < share }
-    requires all { length names.old ≡ length blocks.now }
-    ensures { AreNamesFrom blocks.now 0 (length blocks.now) names.new }
+    requires all { length front.old ≡ 2 * length blocks.now + 2 }
+    requires bounded { length blocks.now < 2 ^ 32 }
+    ensures { IsFrontFrom blocks.now 0 (2 * length blocks.now + 2) front.new }
 {
     each_chunk(
         rt,
-        names,
+        front,
         share,
         &|first: usize, part: &mut [u64]|
-            requires { first + length part.now ≤ length blocks.now }
-            ensures { AreNamesFrom blocks.entry.now first (length part.entry.now) part.exit.now }
-        { name_run(blocks, first, part) },
+            requires { (first + length part.now ≤ 2 * length blocks.now + 2) × (length blocks.now < 2 ^ 32) }
+            ensures { IsFrontFrom blocks.entry.now first (length part.entry.now) part.exit.now }
+        { write_run(blocks, first, part) },
     );
 }
 
-/// Writes the blocks into the names, which begin at a place, in at most so many threads.
-fn write_names<R: Threads + Sync>(
-    rt: &R,
-    words: &mut [u64],
-    at: usize,
-    blocks: &[u32],
-    workers: u32,
-)
+/// Writes the words that stand before the loads, in at most so many threads: no claim, no number, and the names.
+fn write_front<R: Threads + Sync>(rt: &R, words: &mut [u64], blocks: &[u32], workers: u32)
     requires some { 1 ≤ workers }
-    requires inside { at + length blocks.now ≤ length words.old }
-    ensures written { (v : ℕ) → v < length blocks.now → slice_index words.new (at + v) ≡ slice_index blocks.now v }
-    ensures others { SameOutside at (at + length blocks.now) words.old words.new }
+    requires inside { 2 * length blocks.now + 2 ≤ length words.old }
+    requires bounded { length blocks.now < 2 ^ 32 }
+    ensures zeros { (i : ℕ) → i < length blocks.now + 2 → slice_index words.new i ≡ 0 }
+    ensures names { (v : ℕ) → v < length blocks.now → slice_index words.new (length blocks.now + 2 + v) ≡ slice_index
+        blocks.now v }
+    ensures others { SameOutside 0 (2 * length blocks.now + 2) words.old words.new }
 {
-    let share = blocks.len().div_ceil(workers as usize).max(LEAST_NAMES);
-    let (_, from_names) = words.split_at_mut(at);
-    let (names, _) = from_names.split_at_mut(blocks.len());
-    name_runs(rt, blocks, share, names);
+    let count = 2 * blocks.len() + 2;
+    let share = count.div_ceil(workers as usize).max(LEAST_WORDS);
+    let (front, _) = words.split_at_mut(count);
+    write_runs(rt, blocks, share, front);
 }
 
 /// Writes the loads of the blocks, which begin at a place.
@@ -102,7 +114,6 @@ pub fn open_words<R: Threads + Sync>(
     ensures { IsOpened h.now k blocks.now words.new }
 {
     let n = h.vertices() as usize;
-    write_zeros(words, 0, n + 2);
-    write_names(rt, words, n + 2, blocks, workers);
+    write_front(rt, words, blocks, workers);
     write_loads(words, 2 * n + 2, loads);
 }

@@ -16,7 +16,7 @@ ghost use Rattle.pin_plain.specs.Savings.{net_saved, net_lost};
 ghost use Rattle.pin_plain.specs.Scores.{IsClear, is_between};
 
 use crate::counts::count;
-use crate::gains::{lost, saved};
+use crate::gains::{lost, most_and_lost, saved};
 use crate::lent::{Lent, Scored};
 use crate::seen::Seen;
 use crate::sums::Sums;
@@ -169,7 +169,8 @@ impl Scores {
         loss
     }
 
-    /// The best block of a vertex and the gain there, where there is one, and whether the vertex is quiet.
+    /// The best block of a vertex and the gain there, where there is one, and whether the vertex is quiet. Most vertices
+    /// are, and most of these are told by what their nets save at most, before the blocks are told apart.
     pub fn seek(&mut self, lent: &Lent<'_>, v: u32) -> Sought
         requires clear { IsClear self.old.sums }
         requires vertex { v < vertex_count lent.now.h.now }
@@ -181,6 +182,13 @@ impl Scores {
         ensures clear { IsClear self.new.sums }
     {
         if lent.h.fix(v) != FREE {
+            return Sought {
+                best: None,
+                quiet: true,
+            };
+        }
+        let (most, down) = most_and_lost(lent, v);
+        if most <= down {
             return Sought {
                 best: None,
                 quiet: true,

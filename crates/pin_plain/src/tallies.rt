@@ -164,12 +164,13 @@ pub fn tally(nets: &Nets<'_>, words: &mut [u64])
     tally_run(nets, 0, nets.h.nets(), 0, words);
 }
 
-/// How many nets each of at most so many threads takes, where none takes too few.
-pub fn share_of(nets: u32, workers: u32) -> u32
-    requires { 1 ≤ workers }
+/// How many nets each of at most so many threads takes, where none takes fewer than the least number.
+pub fn share_of(nets: u32, workers: u32, least: u32) -> u32
+    requires some { 1 ≤ workers }
+    requires least { 0 < least }
     ensures { 0 < result }
 {
-    let threads = workers.min(nets / LEAST_NETS).max(1);
+    let threads = workers.min(nets / least).max(1);
     nets.div_ceil(threads).max(1)
 }
 
@@ -181,5 +182,6 @@ pub fn tally_with<R: Threads + Sync>(rt: &R, nets: &Nets<'_>, workers: u32, word
     ensures spreads { HaveSpreads nets.now.h.now nets.now.k nets.now.blocks.now (net_count nets.now.h.now) words.new }
 {
     let count = nets.h.nets();
-    tally_shares(rt, nets, share_of(count, workers), 0, count, 0, words);
+    let share = share_of(count, workers, LEAST_NETS);
+    tally_shares(rt, nets, share, 0, count, 0, words);
 }

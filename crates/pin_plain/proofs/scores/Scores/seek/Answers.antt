@@ -3,7 +3,7 @@ use Rattle.hg_defs.specs.Hypergraph.{IsFree}
 use Rattle.hg_defs.specs.Partition.{block_of}
 use Rattle.hg_defs.specs.Moves.{gain}
 use Rattle.pin_plain.specs.Scores.{IsTop}
-use Rattle.pin_plain.proofs.BestLaws.{fixed_stays, saved_past, top_best, map_first, found_gain, found_bound, load_fits}
+use Rattle.pin_plain.proofs.BestLaws.{fixed_stays, dearer_stays, saved_past, top_best, map_first, found_gain, found_bound, load_fits}
 use Rattle.std.proofs.lemmas.Bool.{not-true}
 use Rattle.pin_plain.proofs.QuietLaws.{quiet_by_sums}
 use Rattle.pin_plain.proofs.scores.Scores.seek.Goals as goal
@@ -12,6 +12,26 @@ pub returns-then-fix-ne-FREE-clause-best : goal.returns-then-fix-ne-FREE-clause-
 returns-then-fix-ne-FREE-clause-best c =
     let l = c.args.lent.now in
     fixed_stays l.h.now l.k c.args.lent.now.limit l.blocks.now c.args.v c.requires.vertex (λ e. c.if-fix-ne-FREE.true (c.fix.ensures.value ∙ e))
+
+pub returns-then-most-down-clause-best : goal.returns-then-most-down-clause-best
+returns-then-most-down-clause-best c =
+    let l = c.args.lent.now in
+    dearer_stays l.h.now l.k l.limit l.blocks.now c.args.v l.told.parted.sound l.told.parted.partition c.requires.vertex
+    (λ b other.
+    let most = c.most_and_lost-most.ensures.most b other in
+    let lost = c.most_and_lost-most.ensures.lost in
+    let less = c.if-most-down.true in
+    omega arith)
+
+pub returns-then-most-down-clause-quiet : goal.returns-then-most-down-clause-quiet
+returns-then-most-down-clause-quiet c known =
+    let l = c.args.lent.now in
+    quiet_by_sums l.h.now l.k l.blocks.now c.args.v l.told.parted.sound l.told.parted.partition c.requires.vertex
+    (λ b low other.
+    let most = c.most_and_lost-most.ensures.most b other in
+    let lost = c.most_and_lost-most.ensures.lost in
+    let less = c.if-most-down.true in
+    omega arith)
 
 pub top-top-requires-clause-past : goal.top-top-requires-clause-past
 top-top-requires-clause-past c b past =
