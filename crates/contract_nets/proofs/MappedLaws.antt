@@ -1,6 +1,6 @@
 -- Laws of parts of the images with their keys: they are those of all nets.
 use Rattle.std.proofs.Common.{◌≡◌, ℕ, zero, suc, ◌+◌, ◌-◌, ◌*◌, ◌^◌, ◌<◌, ◌≤◌, List, [], ◌∷◌, ◌++◌, length, map, take, get_or, min, Result, Ok, IfOk}
-use Rattle.std.proofs.Common.{All, sym, ap, ap₂, ◌∙◌, subst, arith, ⊎_elim}
+use Rattle.std.proofs.Common.{All, refl, sym, ap, ap₂, ◌∙◌, subst, arith, ⊎_elim}
 use Rattle.std.specs.List.{flat_map}
 use Rattle.std.proofs.lemmas.Bool.{cases_lt}
 use Rattle.std.proofs.lemmas.Grind.{flat_map-append}
@@ -11,6 +11,7 @@ use Rattle.hg_defs.specs.Clustering.{cluster_count}
 use Rattle.contract_nets.specs.declared.images.Mapped.{Mapped}
 use Rattle.contract_nets.specs.Keys.{Key, keys_from}
 use Rattle.contract_nets.specs.Images.{over, IsPart, ArePartsOf}
+use Rattle.contract_nets.specs.Ranges.{all_keys}
 use Rattle.contract_nets.specs.Mapped.{IsMapped}
 use Rattle.contract_nets.proofs.CoarseLaws.{few_clusters}
 use Rattle.contract_nets.proofs.KeyLaws.{AreKeys, AreKeys-all, keys_from-append}
@@ -22,12 +23,13 @@ element_at (x ∷ xs) zero l = x
 element_at (x ∷ xs) (suc i) l = element_at xs i (omega arith)
 
 -- the keys of parts, one part after the other
-abbrev pub joined : List Mapped → List Key
+abbrev joined : List Mapped → List Key
 joined mapped = flat_map (λ (m : Mapped). m.keys.items) mapped
 
-pub joined_push : (mapped : List Mapped) (one : Mapped) → joined (mapped ++ one ∷ []) ≡ joined mapped ++ one.keys.items
-joined_push mapped one =
-    flat_map-append (λ (m : Mapped). m.keys.items) mapped (one ∷ []) ∙ ap (λ (ks : List Key). joined mapped ++ ks) (append-nil one.keys.items)
+-- the same of lists that hold them
+joined_is : (mapped : List Mapped) → all_keys (map (λ list. list.items) (map (λ (m : Mapped). m.keys) mapped)) ≡ joined mapped
+joined_is [] = refl
+joined_is (m ∷ mapped) = ap (λ (ks : List Key). m.keys.items ++ ks) (joined_is mapped)
 
 module _ {E : Type 0} (h : Hyper) (cs : List ℕ) (size : ℕ) (results : List (Result Mapped E)) (mapped : List Mapped) (there : AreThere results mapped)
     (each : (j : ℕ) (d : Result Mapped E) → j < length results → IfOk (get_or results j d) (IsMapped h cs size j)) where
@@ -78,11 +80,13 @@ module _ {E : Type 0} (h : Hyper) (cs : List ℕ) (size : ℕ) (results : List (
       ∙ ap (keys_from (over h cs) 0) next)
       (cases_lt (t * size) n)
 
-  pub joined_all : net_count h ≤ length results * size → joined mapped ≡ keys_from (over h cs) 0 (net_count h)
+  pub joined_all : net_count h ≤ length results * size → all_keys (map (λ list. list.items) (map (λ (m : Mapped). m.keys) mapped)) ≡
+      keys_from (over h cs) 0 (net_count h)
   joined_all all =
       let long = there.long in
       let whole = subst (λ (n : ℕ). net_count h ≤ n * size) (sym long) all in
-      ap joined (sym (take_all (length mapped) mapped (omega arith)))
+      joined_is mapped
+      ∙ ap joined (sym (take_all (length mapped) mapped (omega arith)))
       ∙ keys_taken (length mapped) (omega arith)
       ∙ ap (keys_from (over h cs) 0) (let e : min (length mapped * size) (net_count h) ≡ net_count h = omega arith in e)
 

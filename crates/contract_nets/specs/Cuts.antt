@@ -1,5 +1,5 @@
 -- Sorted keys cut into parts that can be merged by themselves.
-use Rattle.std.specs.Prelude.{◌≡◌, ◌≢◌, ℕ, ◌+◌, ◌-◌, ◌<◌, ◌≤◌, List, length, map, slice_index, slice_index_or, slice_range}
+use Rattle.std.specs.Prelude.{◌≡◌, ◌≢◌, ℕ, ◌+◌, ◌-◌, ◌<◌, ◌≤◌, ◌↔◌, Bool, false, IsTrue, List, length, map, slice_index, slice_index_or, slice_range}
 use Rattle.hg_defs.specs.Hypergraph.{Net, Hyper}
 use Rattle.contract_nets.specs.Merging.{merged}
 use Rattle.contract_nets.specs.Keys.{Key, net_of_key}
@@ -9,6 +9,17 @@ abbrev pub IsCut : Hyper → List Key → ℕ → Type 0
 IsCut nets keys i =
     0 < i → i < length keys → (d : Key) →
     (net_of_key nets (slice_index_or keys (i - 1) d)).pins ≢ (net_of_key nets (slice_index_or keys i d)).pins
+
+-- the net of a key has other pins than that of the next key, if there is one
+abbrev pub IsEnd : Hyper → List Key → ℕ → Type 0
+IsEnd nets keys i =
+    i + 1 < length keys → (d : Key) →
+    (net_of_key nets (slice_index_or keys i d)).pins ≢ (net_of_key nets (slice_index_or keys (i + 1) d)).pins
+
+-- an entry for each key: whether it ends its net
+pub record AreEnds (nets : Hyper) (keys : List Key) (ends : List Bool) : Type 0 where
+  pub count : length ends ≡ length keys
+  pub each : (i : ℕ) → i < length keys → IsTrue (slice_index_or ends i false) ↔ IsEnd nets keys i
 
 -- places that cut the keys below an end into parts
 pub record AreCuts (nets : Hyper) (keys : List Key) (end : ℕ) (cuts : List ℕ) : Type 0 where

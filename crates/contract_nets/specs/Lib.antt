@@ -6,4 +6,5 @@ pub mod Ranges
 pub mod Images
 pub mod Mapped
 pub mod Cuts
+pub mod Parts
 pub mod Nets

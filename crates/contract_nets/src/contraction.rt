@@ -9,6 +9,7 @@ ghost use Rattle.hg_defs.specs.Contraction.{IsFull, image};
 ghost use Rattle.hg_defs.specs.Contraction as contraction;
 ghost use Rattle.hg_defs.specs.Clustering.{cluster_count};
 ghost use Rattle.contract_nets.specs.Images.{over};
+ghost use Rattle.contract_nets.specs.Cuts.{AreEnds};
 ghost use Rattle.contract_nets.specs.Keys.{IsKey, net_of_key};
 ghost use Rattle.contract_nets.specs.Ledger.{IsLedger};
 ghost use Rattle.contract_nets.specs.Merging.{mapped_net, merged, AreWithin, ArePlaces};
@@ -22,6 +23,7 @@ use crate::vertices::vertices_of;
 use hg_base::{FlatHyper, NoMemory};
 use incidence::Hypergraph;
 use std::alloc::Global;
+use std::snapshot::Snapshot;
 use std::thread::{Threads, join_mut};
 
 /// So many threads at most work on a contraction.
@@ -80,11 +82,12 @@ fn merge(
         slice_index places.new e ≢ DROPPED) }
 {
     let (nets, keys) = sorted_nets(rt, alloc, h, map, threads)?;
-    let lists = merge_nets(rt, alloc, &nets, &keys, threads)?;
+    let (lists, ends) = merge_nets(rt, alloc, &nets, &keys, threads)?;
     if lists.len() > 1 {
-        return coarse_and_places(rt, alloc, h, map, &lists, &nets, &keys, places);
+        return coarse_and_places(rt, alloc, h, map, &lists, &nets, &keys, &ends, places);
     }
-    write_places(&nets, &keys, places);
+    write_places(Snapshot::of(&nets), &keys, &ends, places);
+    drop(ends);
     drop(keys);
     drop(nets);
     coarse_of(alloc, h, map, &lists)
@@ -109,8 +112,8 @@ fn sorted_nets<'a>(
         Contains (images.map (λ key. key.1) pair.1.items) e) }
 {
     let _vertices = h.vertices();
-    let (nets, mut keys) = map_nets(rt, alloc, h, map, threads)?;
-    sort_keys(rt, alloc, &nets, &mut keys, threads)?;
+    let (nets, lists) = map_nets(rt, alloc, h, map, threads)?;
+    let keys = sort_keys(rt, alloc, &nets, lists, threads)?;
     Ok((nets, keys))
 }
 
@@ -123,11 +126,13 @@ fn coarse_and_places(
     lists: &[Nets],
     nets: &Images<'_>,
     keys: &[Key],
+    ends: &[bool],
     places: &mut [u32],
 ) -> Result<FlatHyper, NoMemory>
     requires full { IsFull h.now map.now (cluster_count map.now) }
     requires lists { all_nets lists.now ≡ (contraction.contract h.now map.now (cluster_count map.now)).nets }
     requires keys { All (IsKey nets.now) keys.now }
+    requires ends { AreEnds nets.now keys.now ends.now }
     requires limits { AreWithin (merged (images.map (net_of_key nets.now) keys.now)) }
     requires places { places.old ≡ replicate (net_count nets.now) DROPPED }
     ensures coarse { IfOk result (λ coarse. coarse ≡ contraction.contract h.now map.now (cluster_count map.now)) }
@@ -136,13 +141,14 @@ fn coarse_and_places(
     ensures all { All (λ key. slice_index places.new key.1 ≢ DROPPED) keys.now }
 {
     let mut front = ||
-        requires { All (IsKey nets.now) keys.now × AreWithin (merged (images.map (net_of_key nets.now) keys.now))
+        requires { All (IsKey nets.now) keys.now × AreEnds nets.now keys.now ends.now
+            × AreWithin (merged (images.map (net_of_key nets.now) keys.now))
             × (places.now ≡ replicate (net_count nets.now) DROPPED) }
         ensures placed { ArePlaces nets.entry.now.nets
             (images.map (λ e. e.pins) (merged (images.map (net_of_key nets.entry.now) keys.entry.now)))
             places.exit.now }
         ensures all { All (λ key. slice_index places.exit.now key.1 ≢ DROPPED) keys.entry.now }
-    { write_places(nets, keys, places) };
+    { write_places(Snapshot::of(nets), keys, ends, places) };
     let mut back = || -> Result<FlatHyper, NoMemory>
         requires { IsFull h.now map.now (cluster_count map.now)
             × (all_nets lists.now ≡ (contraction.contract h.now map.now (cluster_count map.now)).nets) }

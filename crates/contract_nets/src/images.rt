@@ -9,6 +9,7 @@ ghost use Rattle.hg_defs.specs.Hypergraph.{vertex_count, net_count, net_of};
 ghost use Rattle.hg_defs.specs.Clustering.{cluster_count};
 ghost use Rattle.contract_nets.specs.Keys.{rest_of, keys_from};
 ghost use Rattle.contract_nets.specs.Images.{over, IsPart};
+ghost use Rattle.contract_nets.specs.Ranges.{all_keys};
 ghost use Rattle.contract_nets.specs.Mapped.{keys_in, IsMapped, IsBare};
 
 use crate::keys::{Key, push_key};
@@ -125,27 +126,28 @@ struct Mapped {
     keys: Vec<Key>,
 }
 
-/// The images of all nets, and the keys of those with two pins or more in the order of the nets:
-/// made part by part, by as many threads as there are parts, which are so many at most.
+/// The images of all nets, and the keys of those with two pins or more in lists that follow one another, in the order
+/// of the nets: made part by part, by as many threads as there are parts, which are so many at most.
 pub(crate) fn map_nets<'a, R: Threads + Sync>(
     rt: &R,
     alloc: Global,
     h: &'a Hypergraph,
     clusters: &'a [u32],
     threads: u32,
-) -> Result<(Images<'a>, Vec<Key>), NoMemory>
+) -> Result<(Images<'a>, Vec<Vec<Key>>), NoMemory>
     requires vertices { length clusters.now ≡ vertex_count h.now }
     requires few { cluster_count clusters.now ≤ 2 ^ 22 }
     requires threads { 0 < threads }
     ensures images { IfOk result (λ pair. pair.0 ≡ over h.now clusters.now) }
-    ensures keys { IfOk result (λ pair. pair.1.items ≡ keys_from (over h.now clusters.now) 0 (net_count h.now)) }
+    ensures keys { IfOk result (λ pair. all_keys (map (λ list. list.items) pair.1.items)
+        ≡ keys_from (over h.now clusters.now) 0 (net_count h.now)) }
 {
     let size = h.nets().div_ceil(threads).max(LEAST_NETS);
     let mut parts = Vec::new(alloc);
-    let mut keys = Vec::with_capacity(alloc, h.nets() as usize)?;
+    let mut lists = Vec::new(alloc);
     for mapped in map_parts(rt, alloc, h, clusters, size)? {
-        let Mapped { part, keys: more } = mapped?;
-        keys.extend_from_slice(&more)?;
+        let Mapped { part, keys } = mapped?;
+        lists.push(keys)?;
         parts.push(part)?;
     }
     let images = Images {
@@ -154,7 +156,7 @@ pub(crate) fn map_nets<'a, R: Threads + Sync>(
         parts,
         size,
     };
-    Ok((images, keys))
+    Ok((images, lists))
 }
 
 /// The parts of this size with their keys, or no memory for one. Their room is made here, since the

@@ -1,5 +1,5 @@
 use Rattle.contract_nets.proofs.CutLaws.{part_within}
-use Rattle.contract_nets.proofs.merging.fill_list.Goals as goal
+use Rattle.contract_nets.proofs.merging.fill_part.Goals as goal
 
 pub merge_keys-requires-clause-limits : goal.merge_keys-requires-clause-limits
 merge_keys-requires-clause-limits c =
