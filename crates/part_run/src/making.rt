@@ -115,7 +115,7 @@ pub(crate) fn run_in<H: Threads + Sync>(
     let greedy = cost_with(rt, &flat, placed.slice(), job.k, job.workers);
     let h = Hypergraph::build_with(rt, alloc, flat, job.workers as usize)?;
     let reached = reach(rt, alloc, mode, job, limit, h, placed, refiners)?;
-    let cost = reached.best.cost(&reached.h);
+    let cost = reached.best.cost_with(rt, &reached.h, job.workers);
     Ok(Made {
         h: reached.h,
         greedy,

@@ -37,7 +37,8 @@ pub fn settle_best<R: Threads + Sync>(
 {
     let k = last.k();
     let _blocks = last.blocks();
-    let cheaper = cost_with(rt, h.flat(), greedy.slice(), k, workers) < last.cost(h);
+    let cost = last.cost_with(rt, h, workers);
+    let cheaper = cost_with(rt, h.flat(), greedy.slice(), k, workers) < cost;
     let mut best = if cheaper {
         trace.chosen = Chosen::Greedy;
         Partition::of(alloc, h, k, last.limit(), greedy)?

@@ -40,8 +40,8 @@ pub reach-requires-clause-placed : goal.reach-requires-clause-placed
 reach-requires-clause-placed g c κs within =
     c.in_ok-placed.ensures.answer.greedy ∙ ap (λ (x : Hyper). greedy x c.args.job.now.k) (sym c.in_ok-h.ensures)
 
-pub cost-cost-requires : goal.cost-cost-requires
-cost-cost-requires g c =
+pub cost_with-cost-requires-clause-belongs : goal.cost_with-cost-requires-clause-belongs
+cost_with-cost-requires-clause-belongs g c κs within =
     ap (λ (x : Parted). x.hyper) c.in_ok-reached.ensures.reached.partition ∙ sym c.in_ok-reached.ensures.reached.hypergraph
 
 pub returns-in_err-reached-clause-answer : goal.returns-in_err-reached-clause-answer
@@ -70,6 +70,6 @@ returns-clause-answer g c =
       greedy = c.cost_with-greedy.ensures.value ∙ ap (cost h) (c.slice.ensures ∙ placed.greedy);
       outcome =
           outcome_over refl c.in_ok-h.ensures
-          (outcome_of c.args.mode _ j c.in_ok-h.h c.in_ok-reached.reached c.into_blocks.result c.cost-cost.result r c.into_blocks.ensures
-          c.cost-cost.ensures.value);
+          (outcome_of c.args.mode _ j c.in_ok-h.h c.in_ok-reached.reached c.into_blocks.result c.cost_with-cost.result r c.into_blocks.ensures
+          c.cost_with-cost.ensures.value);
     }

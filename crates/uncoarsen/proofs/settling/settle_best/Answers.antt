@@ -36,7 +36,7 @@ returns-clause-trace g c =
     let k = c.args.last.k in
     let first : c.cost_with.result ≡ cost h (greedy h k) = c.cost_with.ensures.value ∙ ap (λ (x : Hyper). cost x c.slice.result.now) c.flat.ensures ∙
     ap (λ (bs : List ℕ). cost h bs) (c.slice.ensures ∙ c.requires.greedy) in
-    let second : c.cost.result ≡ cost h old.last = c.cost.ensures.value ∙ ap (λ (bs : List ℕ). cost h bs) (sym c.requires.traced) in
+    let second : c.cost_with-cost.result ≡ cost h old.last = c.cost_with-cost.ensures.value ∙ ap (λ (bs : List ℕ). cost h bs) (sym c.requires.traced) in
     let q = c.settle_with.new.self.blocks in
     let limit = c.args.last.limit in
     elim c.if-cheaper.branch [
