@@ -6,6 +6,7 @@ use Rattle.std.proofs.lemmas.List.{length-append}
 use Rattle.std.proofs.Math.Seq.{get_or-append_seam}
 use Rattle.hg_defs.specs.declared.moves.Move.{Move}
 use Rattle.hg_defs.specs.Hypergraph.{Hyper}
+use Rattle.hg_defs.specs.Cost.{cost}
 use Rattle.hg_defs.specs.Partition.{Fits}
 use Rattle.hg_defs.specs.Replay.{replay}
 use Rattle.hg_base.proofs.CountLaws.{cost-lt}
@@ -39,6 +40,7 @@ module _ (h : Hyper) (task : Task) (p : Parted) (parted : IsParted h p.k p.block
         level = level;
         leads = leads;
         fits = subst (λ (x : Parted). Fits h x.k x.limit x.blocks) (sym leads) (keep.within parted.partition fits);
+        after = after ∙ sym (ap (λ (x : Parted). cost h x.blocks) leads);
         lower = omega arith;
         small = let c = cost-lt h p.blocks parted.bounds in omega arith;
       }

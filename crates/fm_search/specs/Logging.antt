@@ -1,5 +1,6 @@
 -- What one round of searches logs and tallies.
 use Rattle.std.specs.Prelude.{◌≡◌, ℕ, ◌+◌, ◌^◌, ◌<◌, ◌≤◌, ◌-◌, List, [], ◌∷◌, ◌++◌, length, slice_index_or}
+use Rattle.hg_defs.specs.Cost.{cost}
 use Rattle.hg_defs.specs.Partition.{Fits}
 use Rattle.hg_defs.specs.Hypergraph.{Hyper}
 use Rattle.pin_plain.specs.Parted.{Parted}
@@ -10,13 +11,14 @@ use Rattle.round_log.specs.Passes.{IsSearchRound, IsSingleMove, saved}
 use Rattle.refiner.specs.declared.pass.Task.{Task}
 use Rattle.refiner.specs.declared.pass.Tally.{Tally}
 
--- a round of searches of the task's level, which leads from p to q
+-- a round of searches of the task's level, which leads from p to q and records the cost of q
 pub record IsLoggedRound (h : Hyper) (task : Task) (p q : Parted) (r : LoggedRound) : Type 0 where
   pub legal : IsSearchRound h p.k p.limit task.workers p.blocks r
   pub kind : r.kind ≡ Search
   pub level : r.level ≡ task.level
   pub leads : q ≡ record p { blocks = after_round p.blocks r }
   pub fits : Fits h q.k q.limit q.blocks
+  pub after : r.after ≡ cost h q.blocks
   pub lower : r.after ≤ r.before
   pub small : r.before < 2 ^ 57
 

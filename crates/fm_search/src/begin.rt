@@ -3,6 +3,7 @@
 ghost use Rattle.std.specs.Prelude.{◌≡◌, ◌+◌, ◌<◌, ◌≤◌, ◌^◌, All, IfOk, OnOk, length, vec_len};
 ghost use Rattle.hg_defs.specs.Hypergraph.{vertex_count};
 ghost use Rattle.hg_defs.specs.Partition.{Fits};
+ghost use Rattle.hg_defs.specs.Cost as costs;
 ghost use Rattle.move_table.specs.Calls.{AreFresh};
 ghost use Rattle.move_table.specs.Standing.{IsTerms};
 ghost use Rattle.fm_search.specs.Opened.{IsBelow};
@@ -187,18 +188,20 @@ fn begin_alone(
     begin_and_list(alloc, terms, cut)
 }
 
-/// Opens a round over a partition, reads what the vertices on cut nets may do, and lists these. One worker does one
-/// after the other, and starts no thread, nor do several on a small level.
+/// Opens a round over a partition of this cost, reads what the vertices on cut nets may do, and lists these. One worker
+/// does one after the other, and starts no thread, nor do several on a small level.
 pub(crate) fn open_round<'h, H: Threads + Sync>(
     rt: &H,
     alloc: Global,
     h: &'h Hypergraph,
     p: Partition,
+    cost: u64,
     workers: u32,
     openings: &mut Openings,
 ) -> Result<(Round<'h>, Passes, Vec<u32>), NoMemory>
     requires belongs { p.hyper ≡ h.now }
     requires fits { Fits h.now p.k p.limit p.blocks }
+    requires cost { cost ≡ costs.cost h.now p.blocks }
     requires workers { (1 ≤ workers) × (workers ≤ 64) }
     requires below { All (IsBelow p.k) openings.old.all.items }
     ensures below { All (IsBelow p.k) openings.new.all.items }
@@ -208,7 +211,6 @@ pub(crate) fn open_round<'h, H: Threads + Sync>(
     ensures seeds { IfOk result (λ r. All (λ v. v < vertex_count h.now) r.2.items) }
     ensures few { IfOk result (λ r. vec_len r.2 ≤ vertex_count h.now) }
 {
-    let opening_cost = p.cost_with(rt, h, workers);
     let part = p.into_ready(rt, h, workers);
     let _blocks = part.blocks();
     let terms = Terms { part, workers };
@@ -219,6 +221,6 @@ pub(crate) fn open_round<'h, H: Threads + Sync>(
     } else {
         begin_alone(alloc, h, &terms, openings)?
     };
-    let (round, passes) = Round::of(h, terms, opening_cost, begun);
+    let (round, passes) = Round::of(h, terms, cost, begun);
     Ok((round, passes, seeds))
 }

@@ -2,6 +2,7 @@
 
 ghost use Rattle.std.specs.Prelude.{◌≡◌, ◌+◌, ◌<◌, ◌≤◌, ◌^◌, IfOk, OnErr, All, length, false};
 ghost use Rattle.hg_defs.specs.Partition.{Fits};
+ghost use Rattle.hg_defs.specs.Cost as costs;
 ghost use Rattle.round_log.specs.declared.record.Kind.TheVariants.{Search};
 ghost use Rattle.round_log.specs.declared.record.LoggedRound.{LoggedRound};
 ghost use Rattle.round_log.specs.Passes.{saved};
@@ -26,8 +27,8 @@ use std::thread::Threads;
 /// A pass makes so many rounds at most.
 const MOST_ROUNDS: u32 = 4;
 
-/// Makes one round, where a first possible move is known, and logs it: a raced one, or the plain one of that move
-/// where the race moved nothing. Where there is no memory, nothing is logged.
+/// Makes one round of a partition of this cost, where a first possible move is known, and logs it: a raced one, or the
+/// plain one of that move where the race moved nothing. Where there is no memory, nothing is logged.
 fn log_round<H: Threads + Sync, G: Gate>(
     rt: &H,
     gate: &G,
@@ -35,12 +36,14 @@ fn log_round<H: Threads + Sync, G: Gate>(
     h: &Hypergraph,
     task: &Task,
     p: Partition,
+    cost: u64,
     log: &mut Log,
     memory: &mut Memory,
     first: (u32, u32),
 ) -> Result<Partition, NoMemory>
     requires belongs { p.hyper ≡ h.now }
     requires fits { Fits h.now p.k p.limit p.blocks }
+    requires cost { cost ≡ costs.cost h.now p.blocks }
     requires workers { (1 ≤ task.now.workers) × (task.now.workers ≤ 64) }
     requires memory { IsMemoryFor p.k memory.old }
     requires first { IsFirst h.now p.k p.limit p.blocks first.0 first.1 }
@@ -49,25 +52,26 @@ fn log_round<H: Threads + Sync, G: Gate>(
     ensures err { OnErr result (log.new ≡ log.old) }
 {
     let _parted = p.blocks();
-    let closed = race(rt, gate, alloc, h, task, p, memory)?;
+    let closed = race(rt, gate, alloc, h, task, p, cost, memory)?;
     if !closed.moves().is_empty() {
         return log.race(rt, alloc, h, Kind::Search, task.level, closed);
     }
     let mut part = closed.into_part();
-    let round = single_round(rt, alloc, h, task.level, &mut part, first)?;
+    let round = single_round(rt, alloc, h, task.level, &mut part, cost, first)?;
     let mut rounds = Items::new(alloc);
     rounds.push(round)?;
     log.add(rounds)?;
     Ok(part)
 }
 
-/// Tallies the last round of a log, and answers how many of its moves it kept.
-fn tally_last(log: &Log, tally: &mut Tally) -> u32
+/// Tallies the last round of a log, and answers how many of its moves it kept, and the cost after these.
+fn tally_last(log: &Log, tally: &mut Tally) -> (u32, u64)
     requires some { 0 < length log.now }
     requires lower { (d : LoggedRound) → (last_of log.now d).after ≤ (last_of log.now d).before }
     requires room { (d : LoggedRound) → tally.old.gain + (last_of log.now d).before < 2 ^ 63 }
     requires few { tally.old.rounds < 2 ^ 63 }
-    ensures kept { (d : LoggedRound) → result ≡ (last_of log.now d).kept }
+    ensures kept { (d : LoggedRound) → result.0 ≡ (last_of log.now d).kept }
+    ensures after { (d : LoggedRound) → result.1 ≡ (last_of log.now d).after }
     ensures count { tally.new.rounds ≡ tally.old.rounds + 1 }
     ensures gain { (d : LoggedRound) → tally.new.gain ≡ tally.old.gain + saved (last_of log.now d) }
 {
@@ -75,10 +79,11 @@ fn tally_last(log: &Log, tally: &mut Tally) -> u32
     let last = &rounds[rounds.len() - 1];
     tally.rounds += 1;
     tally.gain += last.before - last.after;
-    last.kept
+    (last.kept, last.after)
 }
 
-/// Makes one round, logs and tallies it, and answers how many of its moves it kept beside the partition after them.
+/// Makes one round of a partition of this cost, logs and tallies it, and answers how many of its moves it kept, and the
+/// cost after these, beside the partition after them.
 fn search_round<H: Threads + Sync, G: Gate>(
     rt: &H,
     gate: &G,
@@ -87,23 +92,26 @@ fn search_round<H: Threads + Sync, G: Gate>(
     h: &Hypergraph,
     task: &Task,
     p: Partition,
+    cost: u64,
     log: &mut Log,
     memory: &mut Memory,
     first: (u32, u32),
-) -> Result<(Partition, u32), NoMemory>
+) -> Result<(Partition, u32, u64), NoMemory>
     requires belongs { p.hyper ≡ h.now }
     requires fits { Fits h.now p.k p.limit p.blocks }
+    requires cost { cost ≡ costs.cost h.now p.blocks }
     requires workers { (1 ≤ task.now.workers) × (task.now.workers ≤ 64) }
     requires memory { IsMemoryFor p.k memory.old }
     requires first { IsFirst h.now p.k p.limit p.blocks first.0 first.1 }
     requires tallied { (tally.old.rounds < 2 ^ 62 + 4) × (tally.old.gain < 2 ^ 62 + 2 ^ 59) }
     ensures round { IfOk result (λ r. TalliesRound h.now task.now p r.0 log.old log.new tally.old tally.new r.1) }
+    ensures cost { IfOk result (λ r. r.2 ≡ costs.cost h.now r.0.blocks) }
     ensures memory { IsMemoryFor p.k memory.new }
     ensures err { OnErr result ((log.new ≡ log.old) × (tally.new ≡ tally.old)) }
 {
-    let part = log_round(rt, gate, alloc, h, task, p, log, memory, first)?;
-    let kept = tally_last(log, tally);
-    Ok((part, kept))
+    let part = log_round(rt, gate, alloc, h, task, p, cost, log, memory, first)?;
+    let (kept, after) = tally_last(log, tally);
+    Ok((part, kept, after))
 }
 
 /// Makes a pass of localized searches over a level, from a partition that fits, and logs its rounds. Answers
@@ -129,13 +137,14 @@ pub fn search_pass<H: Threads + Sync, G: Gate>(
     ensures pass { IfOk result (λ q. LogsPass Search h.now task.now p tally.old tally.new log.old log.new q) }
     ensures part { OnErr result (LogsRounds false Search h.now task.now p tally.old tally.new log.old log.new) }
 {
+    let mut cost = p.cost_with(rt, h, task.workers);
     let mut part = p;
     let mut memory = Memory::new(alloc);
     'rounds: for _ in 0..MOST_ROUNDS {
         let Some(first) = first_possible(h, &part) else {
             return Ok(part);
         };
-        let (next, kept) = search_round(
+        let (next, kept, after) = search_round(
             rt,
             gate,
             tally,
@@ -143,11 +152,13 @@ pub fn search_pass<H: Threads + Sync, G: Gate>(
             h,
             task,
             part,
+            cost,
             log,
             &mut memory,
             first,
         )?;
         part = next;
+        cost = after;
         if kept == 0 {
             return Ok(part);
         }

@@ -2,6 +2,7 @@
 
 ghost use Rattle.std.specs.Prelude.{◌≡◌, ◌<◌, ◌≤◌, IfOk, All, length, map};
 ghost use Rattle.hg_defs.specs.Partition.{Fits};
+ghost use Rattle.hg_defs.specs.Cost as costs;
 ghost use Rattle.hg_defs.specs.Replay.{replay};
 ghost use Rattle.move_core.specs.declared.account.Stage.TheVariants.{Idle};
 ghost use Rattle.fm_search.specs.Standing.{standing_of};
@@ -118,7 +119,7 @@ fn search_all<H: Threads + Sync, G: Gate>(
     );
 }
 
-/// Lets workers search from the vertices on cut nets, all at once, and closes the round.
+/// Lets workers search from the vertices on cut nets of a partition of this cost, all at once, and closes the round.
 pub(crate) fn race<H: Threads + Sync, G: Gate>(
     rt: &H,
     gate: &G,
@@ -126,10 +127,12 @@ pub(crate) fn race<H: Threads + Sync, G: Gate>(
     h: &Hypergraph,
     task: &Task,
     p: Partition,
+    cost: u64,
     memory: &mut Memory,
 ) -> Result<Closed, NoMemory>
     requires belongs { p.hyper ≡ h.now }
     requires fits { Fits h.now p.k p.limit p.blocks }
+    requires cost { cost ≡ costs.cost h.now p.blocks }
     requires workers { (1 ≤ task.now.workers) × (task.now.workers ≤ 64) }
     requires memory { IsMemoryFor p.k memory.old }
     ensures opening { IfOk result (λ c. c.opening ≡ p.blocks) }
@@ -138,7 +141,15 @@ pub(crate) fn race<H: Threads + Sync, G: Gate>(
     ensures memory { IsMemoryFor p.k memory.new }
 {
     let (k, limit) = (p.k(), p.limit());
-    let (round, passes, seeds) = open_round(rt, alloc, h, p, task.workers, &mut memory.openings)?;
+    let (round, passes, seeds) = open_round(
+        rt,
+        alloc,
+        h,
+        p,
+        cost,
+        task.workers,
+        &mut memory.openings,
+    )?;
     let first = first_place(seeds.len(), task.seed, task.level);
     let mut workers = workers_of(alloc, h, k, passes, &mut memory.desks)?;
     let progress = Progress::new();

@@ -1,7 +1,8 @@
 //! Where searches begin: the vertices on nets that touch several blocks.
 
-ghost use Rattle.std.specs.Prelude.{◌≡◌, ◌<◌, ◌≤◌, ◌^◌, All, IfOk, length, vec_len};
-ghost use Rattle.hg_defs.specs.Hypergraph.{vertex_count, net_count};
+ghost use Rattle.std.specs.Prelude.{◌≡◌, ◌↔◌, ◌<◌, ◌≤◌, ◌^◌, All, IfOk, IsTrue, length, vec_len};
+ghost use Rattle.hg_defs.specs.Hypergraph.{vertex_count, net_count, net_of};
+ghost use Rattle.hg_defs.specs.Cost.{connectivity};
 
 use crate::beside::each_chunk_beside;
 use crew::{Span, span_of};
@@ -16,16 +17,15 @@ use std::thread::Threads;
 /// A thread more marks pins for each so many nets: to start one costs as much.
 const LEAST_NETS: u32 = 16384;
 
-/// Whether a net touches two blocks at least.
-fn is_cut(h: &Hypergraph, terms: &Terms, e: u32) -> bool
-    requires belongs { terms.now.part.hyper ≡ h.now }
-    requires net { e < net_count h.now }
+/// Whether a net touches two blocks at least. No pin is looked at: the net's first word has 64 and the number of blocks
+/// that it touches.
+fn is_cut(terms: &Terms, e: u32) -> bool
+    requires { e < net_count terms.now.part.hyper }
+    ensures { IsTrue result ↔ (2 ≤ connectivity terms.now.part.blocks (net_of terms.now.part.hyper e).pins) }
 {
-    let pins = h.pins(e);
-    match pins.first() {
-        Some(v) => (terms.count(e, terms.part.blocks()[*v as usize]) as usize) < pins.len(),
-        None => false,
-    }
+    let (place, _) = terms.part.place_of_net(e);
+    let touched = terms.part.words()[place as usize] - 64;
+    touched > 1
 }
 
 /// Marks the pins of the cut nets of a span.
@@ -35,7 +35,7 @@ fn mark_span(h: &Hypergraph, terms: &Terms, span: Span, cut: &mut [bool])
     requires long { length cut.old ≡ vertex_count h.now }
 {
     for e in span.from..span.to {
-        if is_cut(h, terms, e) {
+        if is_cut(terms, e) {
             for v in h.pins(e) {
                 cut[*v as usize] = true;
             }

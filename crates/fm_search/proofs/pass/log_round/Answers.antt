@@ -2,7 +2,8 @@
 use Rattle.std.proofs.Common.{◌∷◌, [], ◌++◌, List, ap, subst, sym, ◌∙◌}
 use Rattle.std.proofs.lemmas.Result.{IfOk-weaker}
 use Rattle.hg_defs.specs.Hypergraph.{Hyper}
-use Rattle.pin_plain.specs.Parted.{IsParted}
+use Rattle.hg_defs.specs.Cost.{cost}
+use Rattle.pin_plain.specs.Parted.{Parted, IsParted}
 use Rattle.round_log.specs.declared.record.Kind.TheVariants.{Search}
 use Rattle.round_log.specs.declared.record.LoggedRound.{LoggedRound}
 use Rattle.refiner.specs.Racing.{LogsRace}
@@ -29,6 +30,13 @@ single_round-requires-clause-first g c κs within =
     (c.into_part-part.ensures ∙ unmoved c.args.h.now c.args.task.now c.args.p parted c.requires.fits c.in_ok-closed.closed c.in_ok-closed.ensures.opening
     c.in_ok-closed.ensures.part (no_moves c.moves.result.now c.in_ok-closed.closed.moves c.moves.ensures (sym c.is_empty.ensures ∙ c.if-not-is_empty.false)))
     c.requires.first
+
+pub single_round-requires-clause-before : goal.single_round-requires-clause-before
+single_round-requires-clause-before g c κs within =
+    let parted = subst (λ (x : Hyper). IsParted x c.args.p.k c.args.p.blocks) c.requires.belongs c.blocks-parted.ensures.parted in
+    c.requires.cost ∙ ap (λ (x : Parted). cost c.args.h.now x.blocks)
+    (sym (c.into_part-part.ensures ∙ unmoved c.args.h.now c.args.task.now c.args.p parted c.requires.fits c.in_ok-closed.closed c.in_ok-closed.ensures.opening
+    c.in_ok-closed.ensures.part (no_moves c.moves.result.now c.in_ok-closed.closed.moves c.moves.ensures (sym c.is_empty.ensures ∙ c.if-not-is_empty.false))))
 
 pub returns-clause-round : goal.returns-clause-round
 returns-clause-round g c =

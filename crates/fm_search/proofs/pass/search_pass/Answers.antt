@@ -79,4 +79,5 @@ rounds-preserved g c =
       memory =
           subst (λ k. IsMemoryFor k c.search_round.new.memory)
           (sym (ap (λ (x : Parted). x.k) round.logs.logged.leads)) c.in_ok-next.ensures.memory;
+      cost = c.in_ok-next.ensures.cost;
     }

@@ -15,3 +15,9 @@ returns-clause-round g c =
       count = c.tally_last-kept.ensures.count;
       gain = c.tally_last-kept.ensures.gain s.round ∙ ap (λ (r : LoggedRound). c.args.tally.now.gain + saved r) (last s.round);
     }
+
+pub returns-clause-cost : goal.returns-clause-cost
+returns-clause-cost g c =
+    let s = c.in_ok-part.ensures.round in
+    let last = last_is c.args.log.now c.log_round.new.log s.round s.log in
+    c.tally_last-kept.ensures.after s.round ∙ ap (λ (r : LoggedRound). r.after) (last s.round) ∙ s.logged.after

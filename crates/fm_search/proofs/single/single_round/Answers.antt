@@ -70,7 +70,7 @@ returns-clause-round g c =
           _
           (c.in_ok-push.ensures.ok ∙ ap (λ (xs : List Move). xs ++ m ∷ []) c.new-moves.ensures)
           (c.in_ok-push-2.ensures.ok ∙ ap₂ (λ (xs : List ℤ) (x : ℤ). xs ++ x ∷ []) c.new-gains.ensures (ap (λ (x : ℤ). to_z w64 (of_z w64 x)) told))
-          c.cost-before.ensures.value
+          c.requires.before
           (c.cost-made.ensures.value ∙ ap (λ (x : Parted). cost h x.blocks) c.shift.ensures)
           (rolled_kept h p c.shift.new.self m c.slice.result.now c.shift.ensures rolled low from c.in_ok-kept.kept c.in_ok-kept.ensures.kept)
           (c.cost.ensures.value ∙ ap (λ (x : Parted). cost h x.blocks)
