@@ -15,11 +15,10 @@ use Rattle.move_table.specs.Closing.{RacedEnd}
 use Rattle.round_log.specs.declared.record.Kind.TheVariants.{Search}
 use Rattle.round_log.specs.declared.record.LoggedRound.{LoggedRound}
 use Rattle.round_log.specs.Rounds.{after_round, IsRaced}
-use Rattle.round_log.specs.Passes.{IsSearchRound}
+use Rattle.round_log.specs.Passes.{IsSearchRound, HasPossible}
 use Rattle.round_log.proofs.PassLaws.{raced_keeps}
 use Rattle.refiner.specs.declared.pass.Task.{Task}
 use Rattle.refiner.specs.Racing.{LogsRace}
-use Rattle.fm_search.specs.Possible.{IsFirst}
 use Rattle.fm_search.specs.Logging.{IsLoggedRound, LogsSearchRound, IsSingleRound, last_of}
 
 module _ (h : Hyper) (task : Task) (p : Parted) (parted : IsParted h p.k p.blocks) (fits : Fits h p.k p.limit p.blocks) where
@@ -86,8 +85,8 @@ module _ (h : Hyper) (task : Task) (p : Parted) (parted : IsParted h p.k p.block
         logged = logged q r (inr s.single) s.kind s.level (subst (λ (x : Parted). q ≡ record x { blocks = after_round x.blocks r }) same leads);
       }
 
-pub first_at : (h : Hyper) (p o : Parted) (v b : ℕ) → o ≡ p → IsFirst h p.k p.limit p.blocks v b → IsFirst h o.k o.limit o.blocks v b
-first_at h p o v b same f = subst (λ (x : Parted). IsFirst h x.k x.limit x.blocks v b) (sym same) f
+pub possible_at : (h : Hyper) (p o : Parted) → o ≡ p → HasPossible h p.k p.limit p.blocks → HasPossible h o.k o.limit o.blocks
+possible_at h p o same f = subst (λ (x : Parted). HasPossible h x.k x.limit x.blocks) (sym same) f
 
 -- the last round of a log that gained it
 pub last_is : (old new : List LoggedRound) (r : LoggedRound) → new ≡ old ++ r ∷ [] → (d : LoggedRound) → last_of new d ≡ r

@@ -109,5 +109,8 @@ module _ (h : Hyper) (k l : ℕ) (p : List ℕ) (s : IsParted h k p) where
       by u c m true e = absurd (none u c (ltb-true u v e) (possible_to u c m))
       by u c m false e = ltb-false u v e
 
+  pub possible_by : (v b : ℕ) → IsLowest h k l p v b → HasPossible h k l p
+  possible_by v b low = (v, b, possible_from v b low.here)
+
   pub none_possible : ((u c : ℕ) → u < vertex_count h → MayGo h k l p u c → ⊥) → HasPossible h k l p → ⊥
   none_possible none m = none m.0 m.1 m.2.allowed.vertex (possible_to m.0 m.1 m.2)

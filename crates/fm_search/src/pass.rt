@@ -5,14 +5,13 @@ ghost use Rattle.hg_defs.specs.Partition.{Fits};
 ghost use Rattle.hg_defs.specs.Cost as costs;
 ghost use Rattle.round_log.specs.declared.record.Kind.TheVariants.{Search};
 ghost use Rattle.round_log.specs.declared.record.LoggedRound.{LoggedRound};
-ghost use Rattle.round_log.specs.Passes.{saved};
 ghost use Rattle.refiner.specs.Logging.{LogsPass, LogsRounds};
-ghost use Rattle.fm_search.specs.Possible.{IsFirst};
+ghost use Rattle.round_log.specs.Passes.{saved, HasPossible};
 ghost use Rattle.fm_search.specs.Memory.{IsMemoryFor};
 ghost use Rattle.fm_search.specs.Logging.{LogsSearchRound, TalliesRound, last_of};
 
 use crate::memory::Memory;
-use crate::possible::first_possible;
+use crate::possible::{first_possible, is_possible};
 use crate::race::race;
 use crate::single::single_round;
 use crew::Gate;
@@ -27,8 +26,8 @@ use std::thread::Threads;
 /// A pass makes so many rounds at most.
 const MOST_ROUNDS: u32 = 4;
 
-/// Makes one round of a partition of this cost, where a first possible move is known, and logs it: a raced one, or the
-/// plain one of that move where the race moved nothing. Where there is no memory, nothing is logged.
+/// Makes one round of a partition of this cost, where a move is possible, and logs it: a raced one, or the plain one of
+/// the first possible move where the race moved nothing. Where there is no memory, nothing is logged.
 fn log_round<H: Threads + Sync, G: Gate>(
     rt: &H,
     gate: &G,
@@ -39,14 +38,13 @@ fn log_round<H: Threads + Sync, G: Gate>(
     cost: u64,
     log: &mut Log,
     memory: &mut Memory,
-    first: (u32, u32),
 ) -> Result<Partition, NoMemory>
     requires belongs { p.hyper ≡ h.now }
     requires fits { Fits h.now p.k p.limit p.blocks }
     requires cost { cost ≡ costs.cost h.now p.blocks }
     requires workers { (1 ≤ task.now.workers) × (task.now.workers ≤ 64) }
     requires memory { IsMemoryFor p.k memory.old }
-    requires first { IsFirst h.now p.k p.limit p.blocks first.0 first.1 }
+    requires possible { HasPossible h.now p.k p.limit p.blocks }
     ensures round { IfOk result (λ q. LogsSearchRound h.now task.now p q log.old log.new) }
     ensures memory { IsMemoryFor p.k memory.new }
     ensures err { OnErr result (log.new ≡ log.old) }
@@ -57,6 +55,9 @@ fn log_round<H: Threads + Sync, G: Gate>(
         return log.race(rt, alloc, h, Kind::Search, task.level, closed);
     }
     let mut part = closed.into_part();
+    let Some(first) = first_possible(h, &part) else {
+        unreachable!()
+    };
     let round = single_round(rt, alloc, h, task.level, &mut part, cost, first)?;
     let mut rounds = Items::new(alloc);
     rounds.push(round)?;
@@ -95,21 +96,20 @@ fn search_round<H: Threads + Sync, G: Gate>(
     cost: u64,
     log: &mut Log,
     memory: &mut Memory,
-    first: (u32, u32),
 ) -> Result<(Partition, u32, u64), NoMemory>
     requires belongs { p.hyper ≡ h.now }
     requires fits { Fits h.now p.k p.limit p.blocks }
     requires cost { cost ≡ costs.cost h.now p.blocks }
     requires workers { (1 ≤ task.now.workers) × (task.now.workers ≤ 64) }
     requires memory { IsMemoryFor p.k memory.old }
-    requires first { IsFirst h.now p.k p.limit p.blocks first.0 first.1 }
+    requires possible { HasPossible h.now p.k p.limit p.blocks }
     requires tallied { (tally.old.rounds < 2 ^ 62 + 4) × (tally.old.gain < 2 ^ 62 + 2 ^ 59) }
     ensures round { IfOk result (λ r. TalliesRound h.now task.now p r.0 log.old log.new tally.old tally.new r.1) }
     ensures cost { IfOk result (λ r. r.2 ≡ costs.cost h.now r.0.blocks) }
     ensures memory { IsMemoryFor p.k memory.new }
     ensures err { OnErr result ((log.new ≡ log.old) × (tally.new ≡ tally.old)) }
 {
-    let part = log_round(rt, gate, alloc, h, task, p, cost, log, memory, first)?;
+    let part = log_round(rt, gate, alloc, h, task, p, cost, log, memory)?;
     let (kept, after) = tally_last(log, tally);
     Ok((part, kept, after))
 }
@@ -141,9 +141,9 @@ pub fn search_pass<H: Threads + Sync, G: Gate>(
     let mut part = p;
     let mut memory = Memory::new(alloc);
     'rounds: for _ in 0..MOST_ROUNDS {
-        let Some(first) = first_possible(h, &part) else {
+        if !is_possible(h, &part) {
             return Ok(part);
-        };
+        }
         let (next, kept, after) = search_round(
             rt,
             gate,
@@ -155,7 +155,6 @@ pub fn search_pass<H: Threads + Sync, G: Gate>(
             cost,
             log,
             &mut memory,
-            first,
         )?;
         part = next;
         cost = after;

@@ -9,6 +9,9 @@ use hg_base::FREE;
 use incidence::Hypergraph;
 use pin_plain::Partition;
 
+/// One vertex of so many is asked first whether it may go anywhere.
+const STRIDE: u32 = 64;
+
 /// Whether a net of a vertex has a pin in a block.
 fn reaches(h: &Hypergraph, p: &Partition, v: u32, b: u32) -> bool
     requires belongs { p.now.hyper ≡ h.now }
@@ -75,4 +78,19 @@ pub(crate) fn first_possible(h: &Hypergraph, p: &Partition) -> Option<(u32, u32)
         }
     }
     None
+}
+
+/// Whether a move is possible. Some vertices all over the level are asked before all are: where many may go somewhere,
+/// one of these does, however many stand before the first one that does.
+pub(crate) fn is_possible(h: &Hypergraph, p: &Partition) -> bool
+    requires { p.now.hyper ≡ h.now }
+    ensures { IsTrue result ↔ HasPossible h.now p.now.k p.now.limit p.now.blocks }
+{
+    let _parted = p.blocks();
+    'places: for i in 0..h.vertices() / STRIDE {
+        if let Some(_block) = lowest(h, p, i * STRIDE) {
+            return true;
+        }
+    }
+    first_possible(h, p).is_some()
 }

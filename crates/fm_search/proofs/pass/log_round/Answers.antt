@@ -8,7 +8,7 @@ use Rattle.round_log.specs.declared.record.Kind.TheVariants.{Search}
 use Rattle.round_log.specs.declared.record.LoggedRound.{LoggedRound}
 use Rattle.refiner.specs.Racing.{LogsRace}
 use Rattle.fm_search.specs.Logging.{LogsSearchRound}
-use Rattle.fm_search.proofs.LogLaws.{raced_logged, unmoved, single_logged, first_at, some_moves, no_moves}
+use Rattle.fm_search.proofs.LogLaws.{raced_logged, unmoved, single_logged, possible_at, some_moves, no_moves}
 use Rattle.fm_search.proofs.pass.log_round.Goals as goal
 
 pub returns-then-not-is_empty-clause-round : goal.returns-then-not-is_empty-clause-round
@@ -23,13 +23,13 @@ returns-then-not-is_empty-clause-round g c =
     c.race-then-not-is_empty.new.self s)
     c.race-then-not-is_empty.ensures.ok
 
-pub single_round-requires-clause-first : goal.single_round-requires-clause-first
-single_round-requires-clause-first g c κs within =
+pub unreachable-requires : goal.unreachable-requires
+unreachable-requires g c =
     let parted = subst (λ (x : Hyper). IsParted x c.args.p.k c.args.p.blocks) c.requires.belongs c.blocks-parted.ensures.parted in
-    first_at c.args.h.now c.args.p c.into_part-part.result c.args.first.0 c.args.first.1
+    c.in_default.ensures.none (possible_at c.args.h.now c.args.p c.into_part-part.result
     (c.into_part-part.ensures ∙ unmoved c.args.h.now c.args.task.now c.args.p parted c.requires.fits c.in_ok-closed.closed c.in_ok-closed.ensures.opening
     c.in_ok-closed.ensures.part (no_moves c.moves.result.now c.in_ok-closed.closed.moves c.moves.ensures (sym c.is_empty.ensures ∙ c.if-not-is_empty.false)))
-    c.requires.first
+    c.requires.possible)
 
 pub single_round-requires-clause-before : goal.single_round-requires-clause-before
 single_round-requires-clause-before g c κs within =

@@ -1,5 +1,5 @@
 -- A pass that is under way goes on, or ends as it may.
-use Rattle.std.proofs.Common.{◌+◌, true, false, Result, Ok, Err, List, inl, inr, refl, sym, ap, subst, arith}
+use Rattle.std.proofs.Common.{◌+◌, true, false, true≢false, Result, Ok, Err, List, inl, inr, refl, sym, ap, subst, ◌∙◌, arith}
 use Rattle.std.specs.Prelude.{nat_lt}
 use Rattle.std.proofs.lemmas.Bool.{lt-ltb}
 use Rattle.std.specs.Result.{OnErr}
@@ -17,8 +17,8 @@ at_err : {T E X : Type 0} (r : Result T E) → X → OnErr r X
 at_err (Ok x) p = tt
 at_err (Err e) p = p
 
-pub first_possible-requires : goal.first_possible-requires
-first_possible-requires g c =
+pub is_possible-requires : goal.is_possible-requires
+is_possible-requires g c =
     under_belongs c.args.h.now c.args.task.now c.args.p c.args.tally.now c.args.log.now c.rounds.counter true c.rounds.part c.rounds.tally c.rounds.log
     c.rounds.invariant.underway c.requires.belongs
 
@@ -32,10 +32,10 @@ search_round-requires-clause-tallied g c κs within =
     under_room c.args.h.now c.args.task.now c.args.p c.args.tally.now c.args.log.now c.rounds.counter true c.rounds.part c.rounds.tally c.rounds.log
     c.rounds.invariant.underway c.rounds-test.true c.requires.tallied.0 c.requires.tallied.1
 
-pub returns-in_default-clause-pass : goal.returns-in_default-clause-pass
-returns-in_default-clause-pass g c =
+pub returns-then-not-is_possible-clause-pass : goal.returns-then-not-is_possible-clause-pass
+returns-then-not-is_possible-clause-pass g c =
     under_whole c.args.h.now c.args.task.now c.args.p c.args.tally.now c.args.log.now c.rounds.counter true c.rounds.part c.rounds.tally c.rounds.log
-    c.rounds.invariant.underway (inr (inr c.in_default.ensures.none))
+    c.rounds.invariant.underway (inr (inr (λ some. true≢false (sym (c.is_possible.ensures.1 some) ∙ c.if-not-is_possible.true))))
 
 pub returns-in_err-next-clause-part : goal.returns-in_err-next-clause-part
 returns-in_err-next-clause-part g c =
@@ -55,26 +55,24 @@ returns-clause-pass g c =
 
 pub returns-then-kept-eq0-clause-pass : goal.returns-then-kept-eq0-clause-pass
 returns-then-kept-eq0-clause-pass g c =
-    let first = c.in-Some.ensures.some in
     under_whole c.args.h.now c.args.task.now c.args.p c.args.tally.now c.args.log.now (c.rounds.counter + 1) false c.in_ok-next.next c.search_round.new.tally
     c.search_round.new.log
     (subst (λ going. IsUnderway c.args.h.now c.args.task.now c.args.p c.args.tally.now c.args.log.now (c.rounds.counter + 1) going c.in_ok-next.next
     c.search_round.new.tally c.search_round.new.log) (ap (nat_lt 0) c.if-kept-eq0.true)
     (under_more c.args.h.now c.args.task.now c.args.p c.args.tally.now c.args.log.now c.rounds.counter true c.rounds.part c.rounds.tally c.rounds.log
-    c.rounds.invariant.underway c.rounds-test.true refl (c.in-Some.first.0, c.in-Some.first.1, first.possible) c.in_ok-next.next c.search_round.new.tally
+    c.rounds.invariant.underway c.rounds-test.true refl (c.is_possible.ensures.0 c.if-not-is_possible.false) c.in_ok-next.next c.search_round.new.tally
     c.search_round.new.log c.in_ok-next.kept c.in_ok-next.ensures.round))
     (inr (inl refl))
 
 pub rounds-preserved : goal.rounds-preserved
 rounds-preserved g c =
-    let first = c.in-Some.ensures.some in
     let round = c.in_ok-next.ensures.round in
     record {
       underway =
           subst (λ going. IsUnderway c.args.h.now c.args.task.now c.args.p c.args.tally.now c.args.log.now (c.rounds.counter + 1) going c.in_ok-next.next
           c.search_round.new.tally c.search_round.new.log) (lt-ltb 0 c.in_ok-next.kept (let some = c.if-kept-eq0.false in omega arith))
           (under_more c.args.h.now c.args.task.now c.args.p c.args.tally.now c.args.log.now c.rounds.counter true c.rounds.part c.rounds.tally c.rounds.log
-          c.rounds.invariant.underway c.rounds-test.true refl (c.in-Some.first.0, c.in-Some.first.1, first.possible) c.in_ok-next.next
+          c.rounds.invariant.underway c.rounds-test.true refl (c.is_possible.ensures.0 c.if-not-is_possible.false) c.in_ok-next.next
           c.search_round.new.tally c.search_round.new.log c.in_ok-next.kept round);
       memory =
           subst (λ k. IsMemoryFor k c.search_round.new.memory)
