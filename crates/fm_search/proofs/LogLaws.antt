@@ -85,6 +85,7 @@ module _ (h : Hyper) (task : Task) (p : Parted) (parted : IsParted h p.k p.block
         logged = logged q r (inr s.single) s.kind s.level (subst (λ (x : Parted). q ≡ record x { blocks = after_round x.blocks r }) same leads);
       }
 
+-- where a move is possible in a partition, one is in an equal one
 pub possible_at : (h : Hyper) (p o : Parted) → o ≡ p → HasPossible h p.k p.limit p.blocks → HasPossible h o.k o.limit o.blocks
 possible_at h p o same f = subst (λ (x : Parted). HasPossible h x.k x.limit x.blocks) (sym same) f
 

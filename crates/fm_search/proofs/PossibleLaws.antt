@@ -109,6 +109,7 @@ module _ (h : Hyper) (k l : ℕ) (p : List ℕ) (s : IsParted h k p) where
       by u c m true e = absurd (none u c (ltb-true u v e) (possible_to u c m))
       by u c m false e = ltb-false u v e
 
+  -- a vertex that may go somewhere has a possible move
   pub possible_by : (v b : ℕ) → IsLowest h k l p v b → HasPossible h k l p
   possible_by v b low = (v, b, possible_from v b low.here)
 

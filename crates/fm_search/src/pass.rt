@@ -5,8 +5,8 @@ ghost use Rattle.hg_defs.specs.Partition.{Fits};
 ghost use Rattle.hg_defs.specs.Cost as costs;
 ghost use Rattle.round_log.specs.declared.record.Kind.TheVariants.{Search};
 ghost use Rattle.round_log.specs.declared.record.LoggedRound.{LoggedRound};
-ghost use Rattle.refiner.specs.Logging.{LogsPass, LogsRounds};
 ghost use Rattle.round_log.specs.Passes.{saved, HasPossible};
+ghost use Rattle.refiner.specs.Logging.{LogsPass, LogsRounds};
 ghost use Rattle.fm_search.specs.Memory.{IsMemoryFor};
 ghost use Rattle.fm_search.specs.Logging.{LogsSearchRound, TalliesRound, last_of};
 

@@ -1,4 +1,4 @@
-//! The first possible move.
+//! Whether a move is possible, and the first one that is.
 
 ghost use Rattle.std.specs.Prelude.{◌≡◌, ◌<◌, ◌≤◌, ◌↔◌, ℕ, IsTrue, IfSome, IfNone};
 ghost use Rattle.hg_defs.specs.Hypergraph.{vertex_count};
