@@ -1,9 +1,9 @@
 -- Laws of nets in flat arrays behind those of other flat arrays.
-use Rattle.std.proofs.Common.{◌≡◌, ℕ, zero, suc, ◌+◌, ◌-◌, ◌^◌, ◌<◌, ◌≤◌, List, [], ◌++◌, length, map, take, drop, get_or}
+use Rattle.std.proofs.Common.{◌≡◌, ℕ, zero, suc, ◌+◌, ◌-◌, ◌^◌, ◌<◌, ◌≤◌, List, [], ◌++◌, length, map, flat_map, take, take-add, drop, get_or}
 use Rattle.std.proofs.Common.{slice_index, slice_range, All, sym, ap, ap₂, ◌∙◌, arith, ⊎_elim}
 use Rattle.std.specs.List.{range_with_len}
 use Rattle.std.proofs.lemmas.List.{get_or_append_left, get_or-append-add, get_or-map, get_or-drop, get_or_default, length-append, length-map, length-drop}
-use Rattle.std.proofs.lemmas.List.{length-take-le, ext_get_or}
+use Rattle.std.proofs.lemmas.List.{length-take-le, ext_get_or, flat_map_more, take_all}
 use Rattle.std.proofs.Math.Seq.{drop-append-add}
 use Rattle.std.proofs.lemmas.List.FromFn.{map-range_with_len_more}
 use Rattle.std.proofs.lemmas.List.Elements.{All-append}
@@ -19,23 +19,52 @@ length-slice_range : (ps : List ℕ) (a b : ℕ) → b ≤ length ps → length 
 length-slice_range ps a b h = let l = length-drop a ps in length-take-le (b - a) (drop a ps) (omega arith)
 
 -- the pins of all nets
-module _ (ss ns ps : List ℕ) (flat : AreFlat ss ns ps) where
-  pins_below : (k : ℕ) → k ≤ length ns → total (λ (e : Net). length e.pins) (map (net_at ss ns ps) (range_with_len 0 k)) ≡ slice_index ss k
-  pins_below zero h = sym flat.first
+module _ (ss ns ps : List ℕ) (laid : IsLaidOut ss ns ps) where
+  pins_below : (k : ℕ) → k ≤ length ns
+      → total (λ (e : Net). length e.pins) (map (net_at ss ns ps) (range_with_len 0 k)) + slice_index ss 0 ≡ slice_index ss k
+  pins_below zero h = omega arith
   pins_below (suc k) h =
       let f = net_at ss ns ps in
       let more = ap (total (λ (e : Net). length e.pins)) (map-range_with_len_more f 0 k k (omega arith)) in
       let sum = total_push (λ (e : Net). length e.pins) (map f (range_with_len 0 k)) (f k) in
       let before = pins_below k (omega arith) in
-      let one = length-slice_range ps (slice_index ss k) (slice_index ss (k + 1)) (flat.laid_out.within (k + 1) (omega arith)) in
-      let up = flat.laid_out.rising k (omega arith) in
+      let one = length-slice_range ps (slice_index ss k) (slice_index ss (k + 1)) (laid.within (k + 1) (omega arith)) in
+      let up = laid.rising k (omega arith) in
       let same : slice_index ss (suc k) ≡ slice_index ss (k + 1) = ap (slice_index ss) (let e : suc k ≡ k + 1 = omega arith in e) in
       let all : total (λ (e : Net). length e.pins) (map f (range_with_len 0 (suc k))) ≡ total (λ (e : Net). length e.pins) (map f (range_with_len 0 (k + 1))) =
       ap (λ (n : ℕ). total (λ (e : Net). length e.pins) (map f (range_with_len 0 n))) (let e : suc k ≡ k + 1 = omega arith in e) in
       omega arith
 
-  pub all_pins : total (λ (e : Net). length e.pins) (nets_at ss ns ps) ≡ length ps
-  all_pins = pins_below (length ns) (omega arith) ∙ flat.laid_out.last
+  -- as many as their list has, where they begin at its front
+  pub first_start : total (λ (e : Net). length e.pins) (nets_at ss ns ps) ≡ length ps → slice_index ss 0 ≡ 0
+  first_start all = let sum = pins_below (length ns) (omega arith) in let last = laid.last in omega arith
+
+  -- one behind the other they are their list
+  module _ (first : slice_index ss 0 ≡ 0) where
+    pins_joined : (k : ℕ) → k ≤ length ns → flat_map (λ (e : Net). e.pins) (map (net_at ss ns ps) (range_with_len 0 k)) ≡ take (slice_index ss k) ps
+    pins_joined zero h = ap (λ (n : ℕ). take n ps) (sym first)
+    pins_joined (suc k) h =
+        let f = net_at ss ns ps in
+        let up = laid.rising k (omega arith) in
+        let next : suc k ≡ k + 1 = omega arith in
+        let whole : slice_index ss k + (slice_index ss (k + 1) - slice_index ss k) ≡ slice_index ss (k + 1) = omega arith in
+        ap (λ (n : ℕ). flat_map (λ (e : Net). e.pins) (map f (range_with_len 0 n))) next
+        ∙ ap (flat_map (λ (e : Net). e.pins)) (map-range_with_len_more f 0 k k (omega arith))
+        ∙ sym (flat_map_more (λ (e : Net). e.pins) [] (map f (range_with_len 0 k)) (f k))
+        ∙ ap (λ (vs : List ℕ). vs ++ (f k).pins) (pins_joined k (omega arith))
+        ∙ sym (take-add (slice_index ss k) (slice_index ss (k + 1) - slice_index ss k) ps)
+        ∙ ap (λ (n : ℕ). take n ps) whole
+        ∙ ap (λ (n : ℕ). take (slice_index ss n) ps) (sym next)
+
+    pub joined_pins : flat_map (λ (e : Net). e.pins) (nets_at ss ns ps) ≡ ps
+    joined_pins = let last = laid.last in pins_joined (length ns) (omega arith) ∙ take_all (slice_index ss (length ns)) ps (omega arith)
+
+pub all_pins : (ss ns ps : List ℕ) → AreFlat ss ns ps → total (λ (e : Net). length e.pins) (nets_at ss ns ps) ≡ length ps
+all_pins ss ns ps flat =
+    let sum = pins_below ss ns ps flat.laid_out (length ns) (omega arith) in
+    let first = flat.first in
+    let last = flat.laid_out.last in
+    omega arith
 
 -- other arrays behind the first ones, with the number of the first pins added to each place
 module _ (ss ns ps : List ℕ) (laid : IsLaidOut ss ns ps) (ts ms qs : List ℕ) (flat : AreFlat ts ms qs) (by : ℕ) (at : by ≡ length ps) where

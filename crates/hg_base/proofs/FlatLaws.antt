@@ -1,9 +1,9 @@
 -- Laws of nets in flat arrays.
-use Rattle.std.proofs.Common.{◌≡◌, ℕ, ◌^◌, ◌<◌, ◌≤◌, List, [], ◌∷◌, length, replicate, get_or, refl, sym, ap, ◌∙◌, arith, rules, ⊎_elim}
+use Rattle.std.proofs.Common.{◌≡◌, ℕ, ◌^◌, ◌<◌, ◌≤◌, List, [], ◌∷◌, length, replicate, flat_map, All, get_or, refl, sym, ap, ◌∙◌, arith, rules, ⊎_elim}
 use Rattle.std.proofs.lemmas.List.FromFn.{length-map-range_with_len, get_or-map-range_with_len}
 use Rattle.std.proofs.lemmas.Bool.{cases_lt}
 use Rattle.std.proofs.lemmas.List.{length-replicate, get_or-replicate, get_or_past}
-use Rattle.std.proofs.lemmas.List.Elements.{All-nil, All-replicate}
+use Rattle.std.proofs.lemmas.List.Elements.{All-nil, All-head, All-tail, All-append, All-replicate}
 use Rattle.hg_defs.specs.declared.objective.Objective.{Objective}
 use Rattle.hg_defs.specs.declared.objective.TheConstants.{FREE}
 use Rattle.hg_defs.specs.Hypergraph.{Net, Hyper, net_count, net_of, IsNet, IsFixedWithin}
@@ -25,6 +25,13 @@ module _ (x : Hyper) (ss ns ps : List ℕ) (is : nets_at ss ns ps ≡ x.nets) wh
   net_of-flat e h =
       ap (λ (nets : List Net). get_or nets e (record { weight = 0; pins = [] })) (sym is)
       ∙ get_or-nets_at ss ns ps e (record { weight = 0; pins = [] }) (below_nets e h)
+
+-- all pins are below a bound where those of each net are
+pub all_below : (n : ℕ) (nets : List Net) → All (IsNet n) nets → All (λ v. v < n) (flat_map (λ (e : Net). e.pins) nets)
+all_below n [] all = All-nil (λ v. v < n)
+all_below n (e ∷ nets) all =
+    All-append (λ v. v < n) e.pins (flat_map (λ (e : Net). e.pins) nets) (All-head (IsNet n) e nets all).pins
+    (all_below n nets (All-tail (IsNet n) e nets all))
 
 -- the hypergraph of n vertices of weight 1 without nets
 abbrev pub bare : Objective → ℕ → Hyper

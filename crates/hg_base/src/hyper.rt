@@ -2,6 +2,7 @@
 
 ghost use Rattle.std.specs.Prelude.{◌≡◌, ℕ, ◌+◌, ◌*◌, ◌^◌, ◌<◌, ◌≤◌, [], ◌∷◌, ◌++◌, length, replicate};
 ghost use Rattle.std.specs.Prelude.{All, IsTrue, ◌↔◌, IfOk, OnOk, OnErr, slice_set};
+ghost use Rattle.std.specs.List.{flat_map};
 ghost use Rattle.std.specs.List.Sorted.{IsStrictlyIncreasing};
 ghost use Rattle.std.specs.Ordering.{nat_cmp};
 ghost use Rattle.hg_defs.specs.Sorting.{set_of};
@@ -191,6 +192,15 @@ impl FlatHyper {
         let start = self.starts[e as usize] as usize;
         let end = self.starts[e as usize + 1] as usize;
         &self.pins[start..end]
+    }
+
+    /// The pins of all nets: those of each net behind those of the nets before it.
+    pub fn all_pins(&self) -> &[u32]
+        ensures value { result.now ≡ flat_map (λ e. e.pins) self.now.nets }
+        ensures count { length result.now ≡ pin_count self.now }
+        ensures below { All (λ v. v < vertex_count self.now) result.now }
+    {
+        self.pins.as_slice()
     }
 
     /// The weight of a net.

@@ -33,6 +33,10 @@ fn readers(rt: HostRuntime) -> Result<(), Fail> {
     let mut h = four_nets(rt.alloc())?;
     assert_eq!(rt; (h.vertices(), h.nets(), h.total_weight()), (7, 4, 7));
     assert_eq!(rt; h.pins(1), [0, 4, 5, 6].as_slice());
+    assert_eq!(rt;
+        h.all_pins(),
+        [0, 1, 0, 4, 5, 6, 3, 4, 5, 1, 2, 3].as_slice()
+    );
     assert_eq!(rt; h.net_weight(2), 8);
     h.set_vertex_weight(3, 0);
     assert_eq!(rt; (h.vertex_weight(3), h.total_weight()), (0, 6));
