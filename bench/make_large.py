@@ -4,6 +4,7 @@
 make_large.py copies COUNT FILE SEED: so many copies of an unweighted or weighted hypergraph beside each other, without
 its weights. In one net of fifty a drawn pin goes to the same vertex of a drawn copy.
 make_large.py grid SIDE: a cube of SIDE times SIDE times SIDE vertices, each with a net to its next one in each direction.
+make_large.py stars FILE: of a graph as METIS reads it, without weights, for each vertex a net of it and its neighbours.
 """
 import random
 import sys
@@ -43,12 +44,23 @@ def grid(side):
     return all_nets, side**3
 
 
+def stars(path):
+    """The nets of a vertex and its neighbours each, and how many vertices there are."""
+    with open(path, encoding="ascii") as file:
+        lines = [line for line in file.read().split("\n") if not line.startswith("%")]
+    vertices = int(lines[0].split()[0])
+    all_nets = [sorted({vertex, *map(int, lines[vertex].split())}) for vertex in range(1, vertices + 1)]
+    return all_nets, vertices
+
+
 def main():
     words = sys.argv[1:]
     if words[:1] == ["copies"] and len(words) == 4:
         nets, vertices = copies(int(words[1]), words[2], int(words[3]))
     elif words[:1] == ["grid"] and len(words) == 2:
         nets, vertices = grid(int(words[1]))
+    elif words[:1] == ["stars"] and len(words) == 2:
+        nets, vertices = stars(words[1])
     else:
         sys.exit(__doc__)
     print(len(nets), vertices)
