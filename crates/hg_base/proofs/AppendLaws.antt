@@ -18,7 +18,7 @@ use Rattle.hg_base.proofs.PushLaws.{slice_range-append, same_net}
 length-slice_range : (ps : List ℕ) (a b : ℕ) → b ≤ length ps → length (slice_range ps a b) ≡ b - a
 length-slice_range ps a b h = let l = length-drop a ps in length-take-le (b - a) (drop a ps) (omega arith)
 
--- the pins of all nets
+-- how many pins the first nets have, and which
 module _ (ss ns ps : List ℕ) (laid : IsLaidOut ss ns ps) where
   pins_below : (k : ℕ) → k ≤ length ns
       → total (λ (e : Net). length e.pins) (map (net_at ss ns ps) (range_with_len 0 k)) + slice_index ss 0 ≡ slice_index ss k
@@ -35,11 +35,11 @@ module _ (ss ns ps : List ℕ) (laid : IsLaidOut ss ns ps) where
       ap (λ (n : ℕ). total (λ (e : Net). length e.pins) (map f (range_with_len 0 n))) (let e : suc k ≡ k + 1 = omega arith in e) in
       omega arith
 
-  -- as many as their list has, where they begin at its front
+  -- where the nets have as many pins as the list, the first pins stand at its front
   pub first_start : total (λ (e : Net). length e.pins) (nets_at ss ns ps) ≡ length ps → slice_index ss 0 ≡ 0
   first_start all = let sum = pins_below (length ns) (omega arith) in let last = laid.last in omega arith
 
-  -- one behind the other they are their list
+  -- then the pins of all nets, one net behind the other, are the list
   module _ (first : slice_index ss 0 ≡ 0) where
     pins_joined : (k : ℕ) → k ≤ length ns → flat_map (λ (e : Net). e.pins) (map (net_at ss ns ps) (range_with_len 0 k)) ≡ take (slice_index ss k) ps
     pins_joined zero h = ap (λ (n : ℕ). take n ps) (sym first)
@@ -59,6 +59,7 @@ module _ (ss ns ps : List ℕ) (laid : IsLaidOut ss ns ps) where
     pub joined_pins : flat_map (λ (e : Net). e.pins) (nets_at ss ns ps) ≡ ps
     joined_pins = let last = laid.last in pins_joined (length ns) (omega arith) ∙ take_all (slice_index ss (length ns)) ps (omega arith)
 
+-- where the first pins stand at the front, all nets have as many pins as the list
 pub all_pins : (ss ns ps : List ℕ) → AreFlat ss ns ps → total (λ (e : Net). length e.pins) (nets_at ss ns ps) ≡ length ps
 all_pins ss ns ps flat =
     let sum = pins_below ss ns ps flat.laid_out (length ns) (omega arith) in
