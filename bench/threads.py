@@ -63,11 +63,16 @@ def least_run(library, command, runs, folder):
 
 def functions(places):
     """The functions around each place, with those that were put into others."""
-    names = {}
+    addresses = collections.defaultdict(list)
     for place in places:
         file, address = place.rsplit("+", 1)
-        asked = ["addr2line", "-f", "-C", "-i", "-e", file, hex(int(address, 16) - 1)]
-        names[place] = subprocess.run(asked, capture_output=True, text=True, check=True).stdout.splitlines()[::2]
+        addresses[file].append((place, hex(int(address, 16) - 1)))
+    names = {}
+    for file, some in addresses.items():
+        asked = ["addr2line", "-a", "-f", "-C", "-i", "-e", file, *(address for _, address in some)]
+        told = subprocess.run(asked, capture_output=True, text=True, check=True).stdout
+        for (place, _), text in zip(some, re.split(r"^0x[0-9a-f]+\n", told, flags=re.MULTILINE)[1:], strict=True):
+            names[place] = text.splitlines()[::2]
     return names
 
 
